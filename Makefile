@@ -1,0 +1,4 @@
+# make test: everything that the gate runs.
+.PHONY: test
+test:
+	.ci/run

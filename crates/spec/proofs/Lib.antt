@@ -1,0 +1,17 @@
+pub mod ListsLaws
+pub mod OrderLaws
+pub mod BytesLaws
+pub mod WriteLaws
+pub mod PiecesLaws
+pub mod HeaderLaws
+pub mod IndexLaws
+pub mod RunLaws
+pub mod BlocksLaws
+pub mod BestFitLaws
+pub mod CountLaws
+pub mod OnceLaws
+pub mod FreeListLaws
+pub mod CutLaws
+pub mod PlaceLaws
+pub mod PlanLaws
+pub mod ExamplesProof

@@ -1,0 +1,87 @@
+-- What a write leaves: the bytes written, and all others.
+use Prim.Native.Nat.{ℕ, zero, suc, _+_, _-_, _*_, _<_, _≤_}
+use mathlib.Core.Path.{_≡_, refl, sym, ap, _∙_}
+use mathlib.Core.List.{List, [], _∷_, _++_, append-assoc}
+use native.Mathlib.Omega.{arith}
+use native.Mathlib.Numerals.{add-one}
+use lib.ListN.{length, getD, take, drop, length-append, length-drop, take-append-drop}
+use lib.Seq.{take-at, drop-at, length-take-le, take-append-le, drop-append-le, drop-append-add, drop-cons, take-take, drop-drop}
+use Rattle.spec.specs.Bytes.{from-little-endian, write, bytes-at}
+
+-- bytes inside the first of two lists
+pub bytes-at-front : (j n : ℕ) (a y : List ℕ) → j + n ≤ length a → bytes-at j n (a ++ y) ≡ bytes-at j n a
+unfolding bytes-at
+bytes-at-front j n a y h =
+    let k : n ≤ length (drop j a) = simp length-drop (omega arith) in
+    let m : j ≤ length a = omega arith in
+    rw (drop-append-le j a y, take-append-le n (drop j a) y)
+
+-- bytes inside the second of two lists
+pub bytes-at-back : (j n : ℕ) (a y : List ℕ) → length a ≤ j → bytes-at j n (a ++ y) ≡ bytes-at (j - length a) n y
+unfolding bytes-at
+bytes-at-back j n a y h =
+    let e : j ≡ length a + (j - length a) = omega arith in
+    ap (λ (q : ℕ). take n (drop q (a ++ y))) e ∙ ap (λ (l : List ℕ). take n l) (drop-append-add a y (j - length a))
+
+-- bytes inside the first m bytes
+pub bytes-at-take : (j n m : ℕ) (l : List ℕ) → j + n ≤ m → bytes-at j n (take m l) ≡ bytes-at j n l
+unfolding bytes-at
+bytes-at-take zero n m l h = take-take n m l (omega arith)
+bytes-at-take (suc j) n zero l h = absurd (omega arith)
+bytes-at-take (suc j) n (suc m) [] h = refl
+bytes-at-take (suc j) n (suc m) (x ∷ l) h = bytes-at-take j n m l (omega arith)
+
+-- bytes inside m bytes from offset i on
+pub bytes-at-within : (i m j n : ℕ) (l : List ℕ) → j + n ≤ m → bytes-at j n (bytes-at i m l) ≡ bytes-at (i + j) n l
+unfolding bytes-at
+bytes-at-within i m j n l h = bytes-at-take j n m (drop i l) h ∙ ap (take n) (drop-drop j i l)
+
+module _ (i : ℕ) (x l : List ℕ) (fits : i + length x ≤ length l) where
+  front-length : length (take i l) ≡ i
+  front-length = length-take-le i l (omega arith)
+
+  head-length : length (take i l ++ x) ≡ i + length x
+  head-length = length-append (take i l) x ∙ ap (λ (q : ℕ). q + length x) front-length
+
+  -- the bytes written
+  pub bytes-at-write : bytes-at i (length x) (write i x l) ≡ x
+  unfolding bytes-at write
+  bytes-at-write = rw (append-assoc, drop-at (take i l) (x ++ drop (i + length x) l) i front-length, take-at x (drop (i + length x) l) (length x) refl)
+
+  -- all from the bytes written on
+  pub drop-write : drop i (write i x l) ≡ x ++ drop (i + length x) l
+  unfolding write
+  drop-write = rw (append-assoc, drop-at (take i l) (x ++ drop (i + length x) l) i front-length)
+
+  -- bytes in front of them
+  pub bytes-at-before : (j n : ℕ) → j + n ≤ i → bytes-at j n (write i x l) ≡ bytes-at j n l
+  unfolding write
+  bytes-at-before j n h =
+      ap (bytes-at j n) (append-assoc (take i l) x (drop (i + length x) l))
+      ∙ bytes-at-front j n (take i l) (x ++ drop (i + length x) l) (omega (arith, front-length))
+      ∙ sym (bytes-at-front j n (take i l) (drop i l) (omega (arith, front-length)))
+      ∙ ap (bytes-at j n) (take-append-drop i l)
+
+  -- bytes behind them
+  pub bytes-at-after : (j n : ℕ) → i + length x ≤ j → bytes-at j n (write i x l) ≡ bytes-at j n l
+  unfolding write
+  bytes-at-after j n h =
+      let k : ℕ = i + length x in
+      let whole : length (take k l) ≡ k = length-take-le k l fits in
+      bytes-at-back j n (take i l ++ x) (drop k l) (omega (arith, head-length))
+      ∙ ap (λ (q : ℕ). bytes-at (j - q) n (drop k l)) (head-length ∙ sym whole)
+      ∙ sym (bytes-at-back j n (take k l) (drop k l) (omega (arith, whole)))
+      ∙ ap (bytes-at j n) (take-append-drop k l)
+
+  -- a write inside the slice keeps its length
+  pub length-write : length (write i x l) ≡ length l
+  unfolding write
+  length-write = simp (length-append, length-drop, front-length) (omega arith)
+
+-- two bytes as code reads them
+pub from-two : (s : List ℕ) (i : ℕ) → i + 2 ≤ length s → from-little-endian (bytes-at i 2 s) ≡ getD s i 0 + 256 * getD s (i + 1) 0
+unfolding from-little-endian bytes-at
+from-two s i h =
+    let a : i < length s = omega arith in
+    let b : suc i < length s = omega arith in
+    rw (add-one, drop-cons s i 0, drop-cons s (suc i) 0) (omega arith)

@@ -1,0 +1,268 @@
+-- Cases of our own beside document 01's examples: rows with literal answers and literal bytes for every call and every refusal.
+use Prim.Native.Nat.{ℕ}
+use mathlib.Core.Bool.{Bool, true, false, _&&_}
+use mathlib.Core.List.{List, [], _∷_, _++_}
+use lib.ListN.{length, take, replicate}
+use lib.Dec.{T, eqb}
+use Rattle.spec.specs.Ascii.{ascii}
+use Rattle.spec.specs.Lists.{all}
+use Rattle.spec.specs.Bytes.{bytes-at, bytes-equal, zeros}
+use Rattle.spec.specs.Check.{image-in}
+use Rattle.spec.specs.Calls.{create, check, look-up, walk}
+use Rattle.spec.specs.Listing.{listing}
+use Rattle.spec.specs.Play.{t, Step, ins, ins-as, del, opt, store, State, play, step, step-with, empty, told-length, told-figures, told-text, told-entry, index-blocks-of, runs-at, free-at}
+
+-- What is seen of a slice with an image in it. An answer is told as numbers: a refusal's number alone, nothing for absent.
+pub data Probe : Type 0 where
+  -- the same after another program stored bytes from an offset on
+  patched : ℕ → List ℕ → Probe → Probe
+  -- check with this L: headwords, index blocks, data blocks, free blocks
+  checks : ℕ → List ℕ → Probe
+  -- headword and output slice; attribute and text length, and the output slice then
+  looks-up : List ℕ → List ℕ → List ℕ → List ℕ → Probe
+  -- above, headword and output slices; attribute and both lengths, and the output slices then
+  walks : Bool → List ℕ → List ℕ → List ℕ → List ℕ → List ℕ → List ℕ → Probe
+  -- with this working slice a step answers so, leaves the image slice as it was, and the working slice so
+  keeps : List ℕ → Step → List ℕ → List ℕ → Probe
+  -- with this working slice a step answers so, and leaves the working slice so
+  works : List ℕ → Step → List ℕ → List ℕ → Probe
+  -- the last answer, the index blocks, the runs' blocks and the free blocks
+  lays-out : List ℕ → ℕ → List ℕ → List ℕ → Probe
+  -- these bytes stand in the slice from this offset on
+  stores : ℕ → List ℕ → Probe
+  -- the program prints these bytes
+  prints : List ℕ → Probe
+
+-- whether a slice with an image is seen so
+unfoldable pub probe-holds : State → Probe → Bool
+probe-holds q (patched i x p) = probe-holds (step q (store i x)) p
+probe-holds q (checks L told) = bytes-equal (told-figures (check (q .slice) L)) told
+probe-holds q (looks-up h out told out′) =
+    let r = look-up (q .slice) (q .L) h out in
+    bytes-equal (told-text (r .answer)) told && bytes-equal (r .text) out′
+probe-holds q (walks above h out-h out-t told out-h′ out-t′) =
+    let r = walk (q .slice) (q .L) above h out-h out-t in
+    bytes-equal (told-entry (r .answer)) told && bytes-equal (r .headword) out-h′ && bytes-equal (r .text) out-t′
+probe-holds q (keeps work c told work′) =
+    let r = step-with work q c in
+    bytes-equal (r .told) told && bytes-equal (r .slice) (q .slice) && eqb (r .L) (q .L) && bytes-equal (r .work) work′
+probe-holds q (works work c told work′) =
+    let r = step-with work q c in
+    bytes-equal (r .told) told && bytes-equal (r .work) work′
+probe-holds q (lays-out told ib rs fs) =
+    let i = image-in (q .slice) (q .L) in
+    bytes-equal (q .told) told && eqb (index-blocks-of i) ib && bytes-equal (runs-at i) rs && bytes-equal (free-at i) fs
+probe-holds q (stores i x) = bytes-equal (bytes-at i (length x) (q .slice)) x
+probe-holds q (prints x) = bytes-equal (listing (take (q .L) (q .slice))) x
+
+-- a row of the table
+pub data Case : Type 0 where
+  -- create on a slice answers so, and leaves the slice so
+  creates : List ℕ → List ℕ → List ℕ → Case
+  -- what is seen of a slice of so many bytes after these steps from empty
+  after : ℕ → List Step → List Probe → Case
+
+-- whether a row holds
+unfoldable pub case-holds : Case → Bool
+case-holds (creates s told s′) = let r = create s in bytes-equal (told-length (r .answer)) told && bytes-equal (r .image) s′
+case-holds (after n cs ps) = let q = play (empty n) cs in all (probe-holds q) ps
+
+-- n bytes 0xAA: slices that were not cleared
+unfoldable pub lent : ℕ → List ℕ
+lent n = replicate n 0xAA
+
+-- P3's calls, the second entry with the attribute 0xE5
+unfoldable pub two-entries : List Step
+two-entries = ins (ascii "ABC") (ascii "one") ∷ ins-as (ascii "ABDEF") 0xE5 (ascii "two") ∷ []
+
+-- P7's calls up to the deletion
+unfoldable pub two-free : List Step
+two-free = ins (ascii "a") (t 500) ∷ ins (ascii "b") (t 509) ∷ del (ascii "a") ∷ []
+
+-- a letter x and 247 letters q, and a letter x and 247 letters r
+unfoldable pub xq : List ℕ
+xq = ascii "x" ++ replicate 247 113
+
+-- the second of them
+unfoldable pub xr : List ℕ
+xr = ascii "x" ++ replicate 247 114
+
+-- runs m at 1 (2 blocks), p at 0 (1 block) and x at 3 (3 blocks), then x's run is cut in three and the index grows by 2: index order and number order of the moved runs differ
+unfoldable pub two-moved : List Step
+two-moved =
+    ins (ascii "p") (t 500)
+    ∷ ins (ascii "m") (t 900)
+    ∷ ins (ascii "x") (t 900)
+    ∷ ins (ascii "p") []
+    ∷ ins (ascii "m") (t 500)
+    ∷ ins (ascii "x") []
+    ∷ ins xq []
+    ∷ ins xr []
+    ∷ ins xq (t 1000)
+    ∷ []
+
+-- runs of 3 blocks, of which two are deleted: three free extents of 3 blocks once the last run is freed
+unfoldable pub equal-extents : List Step
+equal-extents = ins (ascii "a") (t 600) ∷ ins (ascii "b") (t 600) ∷ ins (ascii "c") (t 600) ∷ ins (ascii "d") (t 600) ∷ ins (ascii "e") (t 600) ∷ del (ascii "a") ∷ del (ascii "c") ∷ ins (ascii "e") (t 600) ∷ []
+
+-- check on P3's image, then rows 1 and 3 to 10 one fault at a time
+unfoldable pub check-probes : List Probe
+check-probes =
+    checks 768 (2 ∷ 1 ∷ 1 ∷ 0 ∷ [])
+    -- a version only for reading, a shorter front than the longest, and anything after the end marks
+    ∷ patched 140 (16 ∷ []) (checks 768 (2 ∷ 1 ∷ 1 ∷ 0 ∷ []))
+    ∷ patched 525 (10 ∷ 0 ∷ 0 ∷ ascii "ABDEF" ++ 0 ∷ 128 ∷ ascii "two" ++ 0 ∷ 0 ∷ 9 ∷ 9 ∷ []) (checks 768 (2 ∷ 1 ∷ 1 ∷ 0 ∷ []))
+    -- 1: L under 256, no multiple of 256, over the slice
+    ∷ checks 0 (1 ∷ [])
+    ∷ checks 767 (1 ∷ [])
+    ∷ checks 1_024 (1 ∷ [])
+    -- 3: high version byte, block_size, header_size, attrlen
+    ∷ patched 141 (5 ∷ []) (checks 768 (3 ∷ []))
+    ∷ patched 147 (2 ∷ []) (checks 768 (3 ∷ []))
+    ∷ patched 150 (1 ∷ []) (checks 768 (3 ∷ []))
+    ∷ patched 166 (0 ∷ []) (checks 768 (3 ∷ []))
+    -- 4: dicorder, dictype, os, extheader, index_blkbit
+    ∷ patched 164 (1 ∷ []) (checks 768 (4 ∷ []))
+    ∷ patched 165 (1 ∷ []) (checks 768 (4 ∷ []))
+    ∷ patched 171 (1 ∷ []) (checks 768 (4 ∷ []))
+    ∷ patched 185 (1 ∷ []) (checks 768 (4 ∷ []))
+    ∷ patched 198 (1 ∷ []) (checks 768 (4 ∷ []))
+    -- 5: index_block over 32,767, past L
+    ∷ patched 148 (0 ∷ 0x80 ∷ []) (checks 768 (5 ∷ []))
+    ∷ patched 148 (3 ∷ []) (checks 768 (5 ∷ []))
+    -- 6: an element's headword empty, a byte not zero after the elements, more elements than there are, elements without an index
+    ∷ patched 258 (0 ∷ []) (checks 768 (6 ∷ []))
+    ∷ patched 511 (1 ∷ []) (checks 768 (6 ∷ []))
+    ∷ patched 190 (2 ∷ []) (checks 768 (6 ∷ []))
+    ∷ patched 148 (0 ∷ []) (checks 768 (6 ∷ []))
+    -- 7: number not below D, size 0, top bit set, past the data area
+    ∷ patched 256 (1 ∷ []) (checks 768 (7 ∷ []))
+    ∷ patched 512 (0 ∷ []) (checks 768 (7 ∷ []))
+    ∷ patched 513 (0x80 ∷ []) (checks 768 (7 ∷ []))
+    ∷ patched 512 (2 ∷ []) (checks 768 (7 ∷ []))
+    -- 8: no entry, first headword not its element's, attribute with 0x10, attribute without 0x80, front over the previous length, headwords not ascending, field past the run
+    ∷ patched 514 (0 ∷ []) (checks 768 (8 ∷ []))
+    ∷ patched 519 (ascii "D") (checks 768 (8 ∷ []))
+    ∷ patched 521 (0x90 ∷ []) (checks 768 (8 ∷ []))
+    ∷ patched 521 (0x60 ∷ []) (checks 768 (8 ∷ []))
+    ∷ patched 527 (4 ∷ []) (checks 768 (8 ∷ []))
+    ∷ patched 528 (ascii "A") (checks 768 (8 ∷ []))
+    ∷ patched 526 (1 ∷ []) (checks 768 (8 ∷ []))
+    -- 9: a run's block on the free list, a number off the area
+    ∷ patched 186 (0 ∷ 0 ∷ 0 ∷ 0 ∷ []) (checks 768 (9 ∷ []))
+    ∷ patched 186 (1 ∷ 0 ∷ 0 ∷ 0 ∷ []) (checks 768 (9 ∷ []))
+    -- 10: nword, nblock2
+    ∷ patched 160 (3 ∷ []) (checks 768 (10 ∷ []))
+    ∷ patched 194 (2 ∷ []) (checks 768 (10 ∷ []))
+    ∷ []
+
+-- look up on P3's image: found, absent, 12, 14
+unfoldable pub look-up-probes : List Probe
+look-up-probes =
+    looks-up (ascii "ABC") (lent 5) (128 ∷ 3 ∷ []) (ascii "one" ++ lent 2)
+    ∷ looks-up (ascii "ABDEF") (lent 3) (0xE5 ∷ 3 ∷ []) (ascii "two")
+    ∷ looks-up (ascii "ABD") (lent 3) [] (lent 3)
+    ∷ looks-up (ascii "ABDEFG") [] [] []
+    ∷ looks-up (ascii "ABC") (lent 2) (14 ∷ []) (lent 2)
+    ∷ looks-up [] (lent 3) (12 ∷ []) (lent 3)
+    ∷ looks-up (t 249) (lent 3) (12 ∷ []) (lent 3)
+    ∷ looks-up (65 ∷ 0 ∷ []) (lent 3) (12 ∷ []) (lent 3)
+    ∷ []
+
+-- walk on P3's image: not below, above, from the start, past the last, 12, 14
+unfoldable pub walk-probes : List Probe
+walk-probes =
+    walks false (ascii "ABC") (lent 4) (lent 4) (128 ∷ 3 ∷ 3 ∷ []) (ascii "ABC" ++ lent 1) (ascii "one" ++ lent 1)
+    ∷ walks true (ascii "ABC") (lent 5) (lent 3) (0xE5 ∷ 5 ∷ 3 ∷ []) (ascii "ABDEF") (ascii "two")
+    ∷ walks false (ascii "ABD") (lent 5) (lent 3) (0xE5 ∷ 5 ∷ 3 ∷ []) (ascii "ABDEF") (ascii "two")
+    ∷ walks false [] (lent 5) (lent 3) (128 ∷ 3 ∷ 3 ∷ []) (ascii "ABC" ++ lent 2) (ascii "one")
+    ∷ walks true [] (lent 5) (lent 3) (128 ∷ 3 ∷ 3 ∷ []) (ascii "ABC" ++ lent 2) (ascii "one")
+    ∷ walks true (ascii "ABDEF") (lent 5) (lent 3) [] (lent 5) (lent 3)
+    ∷ walks false (ascii "B") [] [] [] [] []
+    ∷ walks false (ascii "ABC") (lent 2) (lent 3) (14 ∷ []) (lent 2) (lent 3)
+    ∷ walks false (ascii "ABC") (lent 3) (lent 2) (14 ∷ []) (lent 3) (lent 2)
+    ∷ walks false (t 249) (lent 3) (lent 3) (12 ∷ []) (lent 3) (lent 3)
+    ∷ walks false (65 ∷ 0 ∷ []) (lent 3) (lent 3) (12 ∷ []) (lent 3) (lent 3)
+    ∷ []
+
+-- changing calls refused on P3's image, and what they leave: 2 keeps the working slice, 3 to 15 zero it, and so does an absent deletion
+unfoldable pub refusal-probes : List Probe
+refusal-probes =
+    patched 141 (5 ∷ []) (keeps (lent 767) (ins (ascii "A") []) (2 ∷ []) (lent 767))
+    ∷ patched 141 (5 ∷ []) (keeps (lent 768) (ins (ascii "A") []) (3 ∷ []) (zeros 768))
+    ∷ patched 140 (16 ∷ []) (keeps (lent 770) (ins [] []) (11 ∷ []) (zeros 770))
+    ∷ patched 140 (16 ∷ []) (keeps (lent 768) (del (ascii "A")) (11 ∷ []) (zeros 768))
+    ∷ patched 140 (16 ∷ []) (keeps (lent 768) opt (11 ∷ []) (zeros 768))
+    ∷ keeps (lent 768) (ins-as [] 0x90 []) (12 ∷ []) (zeros 768)
+    ∷ keeps (lent 768) (del (t 249)) (12 ∷ []) (zeros 768)
+    ∷ keeps (lent 768) (ins-as (ascii "A") 0x90 []) (13 ∷ []) (zeros 768)
+    ∷ keeps (lent 768) (ins-as (ascii "A") 0x60 []) (13 ∷ []) (zeros 768)
+    ∷ keeps (lent 768) (ins (ascii "A") (65 ∷ 0 ∷ [])) (13 ∷ []) (zeros 768)
+    ∷ keeps (lent 768) (ins (ascii "A") (t 300)) (15 ∷ []) (zeros 768)
+    ∷ keeps (lent 768) (del (ascii "A")) [] (zeros 768)
+    ∷ works (lent 770) (del (ascii "ABC")) (768 ∷ []) (zeros 770)
+    ∷ patched 140 (15 ∷ []) (works (lent 768) opt (768 ∷ []) (zeros 768))
+    ∷ []
+
+-- the bytes of P3's image: the fields that a change writes, the index, the run; and what the program prints of it with a fault
+unfoldable pub bytes-probes : List Probe
+bytes-probes =
+    stores 148 (1 ∷ 0 ∷ [])
+    ∷ stores 160 (2 ∷ 0 ∷ 0 ∷ 0 ∷ [])
+    ∷ stores 186 (0xFF ∷ 0xFF ∷ 0xFF ∷ 0xFF ∷ 1 ∷ 0 ∷ 0 ∷ 0 ∷ 1 ∷ 0 ∷ 0 ∷ 0 ∷ [])
+    ∷ stores 208 (2 ∷ 0 ∷ 0 ∷ 0 ∷ [])
+    ∷ stores 256 (0 ∷ 0 ∷ ascii "ABC" ++ zeros 251)
+    ∷ stores 512 (1 ∷ 0 ∷ 8 ∷ 0 ∷ 0 ∷ ascii "ABC" ++ 0 ∷ 128 ∷ ascii "one" ++ 8 ∷ 0 ∷ 2 ∷ ascii "DEF" ++ 0 ∷ 0xE5 ∷ ascii "two" ++ zeros 232)
+    ∷ patched 514 (0 ∷ []) (prints (ascii "refused   8\n"))
+    ∷ patched 194 (2 ∷ []) (prints (ascii "refused  10\n"))
+    ∷ []
+
+-- the first headword deleted: the next one in the index, with no front. "the update count goes from 4,294,967,295 to 0"
+unfoldable pub deleted-probes : List Probe
+deleted-probes =
+    stores 256 (0 ∷ 0 ∷ ascii "ABDEF" ++ zeros 249)
+    ∷ stores 512 (1 ∷ 0 ∷ 10 ∷ 0 ∷ 0 ∷ ascii "ABDEF" ++ 0 ∷ 0xE5 ∷ ascii "two" ++ zeros 241)
+    ∷ stores 207 (zeros 6)
+    ∷ []
+
+-- P7's deletion: a free block keeps all but its first six bytes; 9 for a cycle, a block in neither, a free block that does not start with zeros
+unfoldable pub free-probes : List Probe
+free-probes =
+    checks 1_792 (1 ∷ 1 ∷ 5 ∷ 2 ∷ [])
+    ∷ stores 512 (0 ∷ 0 ∷ 1 ∷ 0 ∷ 0 ∷ 0 ∷ 0 ∷ 128 ∷ 97 ∷ [])
+    ∷ stores 768 (0 ∷ 0 ∷ 0xFF ∷ 0xFF ∷ 0xFF ∷ 0xFF ∷ 97 ∷ [])
+    ∷ patched 770 (0 ∷ 0 ∷ 0 ∷ 0 ∷ []) (checks 1_792 (9 ∷ []))
+    ∷ patched 186 (1 ∷ []) (checks 1_792 (9 ∷ []))
+    ∷ patched 769 (1 ∷ []) (checks 1_792 (9 ∷ []))
+    ∷ []
+
+-- all cases
+unfoldable pub cases : List Case
+cases =
+    -- a slice too small, and one of 258 bytes: what stands past 256 is kept
+    creates (lent 255) (1 ∷ []) (lent 255)
+    ∷ creates (lent 258) (256 ∷ []) (zeros 141 ++ (4 ∷ 248 ∷ 0 ∷ 0xB8 ∷ 0x0B ∷ 0 ∷ 1 ∷ 0 ∷ 0 ∷ 0 ∷ 1 ∷ 0 ∷ 0 ∷ 0xFF ∷ 0xFF ∷ []) ++ zeros 10 ++ (1 ∷ []) ++ zeros 19 ++ (0xFF ∷ 0xFF ∷ 0xFF ∷ 0xFF ∷ []) ++ zeros 66 ++ lent 2)
+    ∷ after 256 [] (checks 256 (0 ∷ 0 ∷ 0 ∷ 0 ∷ []) ∷ looks-up (ascii "ABC") (lent 3) [] (lent 3) ∷ prints (ascii "     0     0     0     0\n") ∷ [])
+    ∷ after 768 two-entries (check-probes ++ look-up-probes ++ walk-probes ++ refusal-probes ++ bytes-probes)
+    ∷ after 768 (two-entries ++ store 208 (0xFF ∷ 0xFF ∷ 0xFF ∷ 0xFF ∷ []) ∷ del (ascii "ABC") ∷ []) deleted-probes
+    -- unsigned byte order
+    ∷ after 768 (ins (0x83 ∷ 0x41 ∷ []) (ascii "ka") ∷ ins (ascii "Z") (ascii "zed") ∷ []) (walks false [] (lent 2) (lent 3) (128 ∷ 1 ∷ 3 ∷ []) (ascii "Z" ++ lent 1) (ascii "zed") ∷ [])
+    -- the last entry deleted: its block is free, the index keeps its block; optimise leaves the header
+    ∷ after 768 (ins (ascii "ABC") (ascii "one") ∷ del (ascii "ABC") ∷ []) (lays-out (768 ∷ []) 1 [] (0 ∷ []) ∷ works (lent 768) opt (256 ∷ []) (zeros 768) ∷ [])
+    ∷ after 1_792 two-free free-probes
+    -- optimise: zeros from the new L, 1,280, to the old, 1,792; what stands past the old is kept
+    ∷ after 1_794 (two-free ++ store 1_792 (7 ∷ 8 ∷ []) ∷ opt ∷ []) (stores 1_278 (0 ∷ 0 ∷ zeros 512 ++ 7 ∷ 8 ∷ []) ∷ [])
+    -- the lowest of three free extents of one length
+    ∷ after 4_352 equal-extents (lays-out (4_352 ∷ []) 1 (3 ∷ 9 ∷ 0 ∷ []) (6 ∷ 7 ∷ 8 ∷ 12 ∷ 13 ∷ 14 ∷ []) ∷ [])
+    -- a growth by two with two moved runs: the runs, empty_block2 to nblock2, and a link of the free list
+    ∷ after 4_352 two-moved (lays-out (4_352 ∷ []) 3 (1 ∷ 0 ∷ 3 ∷ 8 ∷ 4 ∷ []) (6 ∷ 7 ∷ []) ∷ stores 186 (6 ∷ 0 ∷ 0 ∷ 0 ∷ 5 ∷ 0 ∷ 0 ∷ 0 ∷ 11 ∷ 0 ∷ 0 ∷ 0 ∷ []) ∷ stores 2_560 (0 ∷ 0 ∷ 7 ∷ 0 ∷ 0 ∷ 0 ∷ []) ∷ [])
+    ∷ []
+
+-- THE THEOREM: every row holds
+unfoldable pub CasesHold : Type 0
+CasesHold = T (all case-holds cases)
+
+-- names all definitions of this module: who unfolds it unfolds them
+unfoldable pub open-cases : Unit {0}
+unfolding probe-holds case-holds lent two-entries two-free xq xr two-moved equal-extents check-probes look-up-probes walk-probes refusal-probes bytes-probes deleted-probes free-probes cases CasesHold
+open-cases = tt
