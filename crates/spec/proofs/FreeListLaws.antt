@@ -13,7 +13,7 @@ use Rattle.spec.specs.Outcome.{ok}
 use Rattle.spec.specs.Lists.{all, filter, range-from}
 use Rattle.spec.specs.Bytes.{from-little-endian, to-little-endian, write, bytes-at, is-zero, all-zero}
 use Rattle.spec.specs.Run.{Run}
-use Rattle.spec.specs.Blocks.{is-free, free-blocks, list-end, list-start, link-bytes, free-list-written, free-list-from}
+use Rattle.spec.specs.Blocks.{is-free, free-blocks, free-list-end, free-list-start, link-bytes, free-list-written, free-list-from}
 use Rattle.spec.proofs.ListsLaws.{All, all-front, all-back, filter-all, filter-few, length-range}
 use Rattle.spec.proofs.BytesLaws.{length-to-little-endian, from-to-little-endian}
 use Rattle.spec.proofs.WriteLaws.{bytes-at-within}
@@ -61,13 +61,13 @@ run-piece r = record { offset = 256 * r .block; bytes = r .bytes }
 -- a free list's links in its blocks
 abbrev pub link-pieces : List ℕ → List Piece
 link-pieces [] = []
-link-pieces (b ∷ bs) = record { offset = 256 * b; bytes = link-bytes (list-start bs) } ∷ link-pieces bs
+link-pieces (b ∷ bs) = record { offset = 256 * b; bytes = link-bytes (free-list-start bs) } ∷ link-pieces bs
 
 -- a free list written is its links written
 pub free-list-pieces : (bs area : List ℕ) → free-list-written bs area ≡ write-all (link-pieces bs) area
 unfolding free-list-written write-all
 free-list-pieces [] area = refl
-free-list-pieces (b ∷ bs) area = ap (write (256 * b) (link-bytes (list-start bs))) (free-list-pieces bs area)
+free-list-pieces (b ∷ bs) area = ap (write (256 * b) (link-bytes (free-list-start bs))) (free-list-pieces bs area)
 
 -- a link has six bytes
 pub length-link : (n : ℕ) → length (link-bytes n) ≡ 6
@@ -93,14 +93,14 @@ module _ (D L : ℕ) (fits : 256 * D ≤ L) where
   pub links-disjoint : (i : ℕ) (bs : List ℕ) → Ascending i D bs → Disjoint L (link-pieces bs)
   links-disjoint i [] up = tt
   links-disjoint i (b ∷ bs) (p, q, up) =
-      let e : length (link-bytes (list-start bs)) ≡ 6 = length-link (list-start bs) in
-      (omega arith, links-clear b (suc b) (link-bytes (list-start bs)) bs (omega arith) e up, links-disjoint (suc b) bs up)
+      let e : length (link-bytes (free-list-start bs)) ≡ 6 = length-link (free-list-start bs) in
+      (omega arith, links-clear b (suc b) (link-bytes (free-list-start bs)) bs (omega arith) e up, links-disjoint (suc b) bs up)
 
   -- links in free blocks are clear of the runs
   links-free : (rs : List Run) (bs : List ℕ) → Laid D rs → All (λ b. is-free rs b ≡ true) bs → All (λ p. All (ClearOf p) (map run-piece rs)) (link-pieces bs)
   links-free rs [] l f = tt
   links-free rs (b ∷ bs) l (e, f) =
-      (apart-clear D b 1 (256 * b) (length (link-bytes (list-start bs))) rs l (free-one-apart b rs e) (omega arith) (omega (arith, length-link (list-start bs))), links-free rs bs l f)
+      (apart-clear D b 1 (256 * b) (length (link-bytes (free-list-start bs))) rs l (free-one-apart b rs e) (omega arith) (omega (arith, length-link (free-list-start bs))), links-free rs bs l f)
 
   -- the free list's links and the runs are written apart
   pub area-disjoint : (i : ℕ) (rs : List Run) (bs : List ℕ) → Laid D rs → Ascending i D bs → All (λ b. is-free rs b ≡ true) bs → Disjoint L (link-pieces bs ++ map run-piece rs)
@@ -125,8 +125,8 @@ stands-at D s [] l t = tt
 stands-at D s (r ∷ rs) (e, h, a, l) (t, ts) = (rw e at t, stands-at D s rs l ts)
 
 -- a free list's first number fits four bytes
-pub start-small : (D : ℕ) (bs : List ℕ) → D ≤ list-end → All (λ b. b < D) bs → list-start bs < 256 ^ 4
-unfolding list-start list-end
+pub start-small : (D : ℕ) (bs : List ℕ) → D ≤ free-list-end → All (λ b. b < D) bs → free-list-start bs < 256 ^ 4
+unfolding free-list-start free-list-end
 start-small D [] h up = lit< tt
 start-small D (b ∷ bs) h (k, up) = let small : b < 4_294_967_295 = omega arith in omega arith
 
@@ -143,15 +143,15 @@ link-read s b n h t = (
     piece j k h = sym (bytes-at-within (256 * b) (length (link-bytes n)) j k s (omega (arith, length-link n))) ∙ ap (bytes-at j k) t
 
 -- a free list whose links stand is read back, in any order
-pub free-list-back : (D : ℕ) (s : List ℕ) (n : ℕ) (bs : List ℕ) → D ≤ list-end → length bs ≤ n → All (λ b. b < D) bs → Standing s (link-pieces bs) → free-list-from n D (list-start bs) s ≡ ok bs
-unfolding free-list-from list-start list-end all-zero all is-zero
+pub free-list-back : (D : ℕ) (s : List ℕ) (n : ℕ) (bs : List ℕ) → D ≤ free-list-end → length bs ≤ n → All (λ b. b < D) bs → Standing s (link-pieces bs) → free-list-from n D (free-list-start bs) s ≡ ok bs
+unfolding free-list-from free-list-start free-list-end all-zero all is-zero
 free-list-back D s zero [] few h up t = refl
 free-list-back D s (suc n) [] few h up t = refl
 free-list-back D s zero (b ∷ bs) few h up t = absurd (omega arith)
 free-list-back D s (suc n) (b ∷ bs) few h (bD, up) (t, ts) =
-    let e : b ≢ list-end = omega arith in
-    let r : (bytes-at (256 * b) 2 s ≡ 0 ∷ 0 ∷ []) × (from-little-endian (bytes-at (256 * b + 2) 4 s) ≡ list-start bs) = link-read s b (list-start bs) (start-small D bs few up) t in
-    rw (ne-eqb b list-end e, free-list-from, lt-ltb b D bD, r .0, r .1, free-list-back D s n bs few (omega arith) up ts)
+    let e : b ≢ free-list-end = omega arith in
+    let r : (bytes-at (256 * b) 2 s ≡ 0 ∷ 0 ∷ []) × (from-little-endian (bytes-at (256 * b + 2) 4 s) ≡ free-list-start bs) = link-read s b (free-list-start bs) (start-small D bs few up) t in
+    rw (ne-eqb b free-list-end e, free-list-from, lt-ltb b D bD, r .0, r .1, free-list-back D s n bs few (omega arith) up ts)
 
 -- runs that are written, then the free list
 pub data-written : (D : ℕ) (rs : List Run) (area : List ℕ) → free-list-written (free-blocks rs D) (write-all (map run-piece rs) area) ≡ write-all (data-pieces D rs) area
@@ -173,7 +173,7 @@ module _ (D : ℕ) (rs : List Run) (area : List ℕ) (fits : 256 * D ≤ length 
   data-runs = stands-at D _ rs laid (all-back _ (link-pieces (free-blocks rs D)) (map run-piece rs) data-standing)
 
   -- the free list read in the D blocks is the free blocks
-  pub data-free-list : D ≤ list-end → free-list-from D D (list-start (free-blocks rs D)) (take (256 * D) (write-all (data-pieces D rs) area)) ≡ ok (free-blocks rs D)
+  pub data-free-list : D ≤ free-list-end → free-list-from D D (free-list-start (free-blocks rs D)) (take (256 * D) (write-all (data-pieces D rs) area)) ≡ ok (free-blocks rs D)
   data-free-list few =
       free-list-back D _ D (free-blocks rs D) few (free-few rs D) (ascending-below 0 D (free-blocks rs D) (free-ascending rs D))
       (all-front _ (link-pieces (free-blocks rs D)) (map run-piece rs) data-standing)

@@ -11,6 +11,7 @@ pub mod BestFitLaws
 pub mod CountLaws
 pub mod OnceLaws
 pub mod FreeListLaws
+pub mod CreateLaws
 pub mod CutLaws
 pub mod PlaceLaws
 pub mod PlanLaws

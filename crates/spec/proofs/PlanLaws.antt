@@ -1,7 +1,7 @@
 -- A plan that is written is read back: for any lawful format an accepted image with the plan's frame and runs, and the free blocks as its free list.
-use Prim.Native.Nat.{ℕ, zero, suc, _+_, _-_, _*_, _/_, _^_, _<_, _≤_}
+use Prim.Native.Nat.{ℕ, zero, suc, _+_, _-_, _*_, _/_, _<_, _≤_}
 use mathlib.Core.Path.{_≡_, refl, sym, ap, _∙_}
-use mathlib.Core.Bool.{Bool, true, false}
+use mathlib.Core.Bool.{true}
 use mathlib.Core.List.{List, [], _∷_, _++_, map}
 use mathlib.Core.Option.{Option, none, some}
 use native.Mathlib.Omega.{arith}
@@ -11,11 +11,11 @@ use lib.Dec.{leb}
 use borrow.Author.Tests.{lt-ltb, le-ltb, ne-eqb, eq-eqb, leb-true}
 use Rattle.spec.specs.Outcome.{Outcome, refused, ok, _>>=_}
 use Rattle.spec.specs.Bytes.{from-little-endian, write, bytes-at}
-use Rattle.spec.specs.Header.{Field, Format, Counts, Lawful, get, high-version-of, tested-fields, written-fields, changed-header}
+use Rattle.spec.specs.Header.{Field, Format, Lawful, get, high-version-of, tested-fields, written-fields, changed-header}
 use Rattle.spec.specs.Entry.{Entry}
 use Rattle.spec.specs.Run.{Run, read-entry, entries-from}
 use Rattle.spec.specs.Index.{index-from, index-need, index-bytes}
-use Rattle.spec.specs.Blocks.{run-blocks, list-end, list-start, free-blocks, free-list-from, free-list-written, each-once}
+use Rattle.spec.specs.Blocks.{run-blocks, free-list-end, free-list-start, free-blocks, free-list-from, free-list-written}
 use Rattle.spec.specs.Check.{Frame, all-entries, data-start, kind-ok, options-ok, first-entry, ends-below, run-from, next-headword, runs-from, frame-from, index-area, data-area, counts-ok, image-by}
 use Rattle.spec.specs.Place.{Plan, element-of, runs-written, plan-counts, plan-written}
 use Rattle.spec.proofs.ListsLaws.{All, all-true, all-both}
@@ -101,15 +101,15 @@ laid-inside D [] l = tt
 laid-inside D (r ∷ rs) (n, h, a, l) = (h, laid-inside D rs l)
 
 -- An image in three parts: header, index and data blocks.
-module _ (F : Format) (H I B : List ℕ) (n D : ℕ) (hh : length H ≡ F .front-bytes) (hi : length I ≡ 256 * n) (hb : length B ≡ 256 * D) where
-  front-length : length (H ++ I) ≡ F .front-bytes + 256 * n
+module _ (F : Format) (H I B : List ℕ) (n D : ℕ) (hh : length H ≡ F .header-bytes) (hi : length I ≡ 256 * n) (hb : length B ≡ 256 * D) where
+  front-length : length (H ++ I) ≡ F .header-bytes + 256 * n
   front-length = length-append H I ∙ cc
 
-  whole-length : length (H ++ I ++ B) ≡ F .front-bytes + 256 * n + 256 * D
+  whole-length : length (H ++ I ++ B) ≡ F .header-bytes + 256 * n + 256 * D
   whole-length = length-append (H ++ I) B ∙ cc front-length
 
   -- header fields are read in the header
-  get-whole : (g : Field) → g .offset + g .bytes ≤ F .front-bytes → get g (H ++ I ++ B) ≡ get g H
+  get-whole : (g : Field) → g .offset + g .bytes ≤ F .header-bytes → get g (H ++ I ++ B) ≡ get g H
   unfolding get
   get-whole g h = ap from-little-endian (bytes-at-front (g .offset) (g .bytes) (H ++ I) B (omega (arith, front-length)) ∙ bytes-at-front (g .offset) (g .bytes) H I (omega arith))
 
@@ -119,7 +119,7 @@ module _ (F : Format) (H I B : List ℕ) (n D : ℕ) (hh : length H ≡ F .front
   index-there : index-area frame-of (H ++ I ++ B) ≡ I
   unfolding frame-of index-area bytes-at
   index-there =
-      bytes-at-front (F .front-bytes) (256 * n) (H ++ I) B (omega (arith, front-length))
+      bytes-at-front (F .header-bytes) (256 * n) (H ++ I) B (omega (arith, front-length))
       ∙ ap (λ (k : ℕ). bytes-at k (256 * n) (H ++ I)) (sym hh)
       ∙ bytes-at-back (length H) (256 * n) H I (omega arith)
       ∙ ap (λ (k : ℕ). take (256 * n) (drop k I)) nothing
@@ -131,18 +131,18 @@ module _ (F : Format) (H I B : List ℕ) (n D : ℕ) (hh : length H ≡ F .front
 
   data-there : data-area frame-of (H ++ I ++ B) ≡ B
   unfolding frame-of data-area data-start
-  data-there = drop-at (H ++ I) B (F .front-bytes + 256 * n) front-length
+  data-there = drop-at (H ++ I) B (F .header-bytes + 256 * n) front-length
 
   -- rows 3 to 5
   frame-back : n ≤ 32_767 → D ≤ F .most-blocks → kind-ok (F .layout) (H ++ I ++ B) ≡ true → options-ok (F .layout) (H ++ I ++ B) ≡ true → get (F .layout .index-block) (H ++ I ++ B) ≡ n
       → frame-from F (H ++ I ++ B) ≡ ok frame-of
   unfolding frame-of frame-from
   frame-back hn hd k o e =
-      let q : (F .front-bytes + 256 * n + 256 * D - (F .front-bytes + 256 * n)) / 256 ≡ D = omega arith in
-      rw (k, o, e, le-ltb 32_767 n hn, whole-length) (rw (le-ltb (F .front-bytes + 256 * n + 256 * D) (F .front-bytes + 256 * n) (omega arith), q, le-ltb (F .most-blocks) D hd))
+      let q : (F .header-bytes + 256 * n + 256 * D - (F .header-bytes + 256 * n)) / 256 ≡ D = omega arith in
+      rw (k, o, e, le-ltb 32_767 n hn, whole-length) (rw (le-ltb (F .header-bytes + 256 * n + 256 * D) (F .header-bytes + 256 * n) (omega arith), q, le-ltb (F .most-blocks) D hd))
 
 -- THE CENTRAL LAW: a plan that is written over a slice is an accepted image.
-module _ (F : Format) (law : Lawful F) (n D : ℕ) (rs : List Run) (s : List ℕ) (long : F .front-bytes + 256 * n + 256 * D ≤ length s) (hn : n ≤ 32_767) (hd : D ≤ F .most-blocks)
+module _ (F : Format) (law : Lawful F) (n D : ℕ) (rs : List Run) (s : List ℕ) (long : F .header-bytes + 256 * n + 256 * D ≤ length s) (hn : n ≤ 32_767) (hd : D ≤ F .most-blocks)
     (els : ElementsOk F [] (map element-of rs)) (need : index-need F (map element-of rs) ≤ n) (oks : RunsOk F rs) (laid : Laid D rs)
     (kind : kind-ok (F .layout) s ≡ true) (opts : options-ok (F .layout) s ≡ true) where
   -- the frame that is planned
@@ -156,8 +156,8 @@ module _ (F : Format) (law : Lawful F) (n D : ℕ) (rs : List Run) (s : List ℕ
   blocks-few : run-blocks rs ≤ D
   blocks-few = omega (arith, blocks-once D rs (free-blocks rs D) (once D rs laid) (laid-inside D rs laid) (ascending-below 0 D (free-blocks rs D) (free-ascending rs D)))
 
-  few-end : D ≤ list-end
-  unfolding list-end
+  few-end : D ≤ free-list-end
+  unfolding free-list-end
   few-end = omega (arith, law .counts-fit)
 
   fits-header : CountsFit (plan-counts plan)
@@ -171,18 +171,18 @@ module _ (F : Format) (law : Lawful F) (n D : ℕ) (rs : List Run) (s : List ℕ
         run-blocks-fit = omega (arith, blocks-few, law .counts-fit);
       }
 
-  front : length (take (F .front-bytes) s) ≡ F .front-bytes
-  front = length-take-le (F .front-bytes) s (omega arith)
+  front : length (take (F .header-bytes) s) ≡ F .header-bytes
+  front = length-take-le (F .header-bytes) s (omega arith)
 
-  enough : 256 ≤ length (take (F .front-bytes) s)
+  enough : 256 ≤ length (take (F .header-bytes) s)
   enough = omega (arith, front, law .header-inside)
 
   header : List ℕ
-  header = changed-header (F .layout) (plan-counts plan) (take (F .front-bytes) s)
+  header = changed-header (F .layout) (plan-counts plan) (take (F .header-bytes) s)
 
-  header-length : length header ≡ F .front-bytes
+  header-length : length header ≡ F .header-bytes
   unfolding header
-  header-length = length-changed (F .layout) (law .layout-lawful) (plan-counts plan) (take (F .front-bytes) s) fits-header enough ∙ front
+  header-length = length-changed (F .layout) (law .layout-lawful) (plan-counts plan) (take (F .header-bytes) s) fits-header enough ∙ front
 
   index : List ℕ
   index = index-bytes F n (map element-of rs)
@@ -192,7 +192,7 @@ module _ (F : Format) (law : Lawful F) (n D : ℕ) (rs : List Run) (s : List ℕ
   index-length = index-bytes-length F (map element-of rs) n need
 
   area : List ℕ
-  area = drop (F .front-bytes + 256 * n) s
+  area = drop (F .header-bytes + 256 * n) s
 
   fits : 256 * D ≤ length area
   unfolding area
@@ -209,13 +209,13 @@ module _ (F : Format) (law : Lawful F) (n D : ℕ) (rs : List Run) (s : List ℕ
   whole = header ++ index ++ blocks
 
   -- the image's bytes are header, index and data blocks
-  written-shape : take (F .front-bytes + 256 * n + 256 * D) (plan-written plan s) ≡ whole
+  written-shape : take (F .header-bytes + 256 * n + 256 * D) (plan-written plan s) ≡ whole
   unfolding whole header index blocks area plan-written data-area data-start
   written-shape =
-      let rest : List ℕ = write-all (data-pieces D rs) (drop (F .front-bytes + 256 * n) s) in
-      let same : free-list-written (free-blocks rs D) (runs-written rs (drop (F .front-bytes + 256 * n) s)) ≡ rest =
+      let rest : List ℕ = write-all (data-pieces D rs) (drop (F .header-bytes + 256 * n) s) in
+      let same : free-list-written (free-blocks rs D) (runs-written rs (drop (F .header-bytes + 256 * n) s)) ≡ rest =
       ap (free-list-written (free-blocks rs D)) (runs-pieces rs _) ∙ data-written D rs _ in
-      ap (λ (l : List ℕ). take (F .front-bytes + 256 * n + 256 * D) (header ++ index ++ l)) same
+      ap (λ (l : List ℕ). take (F .header-bytes + 256 * n + 256 * D) (header ++ index ++ l)) same
       ∙ ap (λ (k : ℕ). take (k + 256 * D) (header ++ index ++ rest)) (sym (front-length F header index blocks n D header-length index-length blocks-length))
       ∙ take-append-add (header ++ index) rest (256 * D)
 
@@ -225,9 +225,9 @@ module _ (F : Format) (law : Lawful F) (n D : ℕ) (rs : List Run) (s : List ℕ
   in-whole g h = get-whole F header index blocks n D header-length index-length blocks-length g (omega (arith, law .header-inside))
 
   -- a field inside the header, read in the slice
-  in-slice : (g : Field) → g .offset + g .bytes ≤ 256 → get g (take (F .front-bytes) s) ≡ get g s
+  in-slice : (g : Field) → g .offset + g .bytes ≤ 256 → get g (take (F .header-bytes) s) ≡ get g s
   unfolding get
-  in-slice g h = ap from-little-endian (bytes-at-take (g .offset) (g .bytes) (F .front-bytes) s (omega (arith, law .header-inside)))
+  in-slice g h = ap from-little-endian (bytes-at-take (g .offset) (g .bytes) (F .header-bytes) s (omega (arith, law .header-inside)))
 
   inside : All (λ g. g .offset + g .bytes ≤ 256) (tested-fields (F .layout))
   inside = all-true _ (λ g. leb (g .offset + g .bytes) 256) (λ g e. leb-true (g .offset + g .bytes) 256 e) _ (law .layout-lawful .tested-inside)
@@ -240,7 +240,7 @@ module _ (F : Format) (law : Lawful F) (n D : ℕ) (rs : List Run) (s : List ℕ
   unfolding header
   same-fields =
       all-both _ _ _ (λ g h k. in-whole g h ∙ k ∙ in-slice g h) (tested-fields (F .layout)) inside
-      (tested-kept (F .layout) (law .layout-lawful) (plan-counts plan) (take (F .front-bytes) s) fits-header enough)
+      (tested-kept (F .layout) (law .layout-lawful) (plan-counts plan) (take (F .header-bytes) s) fits-header enough)
 
   kind-whole : kind-ok (F .layout) whole ≡ true
   unfolding kind-ok high-version-of tested-fields
@@ -250,9 +250,9 @@ module _ (F : Format) (law : Lawful F) (n D : ℕ) (rs : List Run) (s : List ℕ
   unfolding options-ok tested-fields
   options-whole = let q = same-fields .1 .1 .1 .1 in rw (q .0, q .1 .0, q .1 .1 .0, q .1 .1 .1 .0, q .1 .1 .1 .1 .0) opts
 
-  holds : Changed (F .layout) (plan-counts plan) (take (F .front-bytes) s) header
+  holds : Changed (F .layout) (plan-counts plan) (take (F .header-bytes) s) header
   unfolding header
-  holds = changed (F .layout) (law .layout-lawful) (plan-counts plan) (take (F .front-bytes) s) fits-header enough
+  holds = changed (F .layout) (law .layout-lawful) (plan-counts plan) (take (F .header-bytes) s) fits-header enough
 
   holds-index : get (F .layout .index-block) whole ≡ n
   unfolding plan-counts written-fields
@@ -262,7 +262,7 @@ module _ (F : Format) (law : Lawful F) (n D : ℕ) (rs : List Run) (s : List ℕ
   unfolding plan-counts written-fields
   holds-entries = in-whole _ (written .1 .0) ∙ holds .nword
 
-  holds-free : get (F .layout .empty-block2) whole ≡ list-start (free-blocks rs D)
+  holds-free : get (F .layout .empty-block2) whole ≡ free-list-start (free-blocks rs D)
   unfolding plan-counts written-fields
   holds-free = in-whole _ (written .1 .1 .0) ∙ holds .empty-block2
 
@@ -298,11 +298,11 @@ module _ (F : Format) (law : Lawful F) (n D : ℕ) (rs : List Run) (s : List ℕ
   unfolding blocks
   runs-read = runs-back F D _ rs oks laid (data-runs D rs area fits laid)
 
-  free-list-reads : free-list-from D D (list-start (free-blocks rs D)) blocks ≡ ok (free-blocks rs D)
+  free-list-reads : free-list-from D D (free-list-start (free-blocks rs D)) blocks ≡ ok (free-blocks rs D)
   unfolding blocks
   free-list-reads = data-free-list D rs area fits laid few-end
 
   -- rows 3 to 10 read the plan again
-  pub plan-back : image-by F (take (F .front-bytes + 256 * n + 256 * D) (plan-written plan s)) ≡ ok (record { frame = frame; runs = rs; free-list = free-blocks rs D })
+  pub plan-back : image-by F (take (F .header-bytes + 256 * n + 256 * D) (plan-written plan s)) ≡ ok (record { frame = frame; runs = rs; free-list = free-blocks rs D })
   unfolding image-by
   plan-back = rw (written-shape, frame-whole, holds-elements, index-whole, index-reads, data-whole, runs-read, holds-free, free-list-reads, once D rs laid, counts-whole)

@@ -1,7 +1,7 @@
 -- The calls: each a function from all that is lent and given to the answer and every slice that it may write, as it is afterwards. Document 01, "The calls".
 use Prim.Native.Nat.{ℕ, _-_}
 use mathlib.Core.Bool.{Bool, true, false, not, _&&_, _||_}
-use mathlib.Core.List.{List, []}
+use mathlib.Core.List.{List}
 use mathlib.Core.Option.{Option, none, some}
 use lib.ListN.{length, take}
 use lib.Dec.{leb, ltb, eqb}
@@ -156,7 +156,7 @@ changed o image work = record { answer = o; image = image; work = work-after o w
 unfoldable pub plan-length : Plan → ℕ
 plan-length p = frame-length (p .frame)
 
--- "Insert adds or replaces.": rows 1 to 13 and 15 of an insertion, and its plan
+-- "Insert adds or replaces.": rows 1 to 13 and 15 of an insertion, and its plan. Row 13: "text or attribute outside its rule"
 unfoldable pub insert-plan : List ℕ → ℕ → List ℕ → List ℕ → ℕ → List ℕ → Outcome Plan
 insert-plan s L work h a t = do
   i ← changeable s L work

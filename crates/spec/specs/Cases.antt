@@ -7,15 +7,18 @@ use lib.Dec.{T, eqb}
 use Rattle.spec.specs.Ascii.{ascii}
 use Rattle.spec.specs.Lists.{all}
 use Rattle.spec.specs.Bytes.{bytes-at, bytes-equal, zeros}
+use Rattle.spec.specs.Header.{format4}
 use Rattle.spec.specs.Check.{image-in}
 use Rattle.spec.specs.Calls.{create, check, look-up, walk}
 use Rattle.spec.specs.Listing.{listing}
-use Rattle.spec.specs.Play.{t, Step, ins, ins-as, del, opt, store, State, play, step, step-with, empty, told-length, told-figures, told-text, told-entry, index-blocks-of, runs-at, free-at}
+use Rattle.spec.specs.Play.{t, refusal, lent, Step, ins, ins-as, del, opt, store, State, play, step, step-with, empty, told-length, told-figures, told-text, told-entry, index-blocks-of, runs-at, free-at}
 
 -- What is seen of a slice with an image in it. An answer is told as numbers: a refusal's number alone, nothing for absent.
 pub data Probe : Type 0 where
   -- the same after another program stored bytes from an offset on
   patched : ℕ → List ℕ → Probe → Probe
+  -- the same with another L
+  with-length : ℕ → Probe → Probe
   -- check with this L: headwords, index blocks, data blocks, free blocks
   checks : ℕ → List ℕ → Probe
   -- headword and output slice; attribute and text length, and the output slice then
@@ -36,6 +39,7 @@ pub data Probe : Type 0 where
 -- whether a slice with an image is seen so
 unfoldable pub probe-holds : State → Probe → Bool
 probe-holds q (patched i x p) = probe-holds (step q (store i x)) p
+probe-holds q (with-length n p) = probe-holds (record { slice = q .slice; L = n; told = q .told; work = q .work }) p
 probe-holds q (checks L told) = bytes-equal (told-figures (check (q .slice) L)) told
 probe-holds q (looks-up h out told out′) =
     let r = look-up (q .slice) (q .L) h out in
@@ -59,17 +63,19 @@ probe-holds q (prints x) = bytes-equal (listing (take (q .L) (q .slice))) x
 pub data Case : Type 0 where
   -- create on a slice answers so, and leaves the slice so
   creates : List ℕ → List ℕ → List ℕ → Case
+  -- the program prints these bytes for this input
+  lists : List ℕ → List ℕ → Case
+  -- the format's bytes of header and of a block number, most data blocks, and bytes of a part
+  formats : List ℕ → Case
   -- what is seen of a slice of so many bytes after these steps from empty
   after : ℕ → List Step → List Probe → Case
 
 -- whether a row holds
 unfoldable pub case-holds : Case → Bool
 case-holds (creates s told s′) = let r = create s in bytes-equal (told-length (r .answer)) told && bytes-equal (r .image) s′
+case-holds (lists s x) = bytes-equal (listing s) x
+case-holds (formats x) = bytes-equal (format4 .header-bytes ∷ format4 .number-width ∷ format4 .most-blocks ∷ format4 .run-limit ∷ []) x
 case-holds (after n cs ps) = let q = play (empty n) cs in all (probe-holds q) ps
-
--- n bytes 0xAA: slices that were not cleared
-unfoldable pub lent : ℕ → List ℕ
-lent n = replicate n 0xAA
 
 -- P3's calls, the second entry with the attribute 0xE5
 unfoldable pub two-entries : List Step
@@ -113,47 +119,97 @@ check-probes =
     ∷ patched 140 (16 ∷ []) (checks 768 (2 ∷ 1 ∷ 1 ∷ 0 ∷ []))
     ∷ patched 525 (10 ∷ 0 ∷ 0 ∷ ascii "ABDEF" ++ 0 ∷ 128 ∷ ascii "two" ++ 0 ∷ 0 ∷ 9 ∷ 9 ∷ []) (checks 768 (2 ∷ 1 ∷ 1 ∷ 0 ∷ []))
     -- 1: L under 256, no multiple of 256, over the slice
-    ∷ checks 0 (1 ∷ [])
-    ∷ checks 767 (1 ∷ [])
-    ∷ checks 1_024 (1 ∷ [])
+    ∷ checks 0 (refusal 1)
+    ∷ checks 767 (refusal 1)
+    ∷ checks 1_024 (refusal 1)
     -- 3: high version byte, block_size, header_size, attrlen
-    ∷ patched 141 (5 ∷ []) (checks 768 (3 ∷ []))
-    ∷ patched 147 (2 ∷ []) (checks 768 (3 ∷ []))
-    ∷ patched 150 (1 ∷ []) (checks 768 (3 ∷ []))
-    ∷ patched 166 (0 ∷ []) (checks 768 (3 ∷ []))
+    ∷ patched 141 (5 ∷ []) (checks 768 (refusal 3))
+    ∷ patched 147 (2 ∷ []) (checks 768 (refusal 3))
+    ∷ patched 150 (1 ∷ []) (checks 768 (refusal 3))
+    ∷ patched 166 (0 ∷ []) (checks 768 (refusal 3))
     -- 4: dicorder, dictype, os, extheader, index_blkbit
-    ∷ patched 164 (1 ∷ []) (checks 768 (4 ∷ []))
-    ∷ patched 165 (1 ∷ []) (checks 768 (4 ∷ []))
-    ∷ patched 171 (1 ∷ []) (checks 768 (4 ∷ []))
-    ∷ patched 185 (1 ∷ []) (checks 768 (4 ∷ []))
-    ∷ patched 198 (1 ∷ []) (checks 768 (4 ∷ []))
+    ∷ patched 164 (1 ∷ []) (checks 768 (refusal 4))
+    ∷ patched 165 (1 ∷ []) (checks 768 (refusal 4))
+    ∷ patched 171 (1 ∷ []) (checks 768 (refusal 4))
+    ∷ patched 185 (1 ∷ []) (checks 768 (refusal 4))
+    ∷ patched 198 (1 ∷ []) (checks 768 (refusal 4))
     -- 5: index_block over 32,767, past L
-    ∷ patched 148 (0 ∷ 0x80 ∷ []) (checks 768 (5 ∷ []))
-    ∷ patched 148 (3 ∷ []) (checks 768 (5 ∷ []))
+    ∷ patched 148 (0 ∷ 0x80 ∷ []) (checks 768 (refusal 5))
+    ∷ patched 148 (3 ∷ []) (checks 768 (refusal 5))
     -- 6: an element's headword empty, a byte not zero after the elements, more elements than there are, elements without an index
-    ∷ patched 258 (0 ∷ []) (checks 768 (6 ∷ []))
-    ∷ patched 511 (1 ∷ []) (checks 768 (6 ∷ []))
-    ∷ patched 190 (2 ∷ []) (checks 768 (6 ∷ []))
-    ∷ patched 148 (0 ∷ []) (checks 768 (6 ∷ []))
+    ∷ patched 258 (0 ∷ []) (checks 768 (refusal 6))
+    ∷ patched 511 (1 ∷ []) (checks 768 (refusal 6))
+    ∷ patched 190 (2 ∷ []) (checks 768 (refusal 6))
+    ∷ patched 148 (0 ∷ []) (checks 768 (refusal 6))
     -- 7: number not below D, size 0, top bit set, past the data area
-    ∷ patched 256 (1 ∷ []) (checks 768 (7 ∷ []))
-    ∷ patched 512 (0 ∷ []) (checks 768 (7 ∷ []))
-    ∷ patched 513 (0x80 ∷ []) (checks 768 (7 ∷ []))
-    ∷ patched 512 (2 ∷ []) (checks 768 (7 ∷ []))
+    ∷ patched 256 (1 ∷ []) (checks 768 (refusal 7))
+    ∷ patched 512 (0 ∷ []) (checks 768 (refusal 7))
+    ∷ patched 513 (0x80 ∷ []) (checks 768 (refusal 7))
+    ∷ patched 512 (2 ∷ []) (checks 768 (refusal 7))
     -- 8: no entry, first headword not its element's, attribute with 0x10, attribute without 0x80, front over the previous length, headwords not ascending, field past the run
-    ∷ patched 514 (0 ∷ []) (checks 768 (8 ∷ []))
-    ∷ patched 519 (ascii "D") (checks 768 (8 ∷ []))
-    ∷ patched 521 (0x90 ∷ []) (checks 768 (8 ∷ []))
-    ∷ patched 521 (0x60 ∷ []) (checks 768 (8 ∷ []))
-    ∷ patched 527 (4 ∷ []) (checks 768 (8 ∷ []))
-    ∷ patched 528 (ascii "A") (checks 768 (8 ∷ []))
-    ∷ patched 526 (1 ∷ []) (checks 768 (8 ∷ []))
+    ∷ patched 514 (0 ∷ []) (checks 768 (refusal 8))
+    ∷ patched 519 (ascii "D") (checks 768 (refusal 8))
+    ∷ patched 521 (0x90 ∷ []) (checks 768 (refusal 8))
+    ∷ patched 521 (0x60 ∷ []) (checks 768 (refusal 8))
+    ∷ patched 527 (4 ∷ []) (checks 768 (refusal 8))
+    ∷ patched 528 (ascii "A") (checks 768 (refusal 8))
+    ∷ patched 526 (1 ∷ []) (checks 768 (refusal 8))
+    -- 8: a field without a zero byte, without an attribute, and end marks that do not fit by two bytes and by one; with them the run is good
+    ∷ patched 520 (ascii "A") (checks 768 (refusal 8))
+    ∷ patched 514 (4 ∷ []) (checks 768 (refusal 8))
+    ∷ patched 514 (251 ∷ 0 ∷ 0 ∷ ascii "ABC" ++ 0 ∷ 128 ∷ t 246) (checks 768 (refusal 8))
+    ∷ patched 514 (250 ∷ 0 ∷ 0 ∷ ascii "ABC" ++ 0 ∷ 128 ∷ t 245) (checks 768 (refusal 8))
+    ∷ patched 160 (1 ∷ []) (patched 514 (249 ∷ 0 ∷ 0 ∷ ascii "ABC" ++ 0 ∷ 128 ∷ t 244) (checks 768 (1 ∷ 1 ∷ 1 ∷ 0 ∷ [])))
     -- 9: a run's block on the free list, a number off the area
-    ∷ patched 186 (0 ∷ 0 ∷ 0 ∷ 0 ∷ []) (checks 768 (9 ∷ []))
-    ∷ patched 186 (1 ∷ 0 ∷ 0 ∷ 0 ∷ []) (checks 768 (9 ∷ []))
+    ∷ patched 186 (0 ∷ 0 ∷ 0 ∷ 0 ∷ []) (checks 768 (refusal 9))
+    ∷ patched 186 (1 ∷ 0 ∷ 0 ∷ 0 ∷ []) (checks 768 (refusal 9))
     -- 10: nword, nblock2
-    ∷ patched 160 (3 ∷ []) (checks 768 (10 ∷ []))
-    ∷ patched 194 (2 ∷ []) (checks 768 (10 ∷ []))
+    ∷ patched 160 (3 ∷ []) (checks 768 (refusal 10))
+    ∷ patched 194 (2 ∷ []) (checks 768 (refusal 10))
+    -- two faults: the first row is given
+    ∷ with-length 767 (looks-up [] [] (refusal 1) [])
+    ∷ with-length 767 (walks false (t 249) [] [] (refusal 1) [] [])
+    ∷ patched 141 (5 ∷ []) (patched 164 (1 ∷ []) (checks 768 (refusal 3)))
+    ∷ patched 164 (1 ∷ []) (patched 148 (3 ∷ []) (checks 768 (refusal 4)))
+    ∷ patched 148 (3 ∷ []) (patched 258 (0 ∷ []) (checks 768 (refusal 5)))
+    ∷ patched 258 (0 ∷ []) (patched 512 (0 ∷ []) (checks 768 (refusal 6)))
+    ∷ patched 512 (2 ∷ []) (patched 521 (0x90 ∷ []) (checks 768 (refusal 7)))
+    ∷ patched 521 (0x90 ∷ []) (patched 186 (0 ∷ 0 ∷ 0 ∷ 0 ∷ []) (checks 768 (refusal 8)))
+    ∷ patched 186 (0 ∷ 0 ∷ 0 ∷ 0 ∷ []) (patched 160 (3 ∷ []) (checks 768 (refusal 9)))
+    ∷ []
+
+-- two runs, a of 2 blocks at 0 and b of 3 blocks at 2
+unfoldable pub run-probes : List Probe
+run-probes =
+    checks 1_792 (2 ∷ 1 ∷ 5 ∷ 0 ∷ [])
+    -- 7 and 8 run by run: 8 of the first before 7 of the second, 7 of the first before 8 of the second
+    ∷ patched 519 (0x90 ∷ []) (patched 1_024 (0 ∷ []) (checks 1_792 (refusal 8)))
+    ∷ patched 519 (0x90 ∷ []) (patched 260 (9 ∷ []) (checks 1_792 (refusal 8)))
+    ∷ patched 512 (0 ∷ []) (patched 1_031 (0x90 ∷ []) (checks 1_792 (refusal 7)))
+    -- 8: the last headword, c, not below the next element's, b
+    ∷ patched 514 (3 ∷ 0 ∷ 0 ∷ 97 ∷ 0 ∷ 0x80 ∷ 3 ∷ 0 ∷ 0 ∷ 99 ∷ 0 ∷ 0x80 ∷ 0 ∷ 0 ∷ []) (checks 1_792 (refusal 8))
+    -- 9: block 2 in both runs
+    ∷ patched 512 (3 ∷ []) (checks 1_792 (refusal 9))
+    -- 6: elements not ascending; three zero bytes behind them; a headword of 249; four zero bytes and a headword of 248 are good, and then 8
+    ∷ patched 262 (97 ∷ []) (checks 1_792 (refusal 6))
+    ∷ patched 262 (replicate 246 98) (checks 1_792 (refusal 6))
+    ∷ patched 262 (replicate 245 98) (checks 1_792 (refusal 8))
+    ∷ patched 190 (1 ∷ []) (patched 258 (t 249) (checks 1_792 (refusal 6)))
+    ∷ patched 190 (1 ∷ []) (patched 258 (t 248 ++ zeros 1) (checks 1_792 (refusal 8)))
+    ∷ []
+
+-- a stored headword of 249 bytes, the second of a run whose longest is 248
+unfoldable pub long-headword-probes : List Probe
+long-headword-probes =
+    checks 1_280 (2 ∷ 1 ∷ 3 ∷ 1 ∷ [])
+    ∷ patched 776 (250 ∷ 0 ∷ 1 ∷ t 248 ++ 0 ∷ 128 ∷ []) (checks 1_280 (refusal 8))
+    ∷ []
+
+-- a stored text of 3,001 bytes, where there is one of 3,000
+unfoldable pub long-text-probes : List Probe
+long-text-probes =
+    checks 3_584 (1 ∷ 1 ∷ 12 ∷ 0 ∷ [])
+    ∷ patched 514 (0xBC ∷ []) (patched 3_520 (97 ∷ []) (checks 3_584 (refusal 8)))
     ∷ []
 
 -- look up on P3's image: found, absent, 12, 14
@@ -163,10 +219,10 @@ look-up-probes =
     ∷ looks-up (ascii "ABDEF") (lent 3) (0xE5 ∷ 3 ∷ []) (ascii "two")
     ∷ looks-up (ascii "ABD") (lent 3) [] (lent 3)
     ∷ looks-up (ascii "ABDEFG") [] [] []
-    ∷ looks-up (ascii "ABC") (lent 2) (14 ∷ []) (lent 2)
-    ∷ looks-up [] (lent 3) (12 ∷ []) (lent 3)
-    ∷ looks-up (t 249) (lent 3) (12 ∷ []) (lent 3)
-    ∷ looks-up (65 ∷ 0 ∷ []) (lent 3) (12 ∷ []) (lent 3)
+    ∷ looks-up (ascii "ABC") (lent 2) (refusal 14) (lent 2)
+    ∷ looks-up [] (lent 3) (refusal 12) (lent 3)
+    ∷ looks-up (t 249) (lent 3) (refusal 12) (lent 3)
+    ∷ looks-up (65 ∷ 0 ∷ []) (lent 3) (refusal 12) (lent 3)
     ∷ []
 
 -- walk on P3's image: not below, above, from the start, past the last, 12, 14
@@ -179,26 +235,31 @@ walk-probes =
     ∷ walks true [] (lent 5) (lent 3) (128 ∷ 3 ∷ 3 ∷ []) (ascii "ABC" ++ lent 2) (ascii "one")
     ∷ walks true (ascii "ABDEF") (lent 5) (lent 3) [] (lent 5) (lent 3)
     ∷ walks false (ascii "B") [] [] [] [] []
-    ∷ walks false (ascii "ABC") (lent 2) (lent 3) (14 ∷ []) (lent 2) (lent 3)
-    ∷ walks false (ascii "ABC") (lent 3) (lent 2) (14 ∷ []) (lent 3) (lent 2)
-    ∷ walks false (t 249) (lent 3) (lent 3) (12 ∷ []) (lent 3) (lent 3)
-    ∷ walks false (65 ∷ 0 ∷ []) (lent 3) (lent 3) (12 ∷ []) (lent 3) (lent 3)
+    ∷ walks false (ascii "ABC") (lent 2) (lent 3) (refusal 14) (lent 2) (lent 3)
+    ∷ walks false (ascii "ABC") (lent 3) (lent 2) (refusal 14) (lent 3) (lent 2)
+    ∷ walks false (t 249) (lent 3) (lent 3) (refusal 12) (lent 3) (lent 3)
+    ∷ walks false (65 ∷ 0 ∷ []) (lent 3) (lent 3) (refusal 12) (lent 3) (lent 3)
     ∷ []
 
 -- changing calls refused on P3's image, and what they leave: 2 keeps the working slice, 3 to 15 zero it, and so does an absent deletion
 unfoldable pub refusal-probes : List Probe
 refusal-probes =
-    patched 141 (5 ∷ []) (keeps (lent 767) (ins (ascii "A") []) (2 ∷ []) (lent 767))
-    ∷ patched 141 (5 ∷ []) (keeps (lent 768) (ins (ascii "A") []) (3 ∷ []) (zeros 768))
-    ∷ patched 140 (16 ∷ []) (keeps (lent 770) (ins [] []) (11 ∷ []) (zeros 770))
-    ∷ patched 140 (16 ∷ []) (keeps (lent 768) (del (ascii "A")) (11 ∷ []) (zeros 768))
-    ∷ patched 140 (16 ∷ []) (keeps (lent 768) opt (11 ∷ []) (zeros 768))
-    ∷ keeps (lent 768) (ins-as [] 0x90 []) (12 ∷ []) (zeros 768)
-    ∷ keeps (lent 768) (del (t 249)) (12 ∷ []) (zeros 768)
-    ∷ keeps (lent 768) (ins-as (ascii "A") 0x90 []) (13 ∷ []) (zeros 768)
-    ∷ keeps (lent 768) (ins-as (ascii "A") 0x60 []) (13 ∷ []) (zeros 768)
-    ∷ keeps (lent 768) (ins (ascii "A") (65 ∷ 0 ∷ [])) (13 ∷ []) (zeros 768)
-    ∷ keeps (lent 768) (ins (ascii "A") (t 300)) (15 ∷ []) (zeros 768)
+    patched 141 (5 ∷ []) (keeps (lent 767) (ins (ascii "A") []) (refusal 2) (lent 767))
+    ∷ patched 141 (5 ∷ []) (keeps (lent 768) (ins (ascii "A") []) (refusal 3) (zeros 768))
+    ∷ patched 140 (16 ∷ []) (keeps (lent 770) (ins [] []) (refusal 11) (zeros 770))
+    ∷ patched 140 (16 ∷ []) (keeps (lent 768) (del (ascii "A")) (refusal 11) (zeros 768))
+    ∷ patched 140 (16 ∷ []) (keeps (lent 768) opt (refusal 11) (zeros 768))
+    ∷ patched 160 (3 ∷ []) (patched 140 (16 ∷ []) (keeps (lent 768) opt (refusal 10) (zeros 768)))
+    ∷ patched 141 (5 ∷ []) (patched 140 (16 ∷ []) (keeps (lent 768) opt (refusal 3) (zeros 768)))
+    ∷ with-length 767 (keeps (lent 5) opt (refusal 1) (lent 5))
+    ∷ with-length 1_024 (keeps (lent 768) (del (ascii "ABC")) (refusal 1) (lent 768))
+    ∷ keeps (lent 768) (ins-as [] 0x90 []) (refusal 12) (zeros 768)
+    ∷ keeps (lent 768) (ins-as (ascii "A") 0x90 (t 300)) (refusal 13) (zeros 768)
+    ∷ keeps (lent 768) (del (t 249)) (refusal 12) (zeros 768)
+    ∷ keeps (lent 768) (ins-as (ascii "A") 0x90 []) (refusal 13) (zeros 768)
+    ∷ keeps (lent 768) (ins-as (ascii "A") 0x60 []) (refusal 13) (zeros 768)
+    ∷ keeps (lent 768) (ins (ascii "A") (65 ∷ 0 ∷ [])) (refusal 13) (zeros 768)
+    ∷ keeps (lent 768) (ins (ascii "A") (t 300)) (refusal 15) (zeros 768)
     ∷ keeps (lent 768) (del (ascii "A")) [] (zeros 768)
     ∷ works (lent 770) (del (ascii "ABC")) (768 ∷ []) (zeros 770)
     ∷ patched 140 (15 ∷ []) (works (lent 768) opt (768 ∷ []) (zeros 768))
@@ -231,24 +292,36 @@ free-probes =
     checks 1_792 (1 ∷ 1 ∷ 5 ∷ 2 ∷ [])
     ∷ stores 512 (0 ∷ 0 ∷ 1 ∷ 0 ∷ 0 ∷ 0 ∷ 0 ∷ 128 ∷ 97 ∷ [])
     ∷ stores 768 (0 ∷ 0 ∷ 0xFF ∷ 0xFF ∷ 0xFF ∷ 0xFF ∷ 97 ∷ [])
-    ∷ patched 770 (0 ∷ 0 ∷ 0 ∷ 0 ∷ []) (checks 1_792 (9 ∷ []))
-    ∷ patched 186 (1 ∷ []) (checks 1_792 (9 ∷ []))
-    ∷ patched 769 (1 ∷ []) (checks 1_792 (9 ∷ []))
+    ∷ patched 770 (0 ∷ 0 ∷ 0 ∷ 0 ∷ []) (checks 1_792 (refusal 9))
+    ∷ patched 186 (1 ∷ []) (checks 1_792 (refusal 9))
+    ∷ patched 769 (1 ∷ []) (checks 1_792 (refusal 9))
     ∷ []
 
 -- all cases
 unfoldable pub cases : List Case
 cases =
     -- a slice too small, and one of 258 bytes: what stands past 256 is kept
-    creates (lent 255) (1 ∷ []) (lent 255)
+    creates (lent 255) (refusal 1) (lent 255)
     ∷ creates (lent 258) (256 ∷ []) (zeros 141 ++ (4 ∷ 248 ∷ 0 ∷ 0xB8 ∷ 0x0B ∷ 0 ∷ 1 ∷ 0 ∷ 0 ∷ 0 ∷ 1 ∷ 0 ∷ 0 ∷ 0xFF ∷ 0xFF ∷ []) ++ zeros 10 ++ (1 ∷ []) ++ zeros 19 ++ (0xFF ∷ 0xFF ∷ 0xFF ∷ 0xFF ∷ []) ++ zeros 66 ++ lent 2)
     ∷ after 256 [] (checks 256 (0 ∷ 0 ∷ 0 ∷ 0 ∷ []) ∷ looks-up (ascii "ABC") (lent 3) [] (lent 3) ∷ prints (ascii "     0     0     0     0\n") ∷ [])
     ∷ after 768 two-entries (check-probes ++ look-up-probes ++ walk-probes ++ refusal-probes ++ bytes-probes)
     ∷ after 768 (two-entries ++ store 208 (0xFF ∷ 0xFF ∷ 0xFF ∷ 0xFF ∷ []) ∷ del (ascii "ABC") ∷ []) deleted-probes
+    -- the working slice is measured by the whole image slice, not by L
+    ∷ after 770 two-entries (keeps (lent 769) opt (refusal 2) (lent 769) ∷ works (lent 770) opt (768 ∷ []) (zeros 770) ∷ stores 768 (lent 2) ∷ [])
     -- unsigned byte order
     ∷ after 768 (ins (0x83 ∷ 0x41 ∷ []) (ascii "ka") ∷ ins (ascii "Z") (ascii "zed") ∷ []) (walks false [] (lent 2) (lent 3) (128 ∷ 1 ∷ 3 ∷ []) (ascii "Z" ++ lent 1) (ascii "zed") ∷ [])
     -- the last entry deleted: its block is free, the index keeps its block; optimise leaves the header
     ∷ after 768 (ins (ascii "ABC") (ascii "one") ∷ del (ascii "ABC") ∷ []) (lays-out (768 ∷ []) 1 [] (0 ∷ []) ∷ works (lent 768) opt (256 ∷ []) (zeros 768) ∷ [])
+    ∷ after 1_792 (ins (ascii "a") (t 500) ∷ ins (ascii "b") (t 509) ∷ []) run-probes
+    ∷ after 1_280 (ins (ascii "a") [] ∷ ins (t 248) [] ∷ []) long-headword-probes
+    ∷ after 3_584 (ins (ascii "a") (t 3_000) ∷ []) long-text-probes
+    -- zeros inside a printed number
+    ∷ after 1_536 (ins (ascii "a") (t 1_005) ∷ []) (prints (ascii "     1     1     4     0\n     1     0     4 128  1005 a\n") ∷ [])
+    -- an input of 65,536 bytes is read, a longer one is 1
+    ∷ lists [] (ascii "refused   1\n")
+    ∷ lists (zeros 65_536) (ascii "refused   3\n")
+    ∷ lists (zeros 65_537) (ascii "refused   1\n")
+    ∷ formats (256 ∷ 2 ∷ 65_536 ∷ 1_024 ∷ [])
     ∷ after 1_792 two-free free-probes
     -- optimise: zeros from the new L, 1,280, to the old, 1,792; what stands past the old is kept
     ∷ after 1_794 (two-free ++ store 1_792 (7 ∷ 8 ∷ []) ∷ opt ∷ []) (stores 1_278 (0 ∷ 0 ∷ zeros 512 ++ 7 ∷ 8 ∷ []) ∷ [])
@@ -264,5 +337,5 @@ CasesHold = T (all case-holds cases)
 
 -- names all definitions of this module: who unfolds it unfolds them
 unfoldable pub open-cases : Unit {0}
-unfolding probe-holds case-holds lent two-entries two-free xq xr two-moved equal-extents check-probes look-up-probes walk-probes refusal-probes bytes-probes deleted-probes free-probes cases CasesHold
+unfolding probe-holds case-holds two-entries two-free xq xr two-moved equal-extents check-probes run-probes long-headword-probes long-text-probes look-up-probes walk-probes refusal-probes bytes-probes deleted-probes free-probes cases CasesHold
 open-cases = tt

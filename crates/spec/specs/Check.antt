@@ -27,11 +27,11 @@ pub record Image : Type 0 where
 
 -- bytes in front of the data blocks
 unfoldable pub data-start : Frame → ℕ
-data-start f = f .format .front-bytes + 256 * f .index-blocks
+data-start f = f .format .header-bytes + 256 * f .index-blocks
 
 -- "After the header come index_block blocks of 256 bytes, …"
 unfoldable pub index-area : Frame → List ℕ → List ℕ
-index-area f s = bytes-at (f .format .front-bytes) (256 * f .index-blocks) s
+index-area f s = bytes-at (f .format .header-bytes) (256 * f .index-blocks) s
 
 -- "… then D data blocks numbered from 0."
 unfoldable pub data-area : Frame → List ℕ → List ℕ
@@ -72,8 +72,8 @@ frame-from F s = do
   refuse 3 when not (kind-ok (F .layout) s)
   refuse 4 when not (options-ok (F .layout) s)
   let n = get (F .layout .index-block) s
-  refuse 5 when (ltb 32_767 n || ltb (length s) (F .front-bytes + 256 * n))
-  let D = (length s - (F .front-bytes + 256 * n)) / 256
+  refuse 5 when (ltb 32_767 n || ltb (length s) (F .header-bytes + 256 * n))
+  let D = (length s - (F .header-bytes + 256 * n)) / 256
   refuse 5 when ltb (F .most-blocks) D
   ok (record { format = F; index-blocks = n; data-blocks = D })
 

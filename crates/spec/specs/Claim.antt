@@ -1,22 +1,22 @@
 -- The sorted-list claim. Document 01, "The sorted-list claim (demand 3)": "It is one claim about a whole list of calls, made for every such list, and not a law for each call."
-use Prim.Native.Nat.{ℕ, _+_, _<_}
+use Prim.Native.Nat.{ℕ, _+_, _<_, max}
 use mathlib.Core.Path.{_≡_}
 use mathlib.Core.Bool.{Bool, true, false, not, _&&_, _||_}
 use mathlib.Core.List.{List, [], _∷_}
 use mathlib.Core.Option.{Option, none, some}
-use lib.ListN.{length, take}
+use lib.ListN.{length, take, drop}
 use lib.Dec.{T, leb, ltb, eqb}
 use lib.Pow.{areBytes}
 use Rattle.spec.specs.Outcome.{Outcome, refused, ok}
 use Rattle.spec.specs.Lists.{all, count}
-use Rattle.spec.specs.Bytes.{no-zero}
-use Rattle.spec.specs.Header.{writable}
+use Rattle.spec.specs.Bytes.{bytes-at, no-zero}
+use Rattle.spec.specs.Header.{writable, written-fields, lies-in}
 use Rattle.spec.specs.Entry.{Entry, headword-ok, text-ok, attribute-ok, entry-of, attribute, text}
 use Rattle.spec.specs.Blocks.{covers, run-blocks}
 use Rattle.spec.specs.Check.{Image, image-in, entries-of}
 use Rattle.spec.specs.SortedList.{Sorted, lookup, successor, replace, remove}
 use Rattle.spec.specs.Place.{Plan, plan-change, plan-packed, plan-full, plan-written}
-use Rattle.spec.specs.Calls.{Figures, FoundText, FoundEntry, check, look-up, walk, insert, delete, optimise, given-up-zeroed}
+use Rattle.spec.specs.Calls.{FoundText, FoundEntry, check, look-up, walk, insert, delete, optimise, given-up-zeroed}
 
 -- "The calls are look up, walk, insert, delete and optimise on one image slice": each with its arguments and its other slices
 pub data Call : Type 0 where
@@ -258,17 +258,21 @@ pub record Matches (below : List ℕ → List ℕ → Bool) (s : List ℕ) (L : 
   pub each-once : (b : ℕ) → b < run-blocks (image .runs) + length (image .free-list) → count (covers b) (image .runs) + count (eqb b) (image .free-list) ≡ 1
 
 -- One call on a slice with the accepted image i, beside the sorted list es: refused exactly as the rows say, else answered as the list answers; the slice has the bytes that the papers give, and its size.
-pub record Answers (below : List ℕ → List ℕ → Bool) (s : List ℕ) (L : ℕ) (i : Image) (es : List Entry) (c : Call) (r : Performed) : Type 0 where
+pub record AnswersAs (below : List ℕ → List ℕ → Bool) (s : List ℕ) (L : ℕ) (i : Image) (es : List Entry) (c : Call) (r : Performed) : Type 0 where
   pub observed : r .observed ≡ expected (first-row (rows s i es c)) (list-answer below c es)
   pub bytes : r .image ≡ slice-kept (is-refused (r .observed)) s (slice-after s L i c)
   pub size-stays : length (r .image) ≡ length s
+  -- "so does the image slice past L, except that optimise zeroes what it gives up": what stands past the old L and the new
+  pub kept-past : drop (max L (r .length-after)) (r .image) ≡ drop (max L (r .length-after)) s
+  -- "No other header byte changes."
+  pub header-kept : (n : ℕ) → n < i .frame .format .header-bytes → all (λ f. not (lies-in n f)) (written-fields (i .frame .format .layout)) ≡ true → bytes-at n 1 (r .image) ≡ bytes-at n 1 s
 
 -- all calls of a list, each given the length last returned
 unfoldable pub History : (List ℕ → List ℕ → Bool) → List ℕ → ℕ → List Entry → List Call → Type 0
 History below s L es [] = Matches below s L es
 History below s L es (c ∷ cs) =
     (m : Matches below s L es)
-    × Answers below s L (m .image) es c (perform s L c)
+    × AnswersAs below s L (m .image) es c (perform s L c)
     × History below (perform s L c .image) (perform s L c .length-after) (list-step below (is-refused (perform s L c .observed)) c es) cs
 
 -- "their arguments, and the lengths and contents of their other slices, are any": of bytes
@@ -285,7 +289,7 @@ SortedListClaim =
     (s : List ℕ) (L : ℕ) (i : Image) → T (areBytes s) → image-in s L ≡ ok i
     → (cs : List Call) → T (all call-bytes cs) → History (i .frame .format .below) s L (entries-of i) cs
 
--- "Arguments and slices are good when 1, 2, 12 and 13 do not apply; a version is writable when 11 does not."
+-- "Arguments and slices are good when 1, 2, 12 and 13 do not apply; a version is writable when 11 does not.": 2, 11 and 12; 1 does not apply to an accepted image, and 13 is the insertion's own
 unfoldable pub good-change : List ℕ → Image → List ℕ → List ℕ → Bool
 good-change s i work h = leb (length s) (length work) && writable (i .frame .format .layout) s && headword-ok h
 

@@ -35,7 +35,11 @@ joined-parts (p ∷ ps) = p ++ joined-parts ps
 unfoldable pub CutIsCut : Type 0
 CutIsCut = (limit : ℕ) (es : List Entry) → (joined-parts (cut limit es) ≡ es) × IsCut limit (cut limit es)
 
+-- no other cut of the list is such a cut
+unfoldable pub OneCut : Type 0
+OneCut = (limit : ℕ) (ps qs : List (List Entry)) → IsCut limit ps → IsCut limit qs → joined-parts ps ≡ joined-parts qs → ps ≡ qs
+
 -- names all definitions of this module: who unfolds it unfolds them
 unfoldable pub open-cut-form : Unit {0}
-unfolding IsCut joined-parts CutIsCut
+unfolding IsCut joined-parts CutIsCut OneCut
 open-cut-form = tt

@@ -13,7 +13,7 @@ use Rattle.spec.specs.Run.{encoded-size, run-size}
 use Rattle.spec.specs.Check.{image-in}
 use Rattle.spec.specs.Place.{cut}
 use Rattle.spec.specs.Listing.{listing}
-use Rattle.spec.specs.Play.{t, entry, Step, ins, del, opt, play, empty, index-blocks-of, runs-at, free-at}
+use Rattle.spec.specs.Play.{t, entry, refusal, Step, ins, del, opt, play, empty, index-blocks-of, runs-at, free-at}
 
 -- a row of the table
 pub data Example : Type 0 where
@@ -21,8 +21,8 @@ pub data Example : Type 0 where
   fronts : List (List ℕ) → List ℕ → List (List ℕ) → Example
   -- entries encode in so many bytes, and are cut into parts of these numbers of blocks
   parts : List Entry → ℕ → List ℕ → Example
-  -- from empty in a slice of so many bytes, the last of these calls answers L or a refusal; then the index blocks, the runs' blocks and the free blocks
-  calls : ℕ → List Step → ℕ → ℕ → List ℕ → List ℕ → Example
+  -- from empty in a slice of so many bytes, the last of these calls answers an L or a refusal; then the index blocks, the runs' blocks and the free blocks
+  calls : ℕ → List Step → List ℕ → ℕ → List ℕ → List ℕ → Example
   -- from empty in a slice of so many bytes, after these calls the program prints these bytes
   prints : ℕ → List Step → List ℕ → Example
 
@@ -39,10 +39,10 @@ fronts-are prev (h ∷ hs) (f ∷ fs) (r ∷ rs) = eqb (shared-front prev h) f &
 unfoldable pub example-holds : Example → Bool
 example-holds (fronts hs fs rs) = fronts-are [] hs fs rs
 example-holds (parts es n bs) = eqb (encoded-size es) n && bytes-equal (map run-size (cut (format4 .run-limit) es)) bs
-example-holds (calls n cs l ib rs fs) =
+example-holds (calls n cs told ib rs fs) =
     let q = play (empty n) cs in
     let i = image-in (q .slice) (q .L) in
-    bytes-equal (q .told) (l ∷ []) && eqb (index-blocks-of i) ib && bytes-equal (runs-at i) rs && bytes-equal (free-at i) fs
+    bytes-equal (q .told) told && eqb (index-blocks-of i) ib && bytes-equal (runs-at i) rs && bytes-equal (free-at i) fs
 example-holds (prints n cs x) =
     let q = play (empty n) cs in
     bytes-equal (listing (take (q .L) (q .slice))) x
@@ -52,12 +52,12 @@ unfoldable pub printed : List ℕ
 printed = ascii "     2     1     1     0\n     1     0     1 128     3 ABC\n     2     0     1 128     3 ABDEF\n"
 
 -- the headword a
-unfoldable pub a : List ℕ
-a = ascii "a"
+unfoldable pub letter-a : List ℕ
+letter-a = ascii "a"
 
 -- the headword b
-unfoldable pub b : List ℕ
-b = ascii "b"
+unfoldable pub letter-b : List ℕ
+letter-b = ascii "b"
 
 -- P1 to P10, each with its text
 unfoldable pub examples : List Example
@@ -65,31 +65,31 @@ examples =
     -- P1 ABC, ABDEF, ABDGD, AGDE: shared 0, 2, 3, 1; rests ABC, DEF, GD, GDE.
     fronts (map ascii ("ABC" ∷ "ABDEF" ∷ "ABDGD" ∷ "AGDE" ∷ [])) (0 ∷ 2 ∷ 3 ∷ 1 ∷ []) (map ascii ("ABC" ∷ "DEF" ∷ "GD" ∷ "GDE" ∷ []))
     -- P2 Empty, insert ABC "one": L 768.
-    ∷ calls 768 (ins (ascii "ABC") (ascii "one") ∷ []) 768 1 (0 ∷ []) []
+    ∷ calls 768 (ins (ascii "ABC") (ascii "one") ∷ []) (768 ∷ []) 1 (0 ∷ []) []
     -- P3 Then ABDEF "two": the run encodes in 26 bytes, L 768.
     ∷ parts (entry (ascii "ABC") (ascii "one") ∷ entry (ascii "ABDEF") (ascii "two") ∷ []) 26 (1 ∷ [])
-    ∷ calls 768 (ins (ascii "ABC") (ascii "one") ∷ ins (ascii "ABDEF") (ascii "two") ∷ []) 768 1 (0 ∷ []) []
+    ∷ calls 768 (ins (ascii "ABC") (ascii "one") ∷ ins (ascii "ABDEF") (ascii "two") ∷ []) (768 ∷ []) 1 (0 ∷ []) []
     -- "After P3:" the printed list
     ∷ prints 768 (ins (ascii "ABC") (ascii "one") ∷ ins (ascii "ABDEF") (ascii "two") ∷ []) printed
     -- P4 a t(500), b t(508) encode in 1,024: one part.
-    ∷ parts (entry a (t 500) ∷ entry b (t 508) ∷ []) 1_024 (4 ∷ [])
+    ∷ parts (entry letter-a (t 500) ∷ entry letter-b (t 508) ∷ []) 1_024 (4 ∷ [])
     -- P5 a t(500), b t(509): two parts of 2 and 3 blocks.
-    ∷ parts (entry a (t 500) ∷ entry b (t 509) ∷ []) 1_025 (2 ∷ 3 ∷ [])
+    ∷ parts (entry letter-a (t 500) ∷ entry letter-b (t 509) ∷ []) 1_025 (2 ∷ 3 ∷ [])
     -- P6 From empty, P5's inserts: runs at 0 and 2, L 1,792; a slice of 1,791 refuses the second with 15.
-    ∷ calls 1_792 (ins a (t 500) ∷ ins b (t 509) ∷ []) 1_792 1 (0 ∷ 2 ∷ []) []
-    ∷ calls 1_791 (ins a (t 500) ∷ ins b (t 509) ∷ []) 15 1 (0 ∷ []) []
+    ∷ calls 1_792 (ins letter-a (t 500) ∷ ins letter-b (t 509) ∷ []) (1_792 ∷ []) 1 (0 ∷ 2 ∷ []) []
+    ∷ calls 1_791 (ins letter-a (t 500) ∷ ins letter-b (t 509) ∷ []) (refusal 15) 1 (0 ∷ []) []
     -- P7 Then delete a: free 0, 1; optimise: b at 0, L 1,280.
-    ∷ calls 1_792 (ins a (t 500) ∷ ins b (t 509) ∷ del a ∷ []) 1_792 1 (2 ∷ []) (0 ∷ 1 ∷ [])
-    ∷ calls 1_792 (ins a (t 500) ∷ ins b (t 509) ∷ del a ∷ opt ∷ []) 1_280 1 (0 ∷ []) []
+    ∷ calls 1_792 (ins letter-a (t 500) ∷ ins letter-b (t 509) ∷ del letter-a ∷ []) (1_792 ∷ []) 1 (2 ∷ []) (0 ∷ 1 ∷ [])
+    ∷ calls 1_792 (ins letter-a (t 500) ∷ ins letter-b (t 509) ∷ del letter-a ∷ opt ∷ []) (1_280 ∷ []) 1 (0 ∷ []) []
     -- P8 From empty insert a t(0), 248 letters a t(0), b t(762): runs at 0 and 3, free 2, L 2,304.
-    ∷ calls 2_304 (ins a (t 0) ∷ ins (t 248) (t 0) ∷ ins b (t 762) ∷ []) 2_304 1 (0 ∷ 3 ∷ []) (2 ∷ [])
+    ∷ calls 2_304 (ins letter-a (t 0) ∷ ins (t 248) (t 0) ∷ ins letter-b (t 762) ∷ []) (2_304 ∷ []) 1 (0 ∷ 3 ∷ []) (2 ∷ [])
     -- P9 Then delete a: the index grows to 2, runs at 0 and 2, none free, L 2,304. A deletion can need space.
-    ∷ calls 2_304 (ins a (t 0) ∷ ins (t 248) (t 0) ∷ ins b (t 762) ∷ del a ∷ []) 2_304 2 (0 ∷ 2 ∷ []) []
+    ∷ calls 2_304 (ins letter-a (t 0) ∷ ins (t 248) (t 0) ∷ ins letter-b (t 762) ∷ del letter-a ∷ []) (2_304 ∷ []) 2 (0 ∷ 2 ∷ []) []
     -- P10 Headword of 248 accepted, 249 refused 12; text 3,000 accepted, 3,001 refused 13.
-    ∷ calls 1_024 (ins (t 248) (t 1) ∷ []) 1_024 1 (0 ∷ []) []
-    ∷ calls 1_024 (ins (t 249) (t 1) ∷ []) 12 0 [] []
-    ∷ calls 4_096 (ins a (t 3_000) ∷ []) 3_584 1 (0 ∷ []) []
-    ∷ calls 4_096 (ins a (t 3_001) ∷ []) 13 0 [] []
+    ∷ calls 1_024 (ins (t 248) (t 1) ∷ []) (1_024 ∷ []) 1 (0 ∷ []) []
+    ∷ calls 1_024 (ins (t 249) (t 1) ∷ []) (refusal 12) 0 [] []
+    ∷ calls 4_096 (ins letter-a (t 3_000) ∷ []) (3_584 ∷ []) 1 (0 ∷ []) []
+    ∷ calls 4_096 (ins letter-a (t 3_001) ∷ []) (refusal 13) 0 [] []
     ∷ []
 
 -- THE THEOREM: every row holds
@@ -98,5 +98,5 @@ ExamplesHold = T (all example-holds examples)
 
 -- names all definitions of this module: who unfolds it unfolds them
 unfoldable pub open-examples : Unit {0}
-unfolding fronts-are example-holds printed a b examples ExamplesHold
+unfolding fronts-are example-holds printed letter-a letter-b examples ExamplesHold
 open-examples = tt

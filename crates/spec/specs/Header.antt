@@ -1,5 +1,5 @@
 -- The header and what a file fixes by it. Document 01, "Header fields" and "Create".
-use Prim.Native.Nat.{ℕ, _+_, _*_, _/_, _%_, _^_, _<_, _≤_}
+use Prim.Native.Nat.{ℕ, _+_, _*_, _/_, _%_, _^_, _≤_}
 use mathlib.Core.Path.{_≡_}
 use mathlib.Core.Bool.{Bool, true, _&&_, _||_}
 use mathlib.Core.List.{List, [], _∷_}
@@ -138,7 +138,7 @@ writable o s = ltb (get (o .version) s % 256) 16
 pub record Format : Type 0 where
   pub layout : Layout
   -- bytes in front of the index: the header
-  pub front-bytes : ℕ
+  pub header-bytes : ℕ
   -- "a block number (2 bytes)"
   pub number-width : ℕ
   -- "D over 65,536"
@@ -153,7 +153,7 @@ unfoldable pub format4 : Format
 format4 =
     record {
       layout = layout4;
-      front-bytes = 256;
+      header-bytes = 256;
       number-width = 2;
       most-blocks = 65_536;
       below = below-of 0;
@@ -164,7 +164,7 @@ format4 =
 unfoldable pub format-of : List ℕ → Format
 format-of s = format4
 
--- fields that a refusal tests and no change writes
+-- "Header fields that no refusal below names are not tested.": those that one names and no change writes
 unfoldable pub tested-fields : Layout → List Field
 tested-fields o = o .version ∷ o .block-size ∷ o .header-size ∷ o .attrlen ∷ o .dicorder ∷ o .dictype ∷ o .os ∷ o .index-blkbit ∷ o .extheader ∷ []
 
@@ -175,6 +175,10 @@ written-fields o = o .index-block ∷ o .nword ∷ o .empty-block2 ∷ o .nindex
 -- two fields with no byte in common
 unfoldable pub apart : Field → Field → Bool
 apart f g = leb (f .offset + f .bytes) (g .offset) || leb (g .offset + g .bytes) (f .offset)
+
+-- whether the byte at offset n lies in a field
+unfoldable pub lies-in : ℕ → Field → Bool
+lies-in n f = leb (f .offset) n && ltb n (f .offset + f .bytes)
 
 -- fields of which no two have a byte in common
 unfoldable pub all-apart : List Field → Bool
@@ -195,8 +199,8 @@ pub record LawfulLayout (o : Layout) : Type 0 where
 pub record Lawful (F : Format) : Type 0 where
   pub layout-lawful : LawfulLayout (F .layout)
   -- the header stands in whole blocks of 256 bytes in front of the index
-  pub header-inside : 256 ≤ F .front-bytes
-  pub front-in-blocks : F .front-bytes % 256 ≡ 0
+  pub header-inside : 256 ≤ F .header-bytes
+  pub front-in-blocks : F .header-bytes % 256 ≡ 0
   -- each block number fits its bytes in the index
   pub numbers-fit : F .most-blocks ≤ 256 ^ F .number-width
   -- the data blocks' bytes, and so all that is counted in them, fit four bytes, and no block number is the free list's end
@@ -207,5 +211,5 @@ pub record Lawful (F : Format) : Type 0 where
 
 -- names all definitions of this module: who unfolds it unfolds them
 unfoldable pub open-header : Unit {0}
-unfolding field-at layout4 get put _holding_ put-all empty-image change-settings changed-header high-version-of writable format4 format-of tested-fields written-fields apart all-apart
+unfolding field-at layout4 get put _holding_ put-all empty-image change-settings changed-header high-version-of writable format4 format-of tested-fields written-fields apart lies-in all-apart
 open-header = tt

@@ -14,10 +14,11 @@ use Rattle.spec.specs.Header.{Layout, Format, format-of, get, high-versi
 use Rattle.spec.specs.Entry.{Entry, headword-ok, body-ok}
 use Rattle.spec.specs.Run.{Run}
 use Rattle.spec.specs.Index.{elements-bytes}
-use Rattle.spec.specs.Blocks.{covers, run-blocks, list-start, link-bytes}
-use Rattle.spec.specs.Check.{Image, all-entries, image-in}
+use Rattle.spec.specs.Blocks.{covers, run-blocks, free-list-start, link-bytes}
+use Rattle.spec.specs.Check.{Image, all-entries, entries-of, image-in}
 use Rattle.spec.specs.SortedList.{Sorted}
 use Rattle.spec.specs.Place.{element-of}
+use Rattle.spec.specs.Calls.{create}
 
 -- Bytes that begin with an entry after one with the headword prev, and go on with rest:
 -- "field length (2), shared front (1), rest of headword, zero, attribute (1), text". Any front that the rules allow.
@@ -59,7 +60,7 @@ StoredRuns area (r ∷ rs) = StoredRun area r × StoredRuns area rs
 -- "A free block: two zero bytes, then the next free number (4), 0xFFFFFFFF at the end"
 unfoldable pub StoredFreeList : List ℕ → List ℕ → Type 0
 StoredFreeList area [] = Unit {0}
-StoredFreeList area (b ∷ bs) = (bytes-at (256 * b) 6 area ≡ link-bytes (list-start bs)) × StoredFreeList area bs
+StoredFreeList area (b ∷ bs) = (bytes-at (256 * b) 6 area ≡ link-bytes (free-list-start bs)) × StoredFreeList area bs
 
 -- "After the nindex2 elements at least four bytes follow, all zero to the area's end. index_block 0 needs nindex2 0 and no such bytes."
 unfoldable pub StoredIndex : Format → List Run → List ℕ → Type 0
@@ -83,7 +84,7 @@ pub record IsImage (s : List ℕ) (i : Image) : Type 0 where
   pub index : List ℕ
   pub area : List ℕ
   pub made-up : s ≡ header ++ index ++ area
-  pub header-length : length header ≡ i .frame .format .front-bytes
+  pub header-length : length header ≡ i .frame .format .header-bytes
   pub index-length : length index ≡ 256 * i .frame .index-blocks
   pub area-length : length area ≡ 256 * i .frame .data-blocks
   pub format : i .frame .format ≡ format-of s
@@ -100,7 +101,7 @@ pub record IsImage (s : List ℕ) (i : Image) : Type 0 where
   -- the header's numbers
   pub index-block-field : get (i .frame .format .layout .index-block) header ≡ i .frame .index-blocks
   pub nindex2-field : get (i .frame .format .layout .nindex2) header ≡ length (i .runs)
-  pub empty-block2-field : get (i .frame .format .layout .empty-block2) header ≡ list-start (i .free-list)
+  pub empty-block2-field : get (i .frame .format .layout .empty-block2) header ≡ free-list-start (i .free-list)
   pub nword-field : get (i .frame .format .layout .nword) header ≡ length (all-entries (i .runs))
   pub nblock2-field : get (i .frame .format .layout .nblock2) header ≡ run-blocks (i .runs)
 
@@ -108,7 +109,11 @@ pub record IsImage (s : List ℕ) (i : Image) : Type 0 where
 unfoldable pub Accepted : Type 0
 Accepted = (s : List ℕ) (L : ℕ) (i : Image) → T (areBytes s) → (image-in s L ≡ ok i) ↔ ((L ≤ length s) × IsImage (take L s) i)
 
+-- Demand 2: create gives an accepted image with no entry
+unfoldable pub CreateAccepted : Type 0
+CreateAccepted = (s : List ℕ) → 256 ≤ length s → (i : Image) × (image-in (create s .image) 256 ≡ ok i) × (entries-of i ≡ [])
+
 -- names all definitions of this module: who unfolds it unfolds them
 unfoldable pub open-image-form : Unit {0}
-unfolding StoredEntries StoredRuns StoredFreeList StoredIndex Accepted
+unfolding StoredEntries StoredRuns StoredFreeList StoredIndex Accepted CreateAccepted
 open-image-form = tt

@@ -11,7 +11,7 @@ use Rattle.spec.specs.Header.{Format, Counts, changed-header}
 use Rattle.spec.specs.Entry.{Entry, entry-bytes}
 use Rattle.spec.specs.Run.{Run, run-bytes, run-size}
 use Rattle.spec.specs.Index.{Element, index-bytes, index-need}
-use Rattle.spec.specs.Blocks.{covers, place-for, free-blocks, run-blocks, list-start, free-list-written}
+use Rattle.spec.specs.Blocks.{covers, place-for, free-blocks, run-blocks, free-list-start, free-list-written}
 use Rattle.spec.specs.Check.{Frame, Image, all-entries, data-area, frame-length}
 
 -- where everything of the next image stands: its frame, and its runs in index order, each at its place with its bytes
@@ -156,8 +156,8 @@ unfoldable pub plan-change : Format → Image → List ℕ → (List Entry → L
 plan-change F i h change =
     let c : Target = target-run F h (i .runs) in
     let parts : List Run = map new-run (cut (F .run-limit) (change (c .entries))) in
-    -- "It never shrinks here."
     let need : ℕ = index-need F (map element-of (c .before ++ parts ++ c .after)) in
+    -- "It never shrinks here."
     let g : ℕ = need - i .frame .index-blocks in
     let m : Grown = grown g (i .frame .data-blocks) (c .before) (c .after) in
     -- step 5: "Parts are placed in order."
@@ -195,7 +195,7 @@ plan-counts p =
     record {
       index-blocks = p .frame .index-blocks;
       entries = length (all-entries (p .runs));
-      first-free = list-start (free-blocks (p .runs) (p .frame .data-blocks));
+      first-free = free-list-start (free-blocks (p .runs) (p .frame .data-blocks));
       elements = length (p .runs);
       run-blocks = run-blocks (p .runs);
     }
@@ -206,7 +206,7 @@ unfoldable pub plan-written : Plan → List ℕ → List ℕ
 plan-written p s =
     let f : Frame = p .frame in
     let F : Format = f .format in
-    changed-header (F .layout) (plan-counts p) (take (F .front-bytes) s)
+    changed-header (F .layout) (plan-counts p) (take (F .header-bytes) s)
     ++ index-bytes F (f .index-blocks) (map element-of (p .runs))
     ++ free-list-written (free-blocks (p .runs) (f .data-blocks)) (runs-written (p .runs) (data-area f s))
 

@@ -1,11 +1,10 @@
 -- Short histories of calls for the tables of examples: a slice after create and some steps, and what is told of it as numbers.
 use Prim.Native.Nat.{ℕ}
-use mathlib.Core.Bool.{Bool}
 use mathlib.Core.List.{List, [], _∷_, map}
 use mathlib.Core.Option.{Option, none, some}
 use lib.ListN.{replicate}
 use Rattle.spec.specs.Outcome.{Outcome, refused, ok}
-use Rattle.spec.specs.Bytes.{write, zeros}
+use Rattle.spec.specs.Bytes.{write}
 use Rattle.spec.specs.Entry.{Entry, entry-of}
 use Rattle.spec.specs.Check.{Image}
 use Rattle.spec.specs.Calls.{ChangeResult, Figures, FoundText, FoundEntry, create, insert, delete, optimise}
@@ -39,31 +38,35 @@ pub record State : Type 0 where
   pub told : List ℕ
   pub work : List ℕ
 
--- an answer that is a length, as numbers: a refusal's number, or the new L
+-- a refusal as numbers: no other answer begins with 0, but a check's of an image with no headword, which has four
+unfoldable pub refusal : ℕ → List ℕ
+refusal n = 0 ∷ n ∷ []
+
+-- an answer that is a length, as numbers: the new L
 unfoldable pub told-length : Outcome ℕ → List ℕ
-told-length (refused n) = n ∷ []
+told-length (refused n) = refusal n
 told-length (ok n) = n ∷ []
 
 -- the same for a deletion; nothing where it is absent
 unfoldable pub told-removed : Outcome (Option ℕ) → List ℕ
-told-removed (refused n) = n ∷ []
+told-removed (refused n) = refusal n
 told-removed (ok none) = []
 told-removed (ok (some n)) = n ∷ []
 
 -- a check's four numbers, or its refusal
 unfoldable pub told-figures : Outcome Figures → List ℕ
-told-figures (refused n) = n ∷ []
+told-figures (refused n) = refusal n
 told-figures (ok c) = c .headwords ∷ c .index-blocks ∷ c .data-blocks ∷ c .free-blocks ∷ []
 
 -- a look up's attribute and text length, its refusal, or nothing where it is absent
 unfoldable pub told-text : Outcome (Option FoundText) → List ℕ
-told-text (refused n) = n ∷ []
+told-text (refused n) = refusal n
 told-text (ok none) = []
 told-text (ok (some f)) = f .attribute ∷ f .text-length ∷ []
 
 -- a walk's attribute, headword length and text length, its refusal, or nothing where it is absent
 unfoldable pub told-entry : Outcome (Option FoundEntry) → List ℕ
-told-entry (refused n) = n ∷ []
+told-entry (refused n) = refusal n
 told-entry (ok none) = []
 told-entry (ok (some f)) = f .attribute ∷ f .headword-length ∷ f .text-length ∷ []
 
@@ -91,9 +94,13 @@ unfoldable pub play : State → List Step → State
 play q [] = q
 play q (c ∷ cs) = play (step q c) cs
 
+-- n bytes 0xAA: slices that were not cleared
+unfoldable pub lent : ℕ → List ℕ
+lent n = replicate n 0xAA
+
 -- "From empty": a slice of n bytes after create
 unfoldable pub empty : ℕ → State
-empty n = let r = create (zeros n) in record { slice = r .image; L = new-length 0 (r .answer); told = told-length (r .answer); work = [] }
+empty n = let r = create (lent n) in record { slice = r .image; L = new-length 0 (r .answer); told = told-length (r .answer); work = [] }
 
 -- an image's index blocks
 unfoldable pub index-blocks-of : Outcome Image → ℕ
@@ -112,5 +119,5 @@ free-at (ok i) = i .free-list
 
 -- names all definitions of this module: who unfolds it unfolds them
 unfoldable pub open-play : Unit {0}
-unfolding t entry ins told-length told-removed told-figures told-text told-entry after-change after-delete step-with step play empty index-blocks-of runs-at free-at
+unfolding t entry ins refusal told-length told-removed told-figures told-text told-entry after-change after-delete step-with step play lent empty index-blocks-of runs-at free-at
 open-play = tt
