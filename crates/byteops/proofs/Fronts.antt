@@ -13,7 +13,7 @@ use Rattle.spec.specs.Bytes.{bytes-at}
 use Rattle.spec.specs.Order.{byte-below, below-of, common-prefix}
 use Rattle.byteops.specs.Compare.{comparison}
 use Rattle.byteops.specs.declared.Comparison.the-variants.{Below, Same, Above}
-use Rattle.byteops.proofs.Parts.{length-bytes-at, part-cons, part-none}
+use Rattle.spec.proofs.PartLaws.{length-bytes-at, part-cons, part-none}
 
 -- the common front of lists in two parts
 prefix-append : (x a b : List ℕ) → common-prefix (x ++ a) (x ++ b) ≡ length x + common-prefix a b

@@ -1,7 +1,7 @@
 -- Laws of comparison and of the first zero byte, for the crates above.
 use Prim.Native.Nat.{ℕ, suc, _+_, _<_, _≤_}
 use mathlib.Core.Path.{_≡_, refl, sym, ap, _∙_}
-use mathlib.Core.Bool.{Bool, true, false, _&&_, false≢true}
+use mathlib.Core.Bool.{Bool, true, false, false≢true}
 use mathlib.Core.List.{List, [], _∷_, _++_, append-nil}
 use mathlib.Core.Option.{some, none}
 use native.Mathlib.Omega.{arith}
@@ -9,13 +9,13 @@ use native.Mathlib.Nat.{zero-add, add-zero}
 use lib.ListN.{length, take, drop}
 use lib.Seq.{take-all}
 use lib.Dec.{ltb}
-use borrow.Author.Tests.{eq-eqb, ne-eqb, ltb-true, ltb-false, not-true}
+use borrow.Author.Tests.{ne-eqb, ltb-true, ltb-false, not-true}
 use Rattle.spec.specs.Lists as Lists
 use Rattle.spec.specs.Bytes as Bytes
-use Rattle.spec.specs.Bytes.{is-zero, not-zero, no-zero, all-zero, before-zero, split-zero}
-use Rattle.spec.specs.Order.{byte-below, below-of, IsOrder}
+use Rattle.spec.specs.Bytes.{is-zero, not-zero, no-zero, before-zero, split-zero}
+use Rattle.spec.specs.Order.{IsOrder}
 use Rattle.spec.proofs.ListsLaws.{and-left, and-right}
-use Rattle.spec.proofs.OrderLaws.{byte-order}
+use Rattle.spec.proofs.OrderLaws.{one-way}
 use Rattle.byteops.specs.Scan.{zero-offset}
 use Rattle.byteops.specs.Compare.{comparison}
 use Rattle.byteops.specs.declared.Comparison.{Comparison}
@@ -68,45 +68,8 @@ module _ (below : List ℕ → List ℕ → Bool) (a b : List ℕ) where
     pub comparison-same : comparison below a b ≡ Same → a ≡ b
     comparison-same h = order .total a b (comparison-same-not-below h) (comparison-same-not-above h)
 
-    -- an order holds one way round only
-    pub one-way : below a b ≡ true → below b a ≡ false
-    one-way h = go (below b a) refl
-      where
-        go : (t : Bool) → below b a ≡ t → below b a ≡ false
-        go false e = e
-        go true e = absurd (false≢true (sym (order .irreflexive a) ∙ order .transitive a b a h e))
-
     pub comparison-below-not : comparison below a b ≡ Below → below b a ≡ false
-    comparison-below-not h = one-way (comparison-below h)
-
--- every order number names an order
-pub order-of : (n : ℕ) → IsOrder (below-of n)
-unfolding below-of
-order-of n = byte-order
-
--- a common front does not count
-pub byte-below-front : (p a b : List ℕ) → byte-below (p ++ a) (p ++ b) ≡ byte-below a b
-unfolding byte-below
-byte-below-front [] a b = refl
-byte-below-front (x ∷ p) a b = rw (eq-eqb x x refl, byte-below) (byte-below-front p a b)
-
--- tests over a list of two parts
-and-assoc : (a b c : Bool) → (a && b) && c ≡ a && (b && c)
-and-assoc true b c = refl
-and-assoc false b c = refl
-
-pub all-append : (f : ℕ → Bool) (x y : List ℕ) → Lists.all f (x ++ y) ≡ Lists.all f x && Lists.all f y
-unfolding Lists.all
-all-append f [] y = refl
-all-append f (b ∷ x) y = ap (λ (t : Bool). f b && t) (all-append f x y) ∙ sym (and-assoc (f b) (Lists.all f x) (Lists.all f y))
-
-pub no-zero-append : (x y : List ℕ) → no-zero (x ++ y) ≡ no-zero x && no-zero y
-unfolding no-zero
-no-zero-append x y = all-append not-zero x y
-
-pub all-zero-append : (x y : List ℕ) → all-zero (x ++ y) ≡ all-zero x && all-zero y
-unfolding all-zero
-all-zero-append x y = all-append is-zero x y
+    comparison-below-not h = one-way below order a b (comparison-below h)
 
 -- the first zero byte
 pub zero-offset-cons : (b : ℕ) (bs : List ℕ) → (b ≡ 0 → ⊥) → zero-offset (b ∷ bs) ≡ suc (zero-offset bs)

@@ -1,5 +1,4 @@
 pub mod Laws
-pub mod Parts
 pub mod Words
 pub mod Stores
 pub mod Scans

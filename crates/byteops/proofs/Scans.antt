@@ -10,10 +10,10 @@ use lib.Dec.{eqb}
 use borrow.Author.Tests.{eq-eqb, ne-eqb, eqb-true, eqb-false, not-true, not-false}
 use Rattle.spec.specs.Lists.{all}
 use Rattle.spec.specs.Bytes.{from-little-endian, bytes-at, is-zero, not-zero, no-zero, all-zero}
-use Rattle.spec.proofs.ListsLaws.{and-left}
+use Rattle.spec.proofs.ListsLaws.{and-left, all-joined}
 use Rattle.byteops.specs.Scan.{zero-offset}
-use Rattle.byteops.proofs.Laws.{all-append, zero-offset-cons, zero-offset-zero, zero-offset-append, zero-offset-inside, zero-offset-lt, zero-offset-clear, no-zero-whole}
-use Rattle.byteops.proofs.Parts.{length-bytes-at, bytes-at-split, part-cons, part-none, part-split}
+use Rattle.byteops.proofs.Laws.{zero-offset-cons, zero-offset-zero, zero-offset-append, zero-offset-inside, zero-offset-lt, zero-offset-clear, no-zero-whole}
+use Rattle.spec.proofs.PartLaws.{length-bytes-at, bytes-at-split, part-cons, part-none, part-split}
 
 and-true : (t : Bool) → t && true ≡ t
 and-true true = refl
@@ -40,15 +40,15 @@ module _ (f : ℕ → Bool) (s : List ℕ) (i e : ℕ) (t w : Bool) (h : t && al
 -- a test of all bytes from o on that holds up to i
 module _ (f : ℕ → Bool) (s : List ℕ) (o i e : ℕ) (h : all f (bytes-at o (i - o) s) ≡ true) (p : o ≤ i) where
   all-more : i ≤ e → all f (bytes-at i (e - i) s) ≡ true → all f (bytes-at o (e - o) s) ≡ true
-  all-more q g = rw (part-split s o i e p q, all-append, h, g)
+  all-more q g = rw (part-split s o i e p q, all-joined, h, g)
 
   all-not : (k : ℕ) → i ≤ k → k ≤ e → all f (bytes-at i (k - i) s) ≡ false → false ≡ all f (bytes-at o (e - o) s)
   all-not k q r g =
       let b : i ≤ e = omega arith in
-      sym (rw (part-split s o i e p b, all-append, h, part-split s i k e q r, all-append, g))
+      sym (rw (part-split s o i e p b, all-joined, h, part-split s i k e q r, all-joined, g))
 
   all-last : (k : ℕ) → o ≤ k → k ≤ i → k ≤ e → all f (bytes-at k (e - k) s) ≡ all f (bytes-at o (e - o) s)
-  all-last k q r u = sym (rw (part-split s o k e q u, all-append, and-left (all f (bytes-at o (k - o) s)) (all f (bytes-at k (i - k) s)) (rw (part-split s o k i q r, all-append) at h)))
+  all-last k q r u = sym (rw (part-split s o k e q u, all-joined, and-left (all f (bytes-at o (k - o) s)) (all f (bytes-at k (i - k) s)) (rw (part-split s o k i q r, all-joined) at h)))
 
 module _ (s : List ℕ) (i e : ℕ) (t w : Bool) (h : t && no-zero (bytes-at i (e - i) s) ≡ w) where
   pub clear-next : (u : Bool) → i < e → e ≤ length s → (getD s i 0 ≡ 0 → ⊥) → u ≡ t → u && no-zero (bytes-at (i + 1) (e - (i + 1)) s) ≡ w
@@ -134,7 +134,7 @@ module _ (s : List ℕ) (o i e : ℕ) (h : no-zero (bytes-at o (i - o) s) ≡ tr
 pub zero-two : (s : List ℕ) (i x y : ℕ) → x ≡ from-little-endian (bytes-at i 8 s) → y ≡ from-little-endian (bytes-at (i + 8) 8 s) → eqb (bitOr x y) 0 ≡ all-zero (bytes-at i 16 s)
 unfolding all-zero
 zero-two s i x y p q =
-    rw (or-zero x y, p, q, from-zero (bytes-at i 8 s), from-zero (bytes-at (i + 8) 8 s)) (sym (rw (bytes-at-split s i 8 8) (all-append is-zero (bytes-at i 8 s) (bytes-at (i + 8) 8 s))))
+    rw (or-zero x y, p, q, from-zero (bytes-at i 8 s), from-zero (bytes-at (i + 8) 8 s)) (sym (rw (bytes-at-split s i 8 8) (all-joined is-zero (bytes-at i 8 s) (bytes-at (i + 8) 8 s))))
 
 module _ (s : List ℕ) (o i e : ℕ) (h : all-zero (bytes-at o (i - o) s) ≡ true) (p : o ≤ i) (b : Bool) where
   pub zero-more : (k : ℕ) → b ≡ all-zero (bytes-at i k s) → not b ≡ false → all-zero (bytes-at o (i + k - o) s) ≡ true
@@ -204,7 +204,7 @@ module _ (s : List ℕ) (o i e r k : ℕ) (h : no-zero (bytes-at o (i - o) s) �
   first-end-part : k ≤ e - o → e ≤ i + k → i ≤ e → r ≡ e - k + zero-offset (bytes-at (e - k) (e - (e - k)) s) → r ≡ o + zero-offset (bytes-at o (e - o) s)
   unfolding no-zero
   first-end-part q u v w =
-      let c : no-zero (bytes-at o (e - k - o) s) ≡ true = and-left (no-zero (bytes-at o (e - k - o) s)) (no-zero (bytes-at (e - k) (i - (e - k)) s)) (rw (part-split s o (e - k) i (omega arith) (omega arith), all-append) at h) in
+      let c : no-zero (bytes-at o (e - k - o) s) ≡ true = and-left (no-zero (bytes-at o (e - k - o) s)) (no-zero (bytes-at (e - k) (i - (e - k)) s)) (rw (part-split s o (e - k) i (omega arith) (omega arith), all-joined) at h) in
       omega (arith, offset-behind s o (e - k) e c (omega arith) (omega arith) l)
 
   pub first-last : k ≤ e - o → e - i < k → i ≤ e → r ≡ e - k + zero-offset (bytes-at (e - k) (e - (e - k)) s) → r ≡ o + zero-offset (bytes-at o (e - o) s)

@@ -8,10 +8,9 @@ use native.Mathlib.Nat.{add-zero, sub-zero, div-div-eq-div-mul}
 use lib.ListN.{length, getD, set, length-set}
 use lib.Seq.{sets, sets-eq, set-set, set-comm}
 use Rattle.spec.specs.Bytes.{from-little-endian, to-little-endian, bytes-at, write, zeros}
-use Rattle.spec.proofs.BytesLaws.{length-zeros}
+use Rattle.spec.proofs.BytesLaws.{length-zeros, small-part, to-from-little-endian}
 use Rattle.spec.proofs.WriteLaws.{from-two}
-use Rattle.byteops.proofs.Parts.{bytes-at-cons, length-bytes-at, bytes-at-split}
-use Rattle.byteops.proofs.Words.{small-part, to-from-little-endian}
+use Rattle.spec.proofs.PartLaws.{bytes-at-cons, length-bytes-at, bytes-at-split}
 
 -- the number in two bytes, and in four
 pub two-read : (s : List ℕ) (i x y : ℕ) → i + 2 ≤ length s → x ≡ getD s i 0 → y ≡ getD s (i + 1) 0 → x + 256 * y ≡ from-little-endian (bytes-at i 2 s)

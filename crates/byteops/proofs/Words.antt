@@ -5,18 +5,18 @@ use mathlib.Core.Bool.{Bool, true, false, _&&_}
 use mathlib.Core.List.{List, [], _∷_}
 use native.Mathlib.Omega.{arith}
 use native.Mathlib.Nat.{zero-add}
-use lib.ListN.{length, getD, drop-of-length-le}
-use lib.Dec.{eqb, ltb}
+use lib.ListN.{length, getD}
+use lib.Dec.{eqb}
 use lib.Bits.{bitAnd, bitOr, bitXor, and-le-l, and-le-r, and-block, or-block, xor-block, or-lt, xor-lt, xor-self, xor-add-and}
 use lib.Count.{trailingZeros}
-use lib.Seq.{drop-cons}
-use borrow.Author.Tests.{eqb-true, eqb-false, ltb-true, ltb-false}
+use borrow.Author.Tests.{eqb-true, eqb-false}
 use Rattle.spec.specs.Bytes as Bytes
-use Rattle.spec.specs.Bytes.{from-little-endian, to-little-endian, bytes-at, is-zero}
+use Rattle.spec.specs.Bytes.{from-little-endian, bytes-at, is-zero}
 use Rattle.spec.specs.Order.{common-prefix}
 use Rattle.spec.proofs.ListsLaws.{and-left, and-right}
 use Rattle.byteops.specs.Scan.{zero-offset}
-use Rattle.byteops.proofs.Parts.{length-bytes-at}
+use Rattle.spec.proofs.BytesLaws.{Small, small-part}
+use Rattle.spec.proofs.PartLaws.{length-bytes-at}
 
 -- a test that holds for every number below n, computed
 all-below : (ℕ → Bool) → ℕ → Bool
@@ -88,24 +88,6 @@ byte-set n b q h z =
     let e : 256 * q ≡ shifted 8 q = omega arith in
     let l : trailingZeros (8 + n) (b + shifted 8 q) < 8 = low-set 8 n b q h z in
     rw e (omega arith)
-
--- bytes below 256
-abbrev pub Small : List ℕ → Type 0
-Small [] = Unit {0}
-Small (b ∷ bs) = (b < 256) × Small bs
-
-pub small-part : (s : List ℕ) → ((k : ℕ) → getD s k 0 < 256) → (n i : ℕ) → Small (bytes-at i n s)
-unfolding Bytes.bytes-at
-small-part s h zero i = tt
-small-part s h (suc n) i = go (ltb i (length s)) refl (small-part s h n (suc i))
-  where
-    go : (t : Bool) → ltb i (length s) ≡ t → Small (bytes-at (suc i) n s) → Small (bytes-at i (suc n) s)
-    go true e r =
-        let p : i < length s = ltb-true i (length s) e in
-        rw (drop-cons s i 0) (h i, r)
-    go false e r =
-        let p : length s ≤ i = ltb-false i (length s) e in
-        rw (drop-of-length-le s p) tt
 
 -- a byte of a number and the others apart
 and-byte : (r s a b : ℕ) → r < 256 → s < 256 → bitAnd (r + 256 * a) (s + 256 * b) ≡ bitAnd r s + 256 * bitAnd a b
@@ -245,12 +227,3 @@ equal-eight a b at u v h k p q e f =
     let l : length (bytes-at at 8 a) ≡ 8 = length-bytes-at a at 8 p in
     let m : length (bytes-at at 8 b) ≡ 8 = length-bytes-at b at 8 q in
     rw (e, f) (rw l at (low-equal (bytes-at at 8 a) (bytes-at at 8 b) (small-part a h 8 at) (small-part b k 8 at) (l ∙ sym m)))
-
--- a number written in as many bytes as it was read from
-pub to-from-little-endian : (l : List ℕ) → Small l → to-little-endian (length l) (from-little-endian l) ≡ l
-unfolding from-little-endian to-little-endian
-to-from-little-endian [] p = refl
-to-from-little-endian (x ∷ l) p =
-    let e : (x + 256 * from-little-endian l) % 256 ≡ x = omega arith in
-    let f : (x + 256 * from-little-endian l) / 256 ≡ from-little-endian l = omega arith in
-    rw (e, f) (ap (λ (r : List ℕ). x ∷ r) (to-from-little-endian l (p .1)))

@@ -1,6 +1,7 @@
 pub mod ListsLaws
 pub mod OrderLaws
 pub mod BytesLaws
+pub mod PartLaws
 pub mod WriteLaws
 pub mod PiecesLaws
 pub mod HeaderLaws

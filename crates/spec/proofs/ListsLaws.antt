@@ -59,6 +59,16 @@ unfolding all
 all-true P f g [] h = tt
 all-true P f g (a ∷ l) h = (g a (and-left (f a) (all f l) h), all-true P f g l (and-right (f a) (all f l) h))
 
+and-assoc : (a b c : Bool) → (a && b) && c ≡ a && (b && c)
+and-assoc true b c = refl
+and-assoc false b c = refl
+
+-- a test over a list of two parts
+pub all-joined {ℓ} : {A : Type ℓ} (f : A → Bool) (x y : List A) → all f (x ++ y) ≡ all f x && all f y
+unfolding all
+all-joined f [] y = refl
+all-joined f (b ∷ x) y = ap (λ (t : Bool). f b && t) (all-joined f x y) ∙ sym (and-assoc (f b) (all f x) (all f y))
+
 -- two facts of every element give a third
 pub all-both {ℓ} : {A : Type ℓ} (P Q R : A → Type 0) → ((a : A) → P a → Q a → R a) → (l : List A) → All P l → All Q l → All R l
 all-both P Q R f [] p q = tt

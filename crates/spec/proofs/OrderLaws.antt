@@ -1,23 +1,24 @@
 -- Unsigned byte order is an order; the longest common prefix is one, and the longest.
 use Prim.Native.Nat.{ℕ, zero, suc, _<_, _≤_}
-use mathlib.Core.Path.{_≡_, refl, sym, ap₂}
+use mathlib.Core.Path.{_≡_, refl, sym, ap₂, _∙_}
 use mathlib.Core.Logic.{_⊎_, inl, inr}
 use mathlib.Core.Bool.{Bool, true, false, false≢true}
-use mathlib.Core.List.{List, [], _∷_}
+use mathlib.Core.List.{List, [], _∷_, _++_}
 use native.Mathlib.Omega.{arith}
 use lib.ListN.{length, take}
 use lib.Dec.{eqb}
 use borrow.Author.Tests.{eqb-true, eqb-false, ltb-true, ltb-false, eq-eqb, ne-eqb, lt-ltb}
-use Rattle.spec.specs.Order.{byte-below, common-prefix, IsOrder}
+use Rattle.spec.specs.Order.{byte-below, below-of, common-prefix, IsOrder}
 
--- how a first byte decides, both ways round
+-- a smaller first byte decides
 below-less : (x y : ℕ) (xs ys : List ℕ) → x < y → byte-below (x ∷ xs) (y ∷ ys) ≡ true
 unfolding byte-below
 below-less x y xs ys h = rw (ne-eqb x y (omega arith), lt-ltb x y, byte-below)
 
-below-bytes-equal : (x : ℕ) (xs ys : List ℕ) → byte-below (x ∷ xs) (x ∷ ys) ≡ byte-below xs ys
+-- equal first bytes do not decide
+below-same : (x : ℕ) (xs ys : List ℕ) → byte-below (x ∷ xs) (x ∷ ys) ≡ byte-below xs ys
 unfolding byte-below
-below-bytes-equal x xs ys = rw (eq-eqb x x refl, byte-below)
+below-same x xs ys = rw (eq-eqb x x refl, byte-below)
 
 below-cases : (x y : ℕ) (xs ys : List ℕ) → byte-below (x ∷ xs) (y ∷ ys) ≡ true → (x < y) ⊎ ((x ≡ y) × (byte-below xs ys ≡ true))
 unfolding byte-below
@@ -30,7 +31,7 @@ below-cases x y xs ys h = go (eqb x y) refl
 irr : (a : List ℕ) → byte-below a a ≡ false
 unfolding byte-below
 irr [] = refl
-irr (x ∷ xs) = rw below-bytes-equal (irr xs)
+irr (x ∷ xs) = rw below-same (irr xs)
 
 trans : (a b c : List ℕ) → byte-below a b ≡ true → byte-below b c ≡ true → byte-below a c ≡ true
 unfolding byte-below
@@ -46,7 +47,7 @@ trans (x ∷ xs) (y ∷ ys) (z ∷ zs) p q = go (trans xs ys zs) (below-cases x 
     go ih (inl h) (inl k) = below-less x z xs zs (omega arith)
     go ih (inl h) (inr k) = below-less x z xs zs (omega arith)
     go ih (inr h) (inl k) = below-less x z xs zs (omega arith)
-    go ih (inr h) (inr k) = rw (h .0, k .0, below-bytes-equal) (ih (h .1) (k .1))
+    go ih (inr h) (inr k) = rw (h .0, k .0, below-same) (ih (h .1) (k .1))
 
 tot : (a b : List ℕ) → byte-below a b ≡ false → byte-below b a ≡ false → a ≡ b
 unfolding byte-below
@@ -66,6 +67,24 @@ tot (x ∷ xs) (y ∷ ys) p q = go (tot xs ys) (eqb x y) refl
 pub byte-order : IsOrder byte-below
 unfolding byte-below
 byte-order = record { irreflexive = irr; transitive = trans; total = tot; empty-least = λ x a. refl }
+
+-- every order number names an order
+pub order-of : (dicorder : ℕ) → IsOrder (below-of dicorder)
+unfolding below-of
+order-of dicorder = byte-order
+
+-- an order holds one way round only
+pub one-way : (below : List ℕ → List ℕ → Bool) → IsOrder below → (a b : List ℕ) → below a b ≡ true → below b a ≡ false
+one-way below order a b h = go (below b a) refl
+  where
+    go : (t : Bool) → below b a ≡ t → below b a ≡ false
+    go false e = e
+    go true e = absurd (false≢true (sym (order .irreflexive a) ∙ order .transitive a b a h e))
+
+-- a common front does not count
+pub byte-below-front : (p a b : List ℕ) → byte-below (p ++ a) (p ++ b) ≡ byte-below a b
+byte-below-front [] a b = refl
+byte-below-front (x ∷ p) a b = rw below-same (byte-below-front p a b)
 
 prefix-equal : (x y : ℕ) (p h : List ℕ) → eqb x y ≡ true → common-prefix (x ∷ p) (y ∷ h) ≡ suc (common-prefix p h)
 unfolding common-prefix
