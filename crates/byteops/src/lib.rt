@@ -14,7 +14,7 @@ pub fn wide(b: u8) -> usize
 }
 
 // The low byte of a number.
-pub fn low_byte(n: usize) -> u8
+fn low_byte(n: usize) -> u8
     ensures { λ r. ⌜ r ≡ n % 256 ⌝ }
 {
     (n % 256) as u8

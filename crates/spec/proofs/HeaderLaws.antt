@@ -188,7 +188,6 @@ lawful4 =
     record {
       layout-lawful =
           record {
-            version-width = refl;
             index-block-width = refl;
             count-widths = refl;
             tested-inside = refl;

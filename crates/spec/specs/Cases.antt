@@ -13,7 +13,7 @@ use Rattle.spec.specs.Calls.{create, check, look-up, walk}
 use Rattle.spec.specs.Listing.{listing}
 use Rattle.spec.specs.Play.{t, refusal, lent, Step, ins, ins-as, del, opt, store, State, play, step, step-with, empty, told-length, told-figures, told-text, told-entry, index-blocks-of, runs-at, free-at}
 
--- What is seen of a slice with an image in it. An answer is told as numbers: a refusal's number alone, nothing for absent.
+-- What is seen of a slice with an image in it. An answer is told as numbers: a refusal as `refusal` writes it, nothing for absent.
 pub data Probe : Type 0 where
   -- the same after another program stored bytes from an offset on
   patched : ℕ → List ℕ → Probe → Probe
@@ -85,11 +85,11 @@ two-entries = ins (ascii "ABC") (ascii "one") ∷ ins-as (ascii "ABDEF") 0xE5 (a
 unfoldable pub two-free : List Step
 two-free = ins (ascii "a") (t 500) ∷ ins (ascii "b") (t 509) ∷ del (ascii "a") ∷ []
 
--- a letter x and 247 letters q, and a letter x and 247 letters r
+-- a letter x and 247 letters q
 unfoldable pub xq : List ℕ
 xq = ascii "x" ++ replicate 247 113
 
--- the second of them
+-- a letter x and 247 letters r
 unfoldable pub xr : List ℕ
 xr = ascii "x" ++ replicate 247 114
 
@@ -111,7 +111,7 @@ two-moved =
 unfoldable pub equal-extents : List Step
 equal-extents = ins (ascii "a") (t 600) ∷ ins (ascii "b") (t 600) ∷ ins (ascii "c") (t 600) ∷ ins (ascii "d") (t 600) ∷ ins (ascii "e") (t 600) ∷ del (ascii "a") ∷ del (ascii "c") ∷ ins (ascii "e") (t 600) ∷ []
 
--- check on P3's image, then rows 1 and 3 to 10 one fault at a time
+-- check on P3's image, then rows 1 and 3 to 10 one fault at a time, then two at a time
 unfoldable pub check-probes : List Probe
 check-probes =
     checks 768 (2 ∷ 1 ∷ 1 ∷ 0 ∷ [])
@@ -188,7 +188,7 @@ run-probes =
     ∷ patched 512 (0 ∷ []) (patched 1_031 (0x90 ∷ []) (checks 1_792 (refusal 7)))
     -- 8: the last headword, c, not below the next element's, b
     ∷ patched 514 (3 ∷ 0 ∷ 0 ∷ 97 ∷ 0 ∷ 0x80 ∷ 3 ∷ 0 ∷ 0 ∷ 99 ∷ 0 ∷ 0x80 ∷ 0 ∷ 0 ∷ []) (checks 1_792 (refusal 8))
-    -- 9: block 2 in both runs
+    -- 9: block 2 in both runs; nblock2 is then wrong too, but 10 comes after
     ∷ patched 512 (3 ∷ []) (checks 1_792 (refusal 9))
     -- 6: elements not ascending; three zero bytes behind them; a headword of 249; four zero bytes and a headword of 248 are good, and then 8
     ∷ patched 262 (97 ∷ []) (checks 1_792 (refusal 6))
