@@ -6,10 +6,10 @@ use mathlib.Core.List.{List, [], _∷_, _++_}
 use native.Mathlib.Omega.{arith}
 use native.Mathlib.Nat.{zero-add, add-zero, sub-zero}
 use lib.ListN.{length, getD, take, drop, take-append-drop, drop-of-length-le}
-use lib.Dec.{eqb, ltb}
+use lib.Dec.{eqb, ltb, eqb·suc-suc}
 use lib.Seq.{drop-cons, length-take-le, drop-drop, take-add, take-take}
 use borrow.Author.Tests.{eq-eqb, ne-eqb, eqb-true, eqb-false, lt-ltb, le-ltb, ltb-true, ltb-false}
-use Rattle.spec.specs.Bytes.{bytes-at}
+use Rattle.spec.specs.Bytes.{bytes-at, bytes-equal}
 use Rattle.spec.specs.Order.{byte-below, below-of, common-prefix}
 use Rattle.scans.specs.Compare.{comparison}
 use Rattle.scans.specs.declared.Comparison.the-variants.{Below, Same, Above}
@@ -237,3 +237,32 @@ module _ (order : ℕ) (a b : List ℕ) (n : ℕ) (h : n ≡ common-prefix a b) 
       let e : byte-below a b ≡ false = forth ∙ rw (drop-cons a n 0, drop-cons b n 0) (below-more _ _ _ _ l) in
       let f : byte-below b a ≡ true = back ∙ rw (drop-cons a n 0, drop-cons b n 0) (below-less _ _ _ _ l) in
       rw (e, f, comparison)
+
+-- byte strings are equal where they have the same length and the whole of it in common
+pub equal-by : (a b : List ℕ) (n : ℕ) → length a ≡ length b → n ≡ common-prefix a b → eqb n (length a) ≡ bytes-equal a b
+unfolding bytes-equal common-prefix
+equal-by [] [] n e h = rw h
+equal-by [] (y ∷ ys) n e h = absurd (omega arith)
+equal-by (x ∷ xs) [] n e h = absurd (omega arith)
+equal-by (x ∷ xs) (y ∷ ys) n e h = go (equal-by xs ys (common-prefix xs ys) (omega arith) refl) (eqb x y) refl
+  where
+    go : eqb (common-prefix xs ys) (length xs) ≡ bytes-equal xs ys → (t : Bool) → eqb x y ≡ t → eqb n (suc (length xs)) ≡ bytes-equal (x ∷ xs) (y ∷ ys)
+    go ih true w =
+        let k : n ≡ suc (common-prefix xs ys) = rw (w, common-prefix) at h in
+        let j : eqb n (suc (length xs)) ≡ eqb (common-prefix xs ys) (length xs) = rw k (eqb·suc-suc (common-prefix xs ys) (length xs)) in
+        j ∙ rw (w, bytes-equal) ih
+    go ih false w =
+        let k : n ≡ 0 = rw (w, common-prefix) at h in
+        rw (w, bytes-equal) (ne-eqb n (suc (length xs)) (λ q. omega arith))
+
+-- byte strings of different lengths are not equal
+pub equal-not : (a b : List ℕ) → (length a ≡ length b → ⊥) → false ≡ bytes-equal a b
+unfolding bytes-equal
+equal-not [] [] h = absurd (h refl)
+equal-not [] (y ∷ ys) h = refl
+equal-not (x ∷ xs) [] h = refl
+equal-not (x ∷ xs) (y ∷ ys) h = go (equal-not xs ys (λ q. h (ap suc q))) (eqb x y) refl
+  where
+    go : false ≡ bytes-equal xs ys → (t : Bool) → eqb x y ≡ t → false ≡ bytes-equal (x ∷ xs) (y ∷ ys)
+    go ih true w = rw (w, bytes-equal) ih
+    go ih false w = rw (w, bytes-equal)

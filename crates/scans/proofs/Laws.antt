@@ -13,7 +13,7 @@ use borrow.Author.Tests.{ne-eqb, ltb-true, ltb-false, not-true}
 use Rattle.spec.specs.Lists as Lists
 use Rattle.spec.specs.Bytes as Bytes
 use Rattle.spec.specs.Bytes.{is-zero, not-zero, no-zero, before-zero, split-zero}
-use Rattle.spec.specs.Order.{IsOrder}
+use Rattle.spec.specs.Order.{IsOrder, below-of}
 use Rattle.spec.proofs.ListsLaws.{and-left, and-right}
 use Rattle.spec.proofs.OrderLaws.{one-way}
 use Rattle.scans.specs.Scan.{zero-offset}
@@ -70,6 +70,17 @@ module _ (below : List ℕ → List ℕ → Bool) (a b : List ℕ) where
 
     pub comparison-below-not : comparison below a b ≡ Below → below b a ≡ false
     comparison-below-not h = one-way below order a b (comparison-below h)
+
+-- below or not, by a comparison
+module _ (order : ℕ) (a b : List ℕ) (c : Comparison) (e : c ≡ comparison (below-of order) a b) where
+  pub below-by : c ≡ Below → true ≡ below-of order a b
+  below-by h = sym (comparison-below (below-of order) a b (sym e ∙ h))
+
+  pub not-below-same : c ≡ Same → false ≡ below-of order a b
+  not-below-same h = sym (comparison-same-not-below (below-of order) a b (sym e ∙ h))
+
+  pub not-below-above : c ≡ Above → false ≡ below-of order a b
+  not-below-above h = sym (comparison-above-not (below-of order) a b (sym e ∙ h))
 
 -- the first zero byte
 pub zero-offset-cons : (b : ℕ) (bs : List ℕ) → (b ≡ 0 → ⊥) → zero-offset (b ∷ bs) ≡ suc (zero-offset bs)

@@ -4,7 +4,7 @@ ghost use Prim.Native.Nat.{_+_, _-_, _/_, _≤_, _<_, min};
 ghost use lib.ListN.{length, take};
 ghost use lib.Bits.{bitAnd, bitOr};
 ghost use lib.Count.{trailingZeros};
-ghost use Rattle.spec.specs.Bytes.{bytes-at, no-zero, all-zero};
+ghost use Rattle.spec.specs.Bytes.{bytes-at, no-zero, all-zero, bytes-equal};
 ghost use Rattle.spec.specs.Order.{below-of, common-prefix};
 ghost use Rattle.scans.specs.Scan.{zero-offset};
 ghost use Rattle.scans.specs.Compare.{comparison};
@@ -238,4 +238,26 @@ pub fn compare(order: usize, a: &[u8], b: &[u8]) -> Comparison
     } else {
         Comparison::Above
     }
+}
+
+// Whether `a` is below `b` in the order of that number.
+pub fn is_below(order: usize, a: &[u8], b: &[u8]) -> bool
+    ensures { λ r. ⌜ r ≡ below-of order (now (a .entry)) (now (b .entry)) ⌝ }
+{
+    let c = compare(order, a, b);
+    match c {
+        Comparison::Below => true,
+        Comparison::Same => false,
+        Comparison::Above => false,
+    }
+}
+
+// Whether two byte strings are equal.
+pub fn is_equal(a: &[u8], b: &[u8]) -> bool
+    ensures { λ r. ⌜ r ≡ bytes-equal (now (a .entry)) (now (b .entry)) ⌝ }
+{
+    if a.len() != b.len() {
+        return false;
+    }
+    common_prefix(a, b) == a.len()
 }

@@ -2,7 +2,7 @@
 use Prim.Native.Nat.{ℕ, zero, suc, _+_, _-_, _*_, _<_, _≤_}
 use mathlib.Core.Path.{_≡_, refl, sym, ap, _∙_}
 use mathlib.Core.Logic.{_⊎_, inl, inr, ⊎-elim}
-use mathlib.Core.Bool.{Bool, true, false, not, false≢true}
+use mathlib.Core.Bool.{Bool, true, false, not, _||_, false≢true}
 use mathlib.Core.List.{List, [], _∷_, map}
 use native.Mathlib.Omega.{arith}
 use native.Mathlib.Nat.{zero-add}
@@ -12,7 +12,7 @@ use borrow.Author.Tests.{eqb-true, eq-eqb, ne-eqb}
 use Rattle.spec.specs.Lists.{any, filter, count, range-from}
 use Rattle.spec.specs.Run.{Run}
 use Rattle.spec.specs.Blocks.{covers, is-free, best-fit, place-for, run-blocks, each-once, free-marks, count-marks}
-use Rattle.spec.proofs.ListsLaws.{All, one, filter-yes, filter-no, count-cons, count-once, count-map, range-all, map-range, drop-map-range}
+use Rattle.spec.proofs.ListsLaws.{All, one, filter-yes, filter-no, count-cons, count-none, count-once, count-map, all-range, range-all, map-range, drop-map-range, or-cases, less-or}
 use Rattle.spec.proofs.BlocksLaws.{covers-inside, covers-outside}
 
 -- the sum of f over n numbers from i up
@@ -157,3 +157,46 @@ module _ (D : ℕ) (rs : List Run) (fl : List ℕ) (once : each-once D rs fl ≡
   blocks-once inside below =
       let e : total (λ b. count (covers b) rs + count (eqb b) fl) 0 D ≡ D * 1 = total-const _ 1 0 D (λ b p q. block-once b (omega arith)) in
       omega (arith, e, total-add (λ b. count (covers b) rs) (λ b. count (eqb b) fl) 0 D, count-covered D rs inside, count-numbers D fl below)
+
+-- numbers that are each at least 1 sum to at least as many as they are
+total-least : (f : ℕ → ℕ) (i n : ℕ) → ((b : ℕ) → i ≤ b → b < i + n → 1 ≤ f b) → n ≤ total f i n
+unfolding total
+total-least f i zero h = omega arith
+total-least f i (suc n) h = omega (arith, h i (omega arith) (omega arith), total-least f (suc i) n (λ b p q. h b (omega arith) (omega arith)))
+
+-- and are each 1 where they sum to just that
+pub total-ones : (f : ℕ → ℕ) (i n : ℕ) → ((b : ℕ) → i ≤ b → b < i + n → 1 ≤ f b) → total f i n ≡ n → (b : ℕ) → i ≤ b → b < i + n → f b ≡ 1
+unfolding total
+total-ones f i zero h e b p q = absurd (omega arith)
+total-ones f i (suc n) h e b p q =
+    let first : 1 ≤ f i = h i (omega arith) (omega arith) in
+    let others : n ≤ total f (suc i) n = total-least f (suc i) n (λ c r t. h c (omega arith) (omega arith)) in
+    ⊎-elim (λ (l : i < b). total-ones f (suc i) n (λ c r t. h c (omega arith) (omega arith)) (omega arith) b (omega arith) (omega arith)) (λ (l : b ≤ i). let z : b ≡ i = omega arith in rw z (omega arith)) (less-or i b)
+
+-- a test that holds for some element counts
+pub count-some {ℓ} : {A : Type ℓ} (f : A → Bool) (l : List A) → any f l ≡ true → 1 ≤ count f l
+count-some f l h = ⊎-elim (λ (k : count f l < 1). absurd (omega (arith, rw h at (count-once f l (omega arith))))) (λ (k : 1 ≤ count f l). k) (less-or (count f l) 1)
+
+module _ (D : ℕ) (rs : List Run) (fl : List ℕ) where
+  -- where each data block lies in a run or on the free list, and these are no more blocks than D, each lies in one run, or once on the list
+  pub once-by-cover : All (λ r. r .block + r .size ≤ D) rs → All (λ a. a < D) fl → run-blocks rs + length fl ≡ D → ((b : ℕ) → b < D → (any (covers b) rs || any (eqb b) fl) ≡ true) → each-once D rs fl ≡ true
+  unfolding each-once
+  once-by-cover inside below e h = all-range _ 0 D (λ b p q. eq-eqb (times b) 1 (total-ones times 0 D (λ c r t. some c (omega arith)) sum b p q))
+    where
+      times : ℕ → ℕ
+      times b = count (covers b) rs + count (eqb b) fl
+
+      sum : total times 0 D ≡ D
+      sum = omega (arith, total-add (λ b. count (covers b) rs) (λ b. count (eqb b) fl) 0 D, count-covered D rs inside, count-numbers D fl below)
+
+      some : (b : ℕ) → b < D → 1 ≤ times b
+      some b q = or-cases (any (covers b) rs) (any (eqb b) fl) (λ s. omega (arith, count-some (covers b) rs s)) (λ s. omega (arith, count-some (eqb b) fl s)) (h b q)
+
+  -- and back: each data block lies in a run or on the list
+  pub once-covered : each-once D rs fl ≡ true → (b : ℕ) → b < D → (any (covers b) rs || any (eqb b) fl) ≡ true
+  once-covered once b h = go (any (covers b) rs) refl (any (eqb b) fl) refl
+    where
+      go : (s : Bool) → any (covers b) rs ≡ s → (t : Bool) → any (eqb b) fl ≡ t → (any (covers b) rs || any (eqb b) fl) ≡ true
+      go true p t q = rw p
+      go false p true q = rw (p, q)
+      go false p false q = absurd (omega (arith, block-once D rs fl once b h, count-none (covers b) rs p, count-none (eqb b) fl q))

@@ -17,3 +17,6 @@ pub mod CutLaws
 pub mod PlaceLaws
 pub mod PlanLaws
 pub mod ExamplesProof
+pub mod OutcomeLaws
+pub mod ReadLaws
+pub mod SearchLaws

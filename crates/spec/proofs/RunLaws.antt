@@ -51,16 +51,20 @@ entry-back F prev e hok bok up =
     rw (split-zero-at (headword-suffix prev (e .headword)) (e .body) nz, entry-from, front-joins prev (e .headword), le-ltb (length prev) (shared-front prev (e .headword)) (front-fits prev (e .headword)), hok, bok, up)
 
 -- a field is never empty, and its length fits two bytes
-body-short : (b : List ℕ) → body-ok b ≡ true → length b ≤ 3_001
+-- a body's rule holds of no more than 3,001 bytes
+pub body-short : (b : List ℕ) → body-ok b ≡ true → length b ≤ 3_001
 unfolding body-ok text-ok
 body-short [] p = omega arith
 body-short (a ∷ t) p =
     let k : length t ≤ 3_000 = leb-true (length t) 3_000 (and-left (leb (length t) 3_000) (no-zero t) (and-right (attribute-ok a) (text-ok t) p)) in
     omega arith
 
-head-short : (h : List ℕ) → headword-ok h ≡ true → length h ≤ 248
+-- a headword's of 1 to 248
+pub head-bounds : (h : List ℕ) → headword-ok h ≡ true → (1 ≤ length h) × (length h ≤ 248)
 unfolding headword-ok
-head-short h p = leb-true (length h) 248 (and-right (leb 1 (length h)) (leb (length h) 248) (and-left (leb 1 (length h) && leb (length h) 248) (no-zero h) p))
+head-bounds h p =
+    let k = and-left (leb 1 (length h) && leb (length h) 248) (no-zero h) p in
+    (leb-true 1 (length h) (and-left (leb 1 (length h)) (leb (length h) 248) k), leb-true (length h) 248 (and-right (leb 1 (length h)) (leb (length h) 248) k))
 
 field-length : (prev : List ℕ) (e : Entry) → length (field-bytes prev e) ≡ (length (e .headword) - shared-front prev (e .headword)) + suc (length (e .body))
 unfolding field-bytes headword-suffix
@@ -86,7 +90,7 @@ unfolding entry-bytes to-little-endian bytes-at from-little-endian
 read-entry-back F prev rest e hok bok up =
     let x : List ℕ = field-bytes prev e in
     let f : ℕ = shared-front prev (e .headword) in
-    let short : length x < 256 ^ 2 = omega (arith, field-length prev e, body-short (e .body) bok, head-short (e .headword) hok) in
+    let short : length x < 256 ^ 2 = omega (arith, field-length prev e, body-short (e .body) bok, head-bounds (e .headword) hok) in
     let three : 3 + length x ≡ suc (suc (suc (length x))) = omega arith in
     read-entry-by F prev (entry-bytes prev e ++ rest) e (length x) f x rest (from-to-little-endian 2 (length x) short) (omega (arith, field-length prev e))
     (simp length-append (omega arith)) (omega arith) (take-at x rest (length x) refl) (rw three (drop-at x rest (length x) refl)) (entry-back F prev e hok bok up)

@@ -1,0 +1,15 @@
+-- `nblock2` meets its contract.
+use native.Mathlib.Omega.{arith}
+use Rattle.header.proofs.Laws.{read-nblock2}
+use borrow.Author.Needs.{needs}
+use Rattle.header.proofs.nblock2.Statement.{statement}
+use Rattle.header.proofs.nblock2.Tie as tie
+
+read-u32-requires : tie.Need-read-u32-requires
+read-u32-requires c κs = search needs
+
+returns : tie.Need-returns
+returns c = (search read-nblock2, omega arith)
+
+pub nblock2-spec : {M : Type 1} → statement M
+nblock2-spec = tie.close (tie.spec read-u32-requires returns)

@@ -1,0 +1,160 @@
+// The header of an image: its fields, and rows 3 to 5 of the refusals.
+ghost use mathlib.Core.Path.{_≡_};
+ghost use Prim.Native.Nat.{_≤_, _<_, _%_};
+ghost use lib.ListN.{length};
+ghost use Rattle.spec.specs.Outcome.{accepted};
+ghost use Rattle.spec.specs.Header.{layout4, format4, get};
+ghost use Rattle.spec.specs.Check.{slice-ok, kind-ok, options-ok, frame-from};
+ghost use Rattle.header.specs.Framed.{framed};
+use byteops::read_u16;
+use byteops::read_u32;
+
+// Offsets of the fields.
+const VERSION: usize = 140;
+
+const BLOCK_SIZE: usize = 146;
+
+const INDEX_BLOCK: usize = 148;
+
+const HEADER_SIZE: usize = 150;
+
+const NWORD: usize = 160;
+
+const DICORDER: usize = 164;
+
+const DICTYPE: usize = 165;
+
+const ATTRLEN: usize = 166;
+
+const OS: usize = 171;
+
+const EXTHEADER: usize = 182;
+
+const EMPTY_BLOCK2: usize = 186;
+
+const NINDEX2: usize = 190;
+
+const NBLOCK2: usize = 194;
+
+const INDEX_BLKBIT: usize = 198;
+
+// How many blocks the index and the data area of an image have, or the first of rows 3 to 5 that it breaks.
+pub enum Framed {
+    Blocks { index: usize, data: usize },
+    Refused(u32),
+}
+
+// Whether the first `len` bytes of a slice can be an image: row 1.
+pub fn slice_ok(s: &[u8], len: usize) -> bool
+    ensures { λ r. ⌜ r ≡ accepted (slice-ok (now (s .entry)) len) ⌝ }
+{
+    if len < 256 {
+        return false;
+    }
+    if len % 256 != 0 {
+        return false;
+    }
+    len <= s.len()
+}
+
+// The number of index elements.
+pub fn nindex2(s: &[u8]) -> usize
+    requires { ⌜ 256 ≤ length (now s) ⌝ }
+    ensures { λ r. ⌜ r ≡ get (layout4 .nindex2) (now (s .entry)) ⌝ }
+    ensures { λ r. ⌜ r < 4294967296 ⌝ }
+{
+    read_u32(s, NINDEX2)
+}
+
+// The number of entries.
+pub fn nword(s: &[u8]) -> usize
+    requires { ⌜ 256 ≤ length (now s) ⌝ }
+    ensures { λ r. ⌜ r ≡ get (layout4 .nword) (now (s .entry)) ⌝ }
+    ensures { λ r. ⌜ r < 4294967296 ⌝ }
+{
+    read_u32(s, NWORD)
+}
+
+// The number of data blocks in runs.
+pub fn nblock2(s: &[u8]) -> usize
+    requires { ⌜ 256 ≤ length (now s) ⌝ }
+    ensures { λ r. ⌜ r ≡ get (layout4 .nblock2) (now (s .entry)) ⌝ }
+    ensures { λ r. ⌜ r < 4294967296 ⌝ }
+{
+    read_u32(s, NBLOCK2)
+}
+
+// The first free block.
+pub fn empty_block2(s: &[u8]) -> usize
+    requires { ⌜ 256 ≤ length (now s) ⌝ }
+    ensures { λ r. ⌜ r ≡ get (layout4 .empty-block2) (now (s .entry)) ⌝ }
+    ensures { λ r. ⌜ r < 4294967296 ⌝ }
+{
+    read_u32(s, EMPTY_BLOCK2)
+}
+
+// Whether the header is of this kind of file: row 3.
+fn kind_ok(s: &[u8]) -> bool
+    requires { ⌜ 256 ≤ length (now s) ⌝ }
+    ensures { λ r. ⌜ r ≡ kind-ok layout4 (now (s .entry)) ⌝ }
+{
+    if read_u16(s, VERSION) / 256 != 4 {
+        return false;
+    }
+    if read_u16(s, BLOCK_SIZE) != 256 {
+        return false;
+    }
+    if read_u16(s, HEADER_SIZE) != 256 {
+        return false;
+    }
+    if s[ATTRLEN] != 1 {
+        return false;
+    }
+    true
+}
+
+// Whether the header asks for nothing that is left out: row 4.
+fn options_ok(s: &[u8]) -> bool
+    requires { ⌜ 256 ≤ length (now s) ⌝ }
+    ensures { λ r. ⌜ r ≡ options-ok layout4 (now (s .entry)) ⌝ }
+{
+    if s[DICORDER] != 0 {
+        return false;
+    }
+    if s[DICTYPE] != 0 {
+        return false;
+    }
+    if s[OS] != 0 {
+        return false;
+    }
+    if s[INDEX_BLKBIT] != 0 {
+        return false;
+    }
+    read_u32(s, EXTHEADER) == 0
+}
+
+// The frame of the image in all bytes of `s`: rows 3 to 5.
+pub fn frame(s: &[u8]) -> Framed
+    requires { ⌜ 256 ≤ length (now s) ⌝ }
+    ensures { λ r. ⌜ framed r ≡ frame-from format4 (now (s .entry)) ⌝ }
+{
+    if !kind_ok(s) {
+        return Framed::Refused(3);
+    }
+    if !options_ok(s) {
+        return Framed::Refused(4);
+    }
+    let n = read_u16(s, INDEX_BLOCK);
+    let start = 256 + 256 * n;
+    if 32767 < n {
+        return Framed::Refused(5);
+    }
+    if s.len() < start {
+        return Framed::Refused(5);
+    }
+    let d = (s.len() - start) / 256;
+    if 65536 < d {
+        return Framed::Refused(5);
+    }
+    Framed::Blocks { index: n, data: d }
+}

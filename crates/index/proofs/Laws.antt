@@ -1,0 +1,304 @@
+-- Laws of the index, for the crates above: what reading its elements gives, how they follow one another, and which is the element of the run concerned.
+use Prim.Native.Nat.{ℕ, zero, suc, _+_, _-_, _^_, _<_, _≤_}
+use mathlib.Core.Path.{_≡_, refl, sym, ap, _∙_}
+use mathlib.Core.Logic.{_⊎_, inl, inr}
+use mathlib.Core.Bool.{Bool, true, false, not}
+use mathlib.Core.List.{List, [], _∷_, _++_}
+use mathlib.Core.Option.{Option, none, some}
+use native.Mathlib.Omega.{arith}
+use lib.ListN.{length, getD, take, drop, length-drop}
+use lib.Seq.{drop-drop}
+use lib.Dec.{ltb, eqb}
+use borrow.Author.Tests.{lt-ltb, le-ltb, ltb-true, ltb-false, not-false}
+use Rattle.spec.specs.Outcome.{Outcome, refused, ok, _>>=_, _>>_, refuse_when_, accepted}
+use Rattle.spec.specs.Bytes as Bytes
+use Rattle.spec.specs.Bytes.{from-little-endian, bytes-at, no-zero, all-zero, split-zero}
+use Rattle.spec.specs.Header as Header
+use Rattle.spec.specs.Header.{Format, format4}
+use Rattle.spec.specs.Entry.{headword-ok}
+use Rattle.spec.specs.Index.{Element, elements-from, index-from}
+use Rattle.spec.proofs.ListsLaws.{All}
+use Rattle.spec.proofs.OutcomeLaws.{ok-not-refused, Only, refused-only, only-refused, only-ok, only-when, only-bind, when-ok, bind-ok}
+use Rattle.spec.proofs.PartLaws.{length-bytes-at}
+use Rattle.spec.proofs.WriteLaws.{from-two}
+use Rattle.spec.proofs.IndexLaws.{ElementsOk}
+use Rattle.scans.specs.Scan.{zero-offset}
+use Rattle.scans.proofs.Laws.{split-zero-some, split-zero-none, zero-offset-le, no-zero-before}
+use Rattle.index.specs.Elements.{element-end, element-headword, element-at, elements-at, Inside, concerned-from}
+use Rattle.index.specs.declared.Place.{Place}
+
+-- an element, where its headword may follow prev, in front of those read behind it
+unfoldable pub element-then : Format → List ℕ → Element → Outcome (List Element) → Outcome (List Element)
+element-then F prev e rest = do
+  refuse 6 when not (headword-ok (e .headword))
+  refuse 6 when not (F .below prev (e .headword))
+  es ← rest
+  ok (e ∷ es)
+
+-- what is read behind the number of an element, up to its zero byte
+elements-behind : Format → ℕ → List ℕ → List ℕ → Option (List ℕ × List ℕ) → Outcome (List Element)
+elements-behind F n prev s none = refused 6
+elements-behind F n prev s (some p) = element-then F prev (record { block = from-little-endian (take (F .number-width) s); headword = p .0 }) (elements-from F n (p .0) (p .1))
+
+-- reading no more elements
+elements-none : (F : Format) (prev s : List ℕ) → elements-from F 0 prev s ≡ (refuse 6 when ltb (length s) 4 >> (refuse 6 when not (all-zero s) >> ok []))
+unfolding elements-from
+elements-none F prev s = refl
+
+-- reading one more
+elements-suc : (F : Format) (n : ℕ) (prev s : List ℕ) → elements-from F (suc n) prev s ≡ (refuse 6 when ltb (length s) (F .number-width) >> elements-behind F n prev s (split-zero (drop (F .number-width) s)))
+unfolding elements-from elements-behind element-then
+elements-suc F n prev s = go (split-zero (drop (F .number-width) s)) refl
+  where
+    go : (o : Option (List ℕ × List ℕ)) → split-zero (drop (F .number-width) s) ≡ o
+        → elements-from F (suc n) prev s ≡ (refuse 6 when ltb (length s) (F .number-width) >> elements-behind F n prev s (split-zero (drop (F .number-width) s)))
+    go none e = rw (e, elements-from, elements-behind)
+    go (some p) e = rw (e, elements-from, elements-behind)
+
+-- ---- the refusals of an index
+then-only : (F : Format) (prev : List ℕ) (e : Element) (rest : Outcome (List Element)) → Only 6 rest → Only 6 (element-then F prev e rest)
+unfolding element-then
+then-only F prev e rest h =
+    only-when 6 (not (headword-ok (e .headword))) (refuse 6 when not (F .below prev (e .headword)) >> (rest >>= λ es. ok (e ∷ es)))
+    (only-when 6 (not (F .below prev (e .headword))) (rest >>= λ es. ok (e ∷ es)) (only-bind 6 rest (λ es. ok (e ∷ es)) h (λ es. only-ok 6 (e ∷ es))))
+
+-- elements are refused by 6 only
+pub elements-only : (F : Format) (n : ℕ) (prev s : List ℕ) → Only 6 (elements-from F n prev s)
+unfolding elements-behind
+elements-only F zero prev s =
+    rw elements-none (only-when 6 (ltb (length s) 4) (refuse 6 when not (all-zero s) >> ok []) (only-when 6 (not (all-zero s)) (ok []) (only-ok 6 [])))
+elements-only F (suc n) prev s =
+    rw elements-suc (only-when 6 (ltb (length s) (F .number-width)) (elements-behind F n prev s (split-zero (drop (F .number-width) s)))
+    (go (λ p t. elements-only F n p t) (split-zero (drop (F .number-width) s))))
+  where
+    go : ((p t : List ℕ) → Only 6 (elements-from F n p t)) → (o : Option (List ℕ × List ℕ)) → Only 6 (elements-behind F n prev s o)
+    go ih none = only-refused 6
+    go ih (some p) = then-only F prev (record { block = from-little-endian (take (F .number-width) s); headword = p .0 }) (elements-from F n (p .0) (p .1)) (ih (p .0) (p .1))
+
+-- and so is an index
+pub index-only : (F : Format) (b n : ℕ) (area : List ℕ) → Only 6 (index-from F b n area)
+unfolding index-from
+index-only F zero n area = only-when 6 (not (eqb n 0)) (ok []) (only-ok 6 [])
+index-only F (suc b) n area = elements-only F n [] area
+
+-- elements that are not accepted are refused by 6
+pub elements-refused : (F : Format) (n : ℕ) (prev s : List ℕ) → accepted (elements-from F n prev s) ≡ false → elements-from F n prev s ≡ refused 6
+elements-refused F n prev s h = refused-only 6 (elements-from F n prev s) (elements-only F n prev s) h
+
+-- and so is an index that is not accepted
+pub index-refused : (F : Format) (b n : ℕ) (area : List ℕ) → accepted (index-from F b n area) ≡ false → index-from F b n area ≡ refused 6
+index-refused F b n area h = refused-only 6 (index-from F b n area) (index-only F b n area) h
+
+-- ---- reading at a place of the index
+-- an element's zero byte stands behind its number
+pub element-end-past : (index : List ℕ) (at : ℕ) → at + 2 ≤ element-end index at
+unfolding element-end
+element-end-past index at = omega arith
+
+-- and inside the index, or at its end where there is none
+pub element-end-inside : (index : List ℕ) (at : ℕ) → at + 2 ≤ length index → element-end index at ≤ length index
+unfolding element-end
+element-end-inside index at h = omega (arith, zero-offset-le (drop (at + 2) index), length-drop (at + 2) index)
+
+-- how many bytes a headword has
+pub element-headword-length : (index : List ℕ) (at : ℕ) → at + 2 ≤ length index → length (element-headword index at) ≡ element-end index at - (at + 2)
+unfolding element-headword
+element-headword-length index at p = length-bytes-at index (at + 2) (element-end index at - (at + 2)) (omega (arith, element-end-past index at, element-end-inside index at p))
+
+-- none of them is zero
+pub element-headword-clear : (index : List ℕ) (at : ℕ) → no-zero (element-headword index at) ≡ true
+unfolding element-headword element-end Bytes.bytes-at
+element-headword-clear index at =
+    let d : at + 2 + zero-offset (drop (at + 2) index) - (at + 2) ≡ zero-offset (drop (at + 2) index) = omega arith in
+    rw d (no-zero-before (drop (at + 2) index))
+
+-- a block number of this format has two bytes
+pub width4 : format4 .number-width ≡ 2
+unfolding Header.format4
+width4 = refl
+
+module _ (F : Format) (w : F .number-width ≡ 2) (index prev : List ℕ) (at n : ℕ) where
+  -- no room for a number
+  pub element-short : length index < at + 2 → elements-from F (suc n) prev (drop at index) ≡ refused 6
+  element-short p =
+      let l : ltb (length (drop at index)) 2 ≡ true = lt-ltb (length (drop at index)) 2 (omega (arith, length-drop at index)) in
+      rw (elements-suc, w, l)
+
+  -- no zero byte
+  pub element-open : at + 2 ≤ length index → length index ≤ element-end index at → elements-from F (suc n) prev (drop at index) ≡ refused 6
+  unfolding element-end elements-behind
+  element-open p q =
+      let l : ltb (length (drop at index)) 2 ≡ false = le-ltb (length (drop at index)) 2 (omega (arith, length-drop at index)) in
+      let s : split-zero (drop (at + 2) index) ≡ none = split-zero-none (drop (at + 2) index) (omega (arith, length-drop (at + 2) index)) in
+      rw (elements-suc, w, l, drop-drop 2 at index, s)
+
+  -- an element with its zero byte
+  pub element-read : at + 2 ≤ length index → element-end index at < length index
+      → elements-from F (suc n) prev (drop at index) ≡ element-then F prev (element-at index at) (elements-from F n (element-headword index at) (drop (element-end index at + 1) index))
+  unfolding element-end element-headword element-at elements-behind Bytes.bytes-at
+  element-read p q =
+      let l : ltb (length (drop at index)) 2 ≡ false = le-ltb (length (drop at index)) 2 (omega (arith, length-drop at index)) in
+      let z : ℕ = zero-offset (drop (at + 2) index) in
+      let s : split-zero (drop (at + 2) index) ≡ some (take z (drop (at + 2) index), drop (suc z) (drop (at + 2) index)) = split-zero-some (drop (at + 2) index) (omega (arith, length-drop (at + 2) index)) in
+      let d : at + 2 + z - (at + 2) ≡ z = omega arith in
+      let f : at + 2 + suc z ≡ at + 2 + z + 1 = omega arith in
+      rw (elements-suc, w, l, drop-drop 2 at index, s, drop-drop (suc z) (at + 2) index, d, f)
+
+-- ---- what is read
+-- elements whose headwords are by their rules after prev
+abbrev pub Ascending : Format → List ℕ → List Element → Type 0
+Ascending F prev [] = Unit {0}
+Ascending F prev (e ∷ es) = (headword-ok (e .headword) ≡ true) × (F .below prev (e .headword) ≡ true) × Ascending F (e .headword) es
+
+then-ok : (F : Format) (prev : List ℕ) (e : Element) (rest : Outcome (List Element)) (es : List Element) → element-then F prev e rest ≡ ok es
+    → (headword-ok (e .headword) ≡ true) × (F .below prev (e .headword) ≡ true) × ((ds : List Element) × (rest ≡ ok ds) × (es ≡ e ∷ ds))
+unfolding element-then
+then-ok F prev e rest es h =
+    let a = when-ok 6 (not (headword-ok (e .headword))) (refuse 6 when not (F .below prev (e .headword)) >> (rest >>= λ es. ok (e ∷ es))) es h in
+    let b = when-ok 6 (not (F .below prev (e .headword))) (rest >>= λ es. ok (e ∷ es)) es (a .1) in
+    let c = bind-ok rest (λ es. ok (e ∷ es)) es (b .1) in
+    (not-false (headword-ok (e .headword)) (a .0), not-false (F .below prev (e .headword)) (b .0), (c .0, c .1, let q : ok (e ∷ c .0) ≡ ok es = c .2 in cc))
+
+-- elements read from `at` on are those that stand there, inside the index and by their rules
+pub elements-found-from : (F : Format) → F .number-width ≡ 2 → (index prev : List ℕ) (at n : ℕ) (es : List Element) → elements-from F n prev (drop at index) ≡ ok es
+    → (es ≡ elements-at index at n) × Inside index at n × Ascending F prev es
+unfolding elements-at element-at
+elements-found-from F w index prev at zero es h =
+    let a = when-ok 6 (ltb (length (drop at index)) 4) (refuse 6 when not (all-zero (drop at index)) >> ok []) es (rw elements-none at h) in
+    let b = when-ok 6 (not (all-zero (drop at index))) (ok []) es (a .1) in
+    let l : 4 ≤ length (drop at index) = ltb-false (length (drop at index)) 4 (a .0) in
+    let e : es ≡ [] = let q : ok [] ≡ ok es = b .1 in cc in
+    (e, omega (arith, length-drop at index), rw e tt)
+elements-found-from F w index prev at (suc n) es h = go (λ p a ds k. elements-found-from F w index p a n ds k) (ltb (length index) (at + 2)) refl
+  where
+    Found : Type 0
+    Found = (es ≡ elements-at index at (suc n)) × Inside index at (suc n) × Ascending F prev es
+
+    Rest : Type 0
+    Rest = (p : List ℕ) (a : ℕ) (ds : List Element) → elements-from F n p (drop a index) ≡ ok ds → (ds ≡ elements-at index a n) × Inside index a n × Ascending F p ds
+
+    found : Rest → at + 2 ≤ length index → element-end index at < length index → Found
+    found ih p q =
+        let c = then-ok F prev (element-at index at) (elements-from F n (element-headword index at) (drop (element-end index at + 1) index)) es (sym (element-read F w index prev at n p q) ∙ h) in
+        let d = ih (element-headword index at) (element-end index at + 1) (c .2 .0) (c .2 .1) in
+        let e : es ≡ element-at index at ∷ c .2 .0 = c .2 .2 in
+        (rw (e, d .0), (p, q, d .1), rw e (c .0, c .1, d .2))
+
+    next : Rest → at + 2 ≤ length index → (t : Bool) → ltb (element-end index at) (length index) ≡ t → Found
+    next ih p true e = found ih p (ltb-true (element-end index at) (length index) e)
+    next ih p false e = absurd (ok-not-refused es 6 (sym h ∙ element-open F w index prev at n p (ltb-false (element-end index at) (length index) e)))
+
+    go : Rest → (t : Bool) → ltb (length index) (at + 2) ≡ t → Found
+    go ih true e = absurd (ok-not-refused es 6 (sym h ∙ element-short F w index prev at n (ltb-true (length index) (at + 2) e)))
+    go ih false e = next ih (ltb-false (length index) (at + 2) e) (ltb (element-end index at) (length index)) refl
+
+-- the elements of a whole index
+pub elements-found : (F : Format) → F .number-width ≡ 2 → (index : List ℕ) (n : ℕ) (es : List Element) → elements-from F n [] index ≡ ok es
+    → (es ≡ elements-at index 0 n) × Inside index 0 n × Ascending F [] es
+elements-found F w index n es h = elements-found-from F w index [] 0 n es h
+
+-- of bytes below 256: their block numbers fit two bytes as well
+pub ascending-fits : (F : Format) → F .number-width ≡ 2 → (index : List ℕ) → ((k : ℕ) → getD index k 0 < 256) → (prev : List ℕ) (at n : ℕ)
+    → Inside index at n → Ascending F prev (elements-at index at n) → ElementsOk F prev (elements-at index at n)
+unfolding elements-at element-at
+ascending-fits F w index small prev at zero i a = tt
+ascending-fits F w index small prev at (suc n) i a =
+    let b : from-little-endian (bytes-at at 2 index) < 256 ^ F .number-width = rw w (omega (arith, from-two index at (i .0), small at, small (at + 1))) in
+    (a .0, a .1, b, ascending-fits F w index small (element-headword index at) (element-end index at + 1) n (i .2) (a .2))
+
+-- ---- from one element to the next
+-- the next element has its number
+pub inside-start : (index : List ℕ) (at left : ℕ) → Inside index at left → 0 < left → at + 2 ≤ length index
+inside-start index at zero h p = absurd (omega arith)
+inside-start index at (suc n) h p = h .0
+
+-- and its zero byte
+pub inside-end : (index : List ℕ) (at left : ℕ) → Inside index at left → 0 < left → element-end index at < length index
+inside-end index at zero h p = absurd (omega arith)
+inside-end index at (suc n) h p = h .1
+
+-- the others stand behind it
+pub inside-next : (index : List ℕ) (at left : ℕ) → Inside index at left → 0 < left → Inside index (element-end index at + 1) (left - 1)
+inside-next index at zero h p = absurd (omega arith)
+inside-next index at (suc n) h p =
+    let e : suc n - 1 ≡ n = omega arith in
+    rw e (h .2)
+
+-- the elements are it and the others
+pub elements-next : (index : List ℕ) (at left : ℕ) → 0 < left → elements-at index at left ≡ element-at index at ∷ elements-at index (element-end index at + 1) (left - 1)
+unfolding elements-at
+elements-next index at zero p = absurd (omega arith)
+elements-next index at (suc n) p =
+    let e : suc n - 1 ≡ n = omega arith in
+    rw e
+
+-- elements start inside the index
+pub inside-within : (index : List ℕ) (at left : ℕ) → Inside index at left → at ≤ length index
+inside-within index at zero h = h
+inside-within index at (suc n) h = let p : at + 2 ≤ length index = h .0 in omega arith
+
+-- ---- the element of the run concerned
+module _ (below : List ℕ → List ℕ → Bool) (index h : List ℕ) where
+  -- the next headword is above h
+  pub concerned-here : (at n : ℕ) → below h (element-headword index (element-end index at + 1)) ≡ true → concerned-from below index h at (suc n) ≡ record { at = at; left = suc (suc n) }
+  unfolding concerned-from
+  concerned-here at n e = rw (e, concerned-from)
+
+  -- it is not
+  pub concerned-later : (at n : ℕ) → below h (element-headword index (element-end index at + 1)) ≡ false → concerned-from below index h at (suc n) ≡ concerned-from below index h (element-end index at + 1) n
+  unfolding concerned-from
+  concerned-later at n e = rw (e, concerned-from)
+
+  -- what holds of the first element and passes on to each next whose headword is not above h, holds of the element concerned
+  pub concerned-rule : (at n : ℕ) (P : ℕ → ℕ → Type 0) → P at (suc n)
+      → ((at n : ℕ) → P at (suc (suc n)) → below h (element-headword index (element-end index at + 1)) ≡ false → P (element-end index at + 1) (suc n))
+      → P (concerned-from below index h at n .at) (concerned-from below index h at n .left)
+  unfolding concerned-from
+  concerned-rule at zero P p step = p
+  concerned-rule at (suc n) P p step = go (λ q. concerned-rule (element-end index at + 1) n P q step) (below h (element-headword index (element-end index at + 1))) refl
+    where
+      go : (P (element-end index at + 1) (suc n) → P (concerned-from below index h (element-end index at + 1) n .at) (concerned-from below index h (element-end index at + 1) n .left))
+          → (t : Bool) → below h (element-headword index (element-end index at + 1)) ≡ t → P (concerned-from below index h at (suc n) .at) (concerned-from below index h at (suc n) .left)
+      go ih true e = rw (concerned-here at n e) p
+      go ih false e = rw (concerned-later at n e) (ih (step at n p e))
+
+  -- behind it stands none, or one whose headword is above h
+  pub concerned-stops : (at n : ℕ) → (concerned-from below index h at n .left ≡ 1) ⊎ (below h (element-headword index (element-end index (concerned-from below index h at n .at) + 1)) ≡ true)
+  unfolding concerned-from
+  concerned-stops at zero = inl refl
+  concerned-stops at (suc n) = go (concerned-stops (element-end index at + 1) n) (below h (element-headword index (element-end index at + 1))) refl
+    where
+      Stops : Place → Type 0
+      Stops p = (p .left ≡ 1) ⊎ (below h (element-headword index (element-end index (p .at) + 1)) ≡ true)
+
+      go : Stops (concerned-from below index h (element-end index at + 1) n) → (t : Bool) → below h (element-headword index (element-end index at + 1)) ≡ t → Stops (concerned-from below index h at (suc n))
+      go ih true e = rw (concerned-here at n e) (inr e)
+      go ih false e = rw (concerned-later at n e) ih
+
+  -- there is one
+  pub concerned-some : (at n : ℕ) → 1 ≤ concerned-from below index h at n .left
+  concerned-some at n = concerned-rule at n (λ a l. 1 ≤ l) (omega arith) (λ a k p e. omega arith)
+
+  -- it stands inside the index
+  pub concerned-inside : (at n : ℕ) → Inside index at (suc n) → Inside index (concerned-from below index h at n .at) (concerned-from below index h at n .left)
+  concerned-inside at n i = concerned-rule at n (λ a l. Inside index a l) i (λ a k p e. p .2)
+
+  -- the elements from `at` on taken apart at the element concerned: of the headwords behind the first up to its own none is above h
+  pub record ConcernedSplit (at n : ℕ) (p : Place) : Type 0 where
+    pub before : List Element
+    pub split : elements-at index at (suc n) ≡ before ++ elements-at index (p .at) (p .left)
+    pub low : All (λ e. below h (e .headword) ≡ false) (drop 1 (before ++ element-at index (p .at) ∷ []))
+    pub low-first : below h (element-headword index at) ≡ false → All (λ e. below h (e .headword) ≡ false) (before ++ element-at index (p .at) ∷ [])
+
+  -- they are so taken apart
+  pub concerned-split : (at n : ℕ) → ConcernedSplit at n (concerned-from below index h at n)
+  unfolding concerned-from elements-at element-at
+  concerned-split at zero = record { before = []; split = refl; low = tt; low-first = λ e. (e, tt) }
+  concerned-split at (suc n) = go (concerned-split (element-end index at + 1) n) (below h (element-headword index (element-end index at + 1))) refl
+    where
+      go : ConcernedSplit (element-end index at + 1) n (concerned-from below index h (element-end index at + 1) n) → (t : Bool) → below h (element-headword index (element-end index at + 1)) ≡ t
+          → ConcernedSplit at (suc n) (concerned-from below index h at (suc n))
+      go ih true e = rw (concerned-here at n e) (record { before = []; split = refl; low = tt; low-first = λ f. (f, tt) })
+      go ih false e =
+          rw (concerned-later at n e)
+          (record { before = element-at index at ∷ ih .before; split = ap (λ (l : List Element). element-at index at ∷ l) (ih .split); low = ih .low-first e; low-first = λ f. (f, ih .low-first e) })

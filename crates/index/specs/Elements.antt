@@ -1,0 +1,44 @@
+-- The elements of an index by where they stand, under no rule.
+use Prim.Native.Nat.{ℕ, zero, suc, _+_, _-_, _≤_, _<_}
+use mathlib.Core.Bool.{Bool, true, false}
+use mathlib.Core.List.{List, [], _∷_}
+use lib.ListN.{length, drop}
+use Rattle.spec.specs.Bytes.{from-little-endian, bytes-at}
+use Rattle.spec.specs.Index.{Element}
+use Rattle.scans.specs.Scan.{zero-offset}
+use Rattle.index.specs.declared.Place.{Place}
+
+-- where the zero byte of the element at `at` is
+unfoldable pub element-end : List ℕ → ℕ → ℕ
+element-end index at = at + 2 + zero-offset (drop (at + 2) index)
+
+-- the headword of the element at `at`
+unfoldable pub element-headword : List ℕ → ℕ → List ℕ
+element-headword index at = bytes-at (at + 2) (element-end index at - (at + 2)) index
+
+-- the element at `at`
+unfoldable pub element-at : List ℕ → ℕ → Element
+element-at index at = record { block = from-little-endian (bytes-at at 2 index); headword = element-headword index at }
+
+-- n elements from `at` on
+unfoldable pub elements-at : List ℕ → ℕ → ℕ → List Element
+elements-at index at zero = []
+elements-at index at (suc n) = element-at index at ∷ elements-at index (element-end index at + 1) n
+
+-- n elements from `at` on stand inside the index, each with its zero byte
+abbrev pub Inside : List ℕ → ℕ → ℕ → Type 0
+Inside index at zero = at ≤ length index
+Inside index at (suc n) = (at + 2 ≤ length index) × (element-end index at < length index) × Inside index (element-end index at + 1) n
+
+-- of n + 1 elements from `at` on the last before the first, from the second on, whose headword is above h
+unfoldable pub concerned-from : (List ℕ → List ℕ → Bool) → List ℕ → List ℕ → ℕ → ℕ → Place
+concerned-from below index h at zero = record { at = at; left = 1 }
+concerned-from below index h at (suc n) = elim (below h (element-headword index (element-end index at + 1))) [
+  | true ↦ record { at = at; left = suc (suc n) }
+  | false ↦ concerned-from below index h (element-end index at + 1) n
+]
+
+-- names all definitions of this module: who unfolds it unfolds them
+unfoldable pub open-elements : Unit {0}
+unfolding element-end element-headword element-at elements-at concerned-from
+open-elements = tt

@@ -1,0 +1,83 @@
+// The index: its elements one after the other, row 6 of the refusals, and the element of the run concerned.
+ghost use mathlib.Core.Path.{_≡_};
+ghost use mathlib.Core.List.{[]};
+ghost use Prim.Native.Nat.{_+_, _-_, _≤_, _<_};
+ghost use lib.ListN.{length};
+ghost use Rattle.spec.specs.Outcome.{accepted};
+ghost use Rattle.spec.specs.Header.{format4};
+ghost use Rattle.spec.specs.Order.{below-of};
+ghost use Rattle.spec.specs.Index.{elements-from};
+ghost use Rattle.index.specs.Elements.{element-end, Inside, concerned-from};
+
+// An element of the index: where it starts, and how many elements there are from it on.
+pub struct Place {
+    pub at: usize,
+    pub left: usize,
+}
+
+// Where the zero byte of the element at `at` is.
+pub fn element_end(index: &[u8], at: usize) -> usize
+    requires { ⌜ at + 2 ≤ length (now index) ⌝ }
+    ensures { λ r. ⌜ r ≡ element-end (now (index .entry)) at ⌝ }
+    ensures { λ r. ⌜ (at + 2 ≤ r) × (r ≤ length (now (index .entry))) ⌝ }
+{
+    scans::first_zero(index, at + 2, index.len())
+}
+
+// Whether n elements stand in the index by their rules, and then zeros, at least four, up to its end: row 6.
+pub fn elements_ok(index: &[u8], n: usize) -> bool
+    ensures { λ r. ⌜ r ≡ accepted (elements-from format4 n [] (now (index .entry))) ⌝ }
+{
+    let mut at = 0;
+    let mut left = n;
+    // the headword before stands from `start` up to `end`
+    let mut start = 0;
+    let mut end = 0;
+    while 0 < left {
+        if index.len() - at < 2 {
+            return false;
+        }
+        let zero = element_end(index, at);
+        if index.len() <= zero {
+            return false;
+        }
+        if 248 < zero - (at + 2) {
+            return false;
+        }
+        if !scans::is_below(0, &index[start..end], &index[at + 2..zero]) {
+            return false;
+        }
+        start = at + 2;
+        end = zero;
+        at = zero + 1;
+        left -= 1;
+    }
+    if index.len() - at < 4 {
+        return false;
+    }
+    scans::all_zero(index, at, index.len())
+}
+
+// The element of the run concerned: the last whose headword is not above `h`, else the first.
+pub fn concerned(index: &[u8], n: usize, h: &[u8]) -> Place
+    requires { ⌜ 1 ≤ n ⌝ }
+    requires { ⌜ Inside (now index) 0 n ⌝ }
+    ensures { λ r. ⌜ r ≡ concerned-from (below-of 0) (now (index .entry)) (now (h .entry)) 0 (n - 1) ⌝ }
+    ensures { λ r. ⌜ (1 ≤ r .left) × Inside (now (index .entry)) (r .at) (r .left) ⌝ }
+{
+    let mut at = 0;
+    let mut left = n;
+    // where the zero byte of the element at `at` is
+    let mut end = element_end(index, 0);
+    while 1 < left {
+        let next = end + 1;
+        let zero = element_end(index, next);
+        if scans::is_below(0, h, &index[next + 2..zero]) {
+            return Place { at: at, left: left };
+        }
+        at = next;
+        end = zero;
+        left -= 1;
+    }
+    Place { at: at, left: left }
+}

@@ -1,0 +1,63 @@
+-- What testing an image whole tells of it.
+use Prim.Native.Nat.{ℕ, _-_}
+use mathlib.Core.Path.{_≡_}
+use mathlib.Core.Bool.{Bool, false}
+use mathlib.Core.List.{List, _++_}
+use lib.ListN.{length, replicate}
+use Rattle.spec.specs.Outcome.{Outcome, refused, ok}
+use Rattle.spec.specs.Header.{layout4, format4, get}
+use Rattle.spec.specs.Run.{Run}
+use Rattle.spec.specs.Index.{Element, index-from}
+use Rattle.spec.specs.Blocks.{run-blocks, free-marks}
+use Rattle.spec.specs.Check.{Image, index-area, data-area, frame-from, runs-from, image-from, all-entries, entries-of}
+use Rattle.header.specs.Framed.{frame4}
+use Rattle.tally.specs.Tally.{covered}
+use Rattle.inspect.specs.declared.Inspected.{Inspected}
+
+-- an image's entries, its blocks, and the marks of its free blocks
+pub record Overview : Type 0 where
+  pub words : ℕ
+  pub index-blocks : ℕ
+  pub data-blocks : ℕ
+  pub free : List Bool
+
+-- an image as an overview, with k marks
+unfoldable pub viewed : ℕ → Outcome Image → Outcome Overview
+viewed k (refused n) = refused n
+viewed k (ok i) =
+    ok
+    (record {
+      words = length (entries-of i);
+      index-blocks = i .frame .index-blocks;
+      data-blocks = i .frame .data-blocks;
+      free = free-marks (i .frame .data-blocks) (i .free-list) ++ replicate (k - i .frame .data-blocks) false;
+    })
+
+-- the answer about an image, with the marks then
+unfoldable pub overview : Inspected → List Bool → Outcome Overview
+overview (Inspected.Sound w n d) ms = ok (record { words = w; index-blocks = n; data-blocks = d; free = ms })
+overview (Inspected.Refused k) ms = refused k
+
+-- an image of which all runs are read, and kept rows 1 to 8: n index blocks, d data blocks, its entries and the blocks of its runs counted and these marked
+pub record RunsRead (s area : List ℕ) (n d words blocks : ℕ) (ms : List Bool) : Type 0 where
+  pub frame : frame-from format4 s ≡ ok (frame4 n d)
+  pub area-is : area ≡ data-area (frame4 n d) s
+  pub elements : List Element
+  pub index : index-from format4 n (get (layout4 .nindex2) s) (index-area (frame4 n d) s) ≡ ok elements
+  pub runs : List Run
+  pub read : runs-from format4 d area elements ≡ ok runs
+  pub words-are : words ≡ length (all-entries runs)
+  pub blocks-are : blocks ≡ run-blocks runs
+  pub marked : ms ≡ covered runs (replicate (length ms) false)
+
+-- an accepted image of n index blocks and d data blocks
+pub record AcceptedImage (s : List ℕ) (n d : ℕ) : Type 0 where
+  pub image : Image
+  pub is : image-from s ≡ ok image
+  pub index-blocks : n ≡ image .frame .index-blocks
+  pub data-blocks : d ≡ image .frame .data-blocks
+
+-- names all definitions of this module: who unfolds it unfolds them
+unfoldable pub open-overview : Unit {0}
+unfolding viewed overview
+open-overview = tt

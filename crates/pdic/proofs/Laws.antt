@@ -1,0 +1,51 @@
+-- What the returns of the calls from C show.
+use Prim.Native.Nat.{ℕ}
+use mathlib.Core.Path.{_≡_, sym, ap, _∙_}
+use mathlib.Core.List.{List}
+use Rattle.spec.specs.Outcome.{Outcome}
+use Rattle.spec.specs.Calls.{Figures, LookUpResult, WalkResult}
+use Rattle.spec.specs.Answers as Answers
+use Rattle.spec.specs.Answers.{check-answer, look-up-answer, walk-answer}
+use Rattle.spec.specs.declared.CheckAnswer.{CheckAnswer}
+use Rattle.spec.specs.declared.LookUpAnswer.{LookUpAnswer}
+use Rattle.spec.specs.declared.WalkAnswer.{WalkAnswer}
+use Rattle.pdic.specs.Lent.{check-lent, look-up-lent, walk-lent}
+
+module _ (r : CheckAnswer) (o : Outcome Figures) (e : check-answer r ≡ o) (h₀ i₀ d₀ f₀ : ℕ) where
+  -- a refusal returns its number alone
+  pub check-refused : (k : ℕ) → r ≡ CheckAnswer.Refused k → record { returned = k; headwords = h₀; index-blocks = i₀; data-blocks = d₀; free-blocks = f₀ } ≡ check-lent o h₀ i₀ d₀ f₀
+  unfolding check-lent Answers.check-answer Answers.code Answers.lent-number
+  check-refused k q = rw (← e, q)
+
+  -- else 0, and the four numbers
+  pub check-counted : (h i d f : ℕ) → r ≡ CheckAnswer.Counted h i d f → record { returned = 0; headwords = h; index-blocks = i; data-blocks = d; free-blocks = f } ≡ check-lent o h₀ i₀ d₀ f₀
+  unfolding check-lent Answers.check-answer Answers.code Answers.lent-number
+  check-counted h i d f q = rw (← e, q)
+
+module _ (r : LookUpAnswer) (t : List ℕ) (o : LookUpResult) (e : record { answer = look-up-answer r; text = t } ≡ o) (a₀ n₀ : ℕ) where
+  pub look-up-refused : (k : ℕ) → r ≡ LookUpAnswer.Refused k → record { returned = k; text = t; attribute = a₀; text-length = n₀ } ≡ look-up-lent o a₀ n₀
+  unfolding look-up-lent Answers.look-up-answer Answers.code-or-absent Answers.lent-number-or-absent
+  look-up-refused k q = rw (← e, q)
+
+  -- absent: 100
+  pub look-up-absent : r ≡ LookUpAnswer.Absent → record { returned = 100; text = t; attribute = a₀; text-length = n₀ } ≡ look-up-lent o a₀ n₀
+  unfolding look-up-lent Answers.look-up-answer Answers.code-or-absent Answers.lent-number-or-absent
+  look-up-absent q = rw (← e, q)
+
+  -- found: 0, the attribute and the text's length
+  pub look-up-found : (a n : ℕ) → r ≡ LookUpAnswer.Found a n → record { returned = 0; text = t; attribute = a; text-length = n } ≡ look-up-lent o a₀ n₀
+  unfolding look-up-lent Answers.look-up-answer Answers.code-or-absent Answers.lent-number-or-absent
+  look-up-found a n q = rw (← e, q)
+
+module _ (r : WalkAnswer) (h t : List ℕ) (o : WalkResult) (e : record { answer = walk-answer r; headword = h; text = t } ≡ o) (a₀ m₀ n₀ : ℕ) where
+  pub walk-refused : (k : ℕ) → r ≡ WalkAnswer.Refused k → record { returned = k; headword = h; text = t; attribute = a₀; headword-length = m₀; text-length = n₀ } ≡ walk-lent o a₀ m₀ n₀
+  unfolding walk-lent Answers.walk-answer Answers.code-or-absent Answers.lent-number-or-absent
+  walk-refused k q = rw (← e, q)
+
+  pub walk-absent : r ≡ WalkAnswer.Absent → record { returned = 100; headword = h; text = t; attribute = a₀; headword-length = m₀; text-length = n₀ } ≡ walk-lent o a₀ m₀ n₀
+  unfolding walk-lent Answers.walk-answer Answers.code-or-absent Answers.lent-number-or-absent
+  walk-absent q = rw (← e, q)
+
+  pub walk-found : (a m n : ℕ) → r ≡ WalkAnswer.Found a m n → record { returned = 0; headword = h; text = t; attribute = a; headword-length = m; text-length = n } ≡ walk-lent o a₀ m₀ n₀
+  unfolding walk-lent Answers.walk-answer Answers.code-or-absent Answers.lent-number-or-absent
+  walk-found a m n q = rw (← e, q)

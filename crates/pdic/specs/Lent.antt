@@ -1,0 +1,71 @@
+-- The calls from C: the number returned, and what every slice and number lent for writing holds then.
+use Prim.Native.Nat.{ℕ}
+use mathlib.Core.Bool.{not}
+use mathlib.Core.List.{List}
+use mathlib.Core.Option.{Option}
+use lib.Dec.{eqb}
+use Rattle.spec.specs.Outcome.{Outcome}
+use Rattle.spec.specs.Calls.{Figures, check, FoundText, LookUpResult, look-up, FoundEntry, WalkResult, walk}
+use Rattle.spec.specs.Answers.{code, code-or-absent, lent-number, lent-number-or-absent}
+
+-- check from C
+pub record CheckLent : Type 0 where
+  pub returned : ℕ
+  pub headwords : ℕ
+  pub index-blocks : ℕ
+  pub data-blocks : ℕ
+  pub free-blocks : ℕ
+
+-- by check's answer and what the lent numbers held
+unfoldable pub check-lent : Outcome Figures → ℕ → ℕ → ℕ → ℕ → CheckLent
+check-lent o h i d f =
+    record {
+      returned = code o;
+      headwords = lent-number (λ c. c .headwords) h o;
+      index-blocks = lent-number (λ c. c .index-blocks) i o;
+      data-blocks = lent-number (λ c. c .data-blocks) d o;
+      free-blocks = lent-number (λ c. c .free-blocks) f o;
+    }
+
+-- look up from C
+pub record LookUpLent : Type 0 where
+  pub returned : ℕ
+  pub text : List ℕ
+  pub attribute : ℕ
+  pub text-length : ℕ
+
+-- by look up's result and what the lent numbers held
+unfoldable pub look-up-lent : LookUpResult → ℕ → ℕ → LookUpLent
+look-up-lent r a n =
+    record {
+      returned = code-or-absent (r .answer);
+      text = r .text;
+      attribute = lent-number-or-absent (λ f. f .attribute) a (r .answer);
+      text-length = lent-number-or-absent (λ f. f .text-length) n (r .answer);
+    }
+
+-- walk from C
+pub record WalkLent : Type 0 where
+  pub returned : ℕ
+  pub headword : List ℕ
+  pub text : List ℕ
+  pub attribute : ℕ
+  pub headword-length : ℕ
+  pub text-length : ℕ
+
+-- by walk's result and what the lent numbers held
+unfoldable pub walk-lent : WalkResult → ℕ → ℕ → ℕ → WalkLent
+walk-lent r a m n =
+    record {
+      returned = code-or-absent (r .answer);
+      headword = r .headword;
+      text = r .text;
+      attribute = lent-number-or-absent (λ f. f .attribute) a (r .answer);
+      headword-length = lent-number-or-absent (λ f. f .headword-length) m (r .answer);
+      text-length = lent-number-or-absent (λ f. f .text-length) n (r .answer);
+    }
+
+-- names all definitions of this module: who unfolds it unfolds them
+unfoldable pub open-lent : Unit {0}
+unfolding check-lent look-up-lent walk-lent
+open-lent = tt

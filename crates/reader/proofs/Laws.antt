@@ -1,0 +1,120 @@
+-- What the returns of the reading calls show, in the terms of the code.
+use Prim.Native.Nat.{ℕ, _+_, _-_, _*_, _%_, _<_, _≤_}
+use mathlib.Core.Path.{_≡_, refl, sym, ap, _∙_}
+use mathlib.Core.Bool.{Bool, true, false, not}
+use mathlib.Core.List.{List, _++_}
+use lib.ListN.{length, take}
+use lib.Seq.{length-take-le}
+use borrow.Author.Tests.{not-true, not-false}
+use Rattle.spec.specs.Outcome.{Outcome, refused, ok, accepted}
+use Rattle.spec.specs.Blocks.{free-marks, count-marks}
+use Rattle.spec.specs.Check as Check
+use Rattle.spec.specs.Check.{Image, slice-ok, image-from, image-in, entries-of}
+use Rattle.spec.specs.Calls as Calls
+use Rattle.spec.specs.Calls.{figures, check, LookUpResult, look-up-result, look-up, WalkResult, walk-result, walk}
+use Rattle.spec.specs.Answers as Answers
+use Rattle.spec.specs.Answers.{check-answer, look-up-answer, walk-answer}
+use Rattle.spec.specs.declared.CheckAnswer.{CheckAnswer}
+use Rattle.spec.specs.declared.LookUpAnswer.{LookUpAnswer}
+use Rattle.spec.specs.declared.WalkAnswer.{WalkAnswer}
+use Rattle.header.proofs.Laws.{slice-refused, slice-accepted, slice-has-header, slice-in-blocks, slice-holds}
+use Rattle.freelist.proofs.Laws.{count-behind}
+use Rattle.inspect.specs.Overview.{overview, viewed, AcceptedImage}
+use Rattle.inspect.proofs.Accepted.{accepted-index}
+use Rattle.reader.specs.Found.{text-fitted, look-up-in, entry-fitted, start-ok, walk-in}
+use Rattle.inspect.specs.declared.Inspected.{Inspected}
+use Rattle.inspect.proofs.Laws.{SoundImage, overview-refused, overview-sound}
+
+-- the four numbers of an image
+figures-are : (i : Image) (w n d c : ℕ) → w ≡ length (entries-of i) → n ≡ i .frame .index-blocks → d ≡ i .frame .data-blocks → c ≡ count-marks (free-marks (i .frame .data-blocks) (i .free-list))
+    → check-answer (CheckAnswer.Counted w n d c) ≡ ok (figures i)
+unfolding Calls.figures Answers.check-answer
+figures-are i w n d c a b e f = rw (a, b, e, f)
+
+module _ (s : List ℕ) (len : ℕ) (t : Bool) (slice : t ≡ accepted (slice-ok s len)) where
+  -- row 1
+  unsliced : not t ≡ true → image-in s len ≡ refused 1
+  unfolding Check.image-in
+  unsliced q = rw (slice-refused s len (sym slice ∙ not-true t q))
+
+  pub check-slice : not t ≡ true → check-answer (CheckAnswer.Refused 1) ≡ check s len
+  unfolding Calls.check Answers.check-answer
+  check-slice q = sym (rw (unsliced q))
+
+  pub look-up-slice : not t ≡ true → (h out : List ℕ) → record { answer = look-up-answer (LookUpAnswer.Refused 1); text = out } ≡ look-up s len h out
+  unfolding Calls.look-up Calls.look-up-entry Calls.look-up-result Answers.look-up-answer
+  look-up-slice q h out = sym (rw (unsliced q))
+
+  pub walk-slice : not t ≡ true → (above : Bool) (h out text : List ℕ) → record { answer = walk-answer (WalkAnswer.Refused 1); headword = out; text = text } ≡ walk s len above h out text
+  unfolding Calls.walk Calls.walk-entry Calls.walk-result Answers.walk-answer
+  walk-slice q above h out text = sym (rw (unsliced q))
+
+  module _ (q : not t ≡ false) where
+    sliced : image-in s len ≡ image-from (take len s)
+    unfolding Check.image-in
+    sliced = rw (slice-accepted s len (sym slice ∙ not-false t q))
+
+    -- the image is as long as it says, at least a header long, and in whole blocks
+    pub slice-front : len ≡ length (take len s)
+    slice-front = sym (length-take-le len s (slice-holds s len (sym slice ∙ not-false t q)))
+
+    pub slice-header : 256 ≤ length (take len s)
+    slice-header = rw (← slice-front) (slice-has-header s len (sym slice ∙ not-false t q))
+
+    pub slice-blocks : length (take len s) % 256 ≡ 0
+    slice-blocks = rw (← slice-front) (slice-in-blocks s len (sym slice ∙ not-false t q))
+
+    module _ (k : ℕ) (ms : List Bool) (r : Inspected) (seen : overview r ms ≡ viewed k (image-from (take len s))) where
+      -- rows 3 to 10
+      image-refused : (j : ℕ) → r ≡ Inspected.Refused j → image-in s len ≡ refused j
+      image-refused j h = sliced ∙ overview-refused k ms (image-from (take len s)) j (ap (λ (x : Inspected). overview x ms) (sym h) ∙ seen)
+
+      pub check-refused : (j : ℕ) → r ≡ Inspected.Refused j → check-answer (CheckAnswer.Refused j) ≡ check s len
+      unfolding Calls.check Answers.check-answer
+      check-refused j h = sym (rw (image-refused j h))
+
+      -- rows 3 to 10 of a look up
+      pub look-up-refused : (j : ℕ) → r ≡ Inspected.Refused j → (h out : List ℕ) → record { answer = look-up-answer (LookUpAnswer.Refused j); text = out } ≡ look-up s len h out
+      unfolding Calls.look-up Calls.look-up-entry Calls.look-up-result Answers.look-up-answer
+      look-up-refused j e h out = sym (rw (image-refused j e))
+
+      -- rows 3 to 10 of a walk
+      pub walk-refused : (j : ℕ) → r ≡ Inspected.Refused j → (above : Bool) (h out text : List ℕ) → record { answer = walk-answer (WalkAnswer.Refused j); headword = out; text = text } ≡ walk s len above h out text
+      unfolding Calls.walk Calls.walk-entry Calls.walk-result Answers.walk-answer
+      walk-refused j e above h out text = sym (rw (image-refused j e))
+
+      module _ (w n d : ℕ) (h : r ≡ Inspected.Sound w n d) where
+        sound : SoundImage k ms (image-from (take len s)) w n d
+        sound = overview-sound k ms (image-from (take len s)) w n d (ap (λ (x : Inspected). overview x ms) (sym h) ∙ seen)
+
+        -- the four numbers
+        pub check-counted : (c : ℕ) → c ≡ count-marks ms → check-answer (CheckAnswer.Counted w n d c) ≡ check s len
+        unfolding Calls.check
+        check-counted c e =
+            let i : Image = sound .image in
+            let f : c ≡ count-marks (free-marks (i .frame .data-blocks) (i .free-list)) = e ∙ ap count-marks (sound .free) ∙ count-behind (free-marks (i .frame .data-blocks) (i .free-list)) (k - i .frame .data-blocks) in
+            let o : image-in s len ≡ ok i = sliced ∙ sound .is in
+            figures-are i w n d c (sound .words) (sound .index-blocks) (sound .data-blocks) f ∙ sym (rw o)
+
+        -- the image is accepted
+        pub accepted-image : AcceptedImage (take len s) n d
+        accepted-image = record { image = sound .image; is = sound .is; index-blocks = sound .index-blocks; data-blocks = sound .data-blocks }
+
+        pub accepted-start : 256 + 256 * n ≤ length (take len s)
+        accepted-start = accepted-index (take len s) n d accepted-image
+
+        image-ok : image-in s len ≡ ok (sound .image)
+        image-ok = sliced ∙ sound .is
+
+        -- a look up by the answer in the image
+        pub look-up-answered : (g out : List ℕ) (x : LookUpAnswer) (out′ : List ℕ)
+            → ((i : Image) → image-from (take len s) ≡ ok i → record { answer = look-up-answer x; text = out′ } ≡ look-up-result out (look-up-in i g out)) → record { answer = look-up-answer x; text = out′ } ≡ look-up s len g out
+        unfolding Calls.look-up Calls.look-up-entry look-up-in text-fitted
+        look-up-answered g out x out′ f = f (sound .image) (sound .is) ∙ ap (look-up-result out) (sym (rw (image-ok)))
+
+        -- a walk by the answer in the image
+        pub walk-answered : (above : Bool) (g out text : List ℕ) (x : WalkAnswer) (out′ text′ : List ℕ)
+            → ((i : Image) → image-from (take len s) ≡ ok i → record { answer = walk-answer x; headword = out′; text = text′ } ≡ walk-result out text (walk-in i above g out text))
+            → record { answer = walk-answer x; headword = out′; text = text′ } ≡ walk s len above g out text
+        unfolding Calls.walk Calls.walk-entry walk-in start-ok entry-fitted
+        walk-answered above g out text x out′ text′ f = f (sound .image) (sound .is) ∙ ap (walk-result out text) (sym (rw (image-ok)))

@@ -1,0 +1,81 @@
+-- What an answer or a refusal tells of the steps that gave it.
+use Prim.Native.Nat.{ℕ}
+use mathlib.Core.Path.{_≡_, refl, sym, ap}
+use mathlib.Core.Bool.{Bool, true, false, false≢true}
+use native.Mathlib.Omega.{arith}
+use Rattle.spec.specs.Outcome.{Outcome, refused, ok, _>>=_, _>>_, refuse_when_, accepted}
+
+clash : {A : Type 0} → _≡_ {A = ℕ} 0 1 → A
+clash h = absurd (let z : ⊥ = omega arith in z)
+
+-- an answer is no refusal
+pub ok-not-refused : {A : Type 0} (a : A) (k : ℕ) → ok a ≡ refused k → ⊥
+ok-not-refused a k h = clash (cc)
+
+-- the answer, or else d
+abbrev answer-or : {A : Type 0} → A → Outcome A → A
+answer-or d (refused k) = d
+answer-or d (ok a) = a
+
+-- equal outcomes have equal answers
+pub same-value : {A : Type 0} (a b : A) → ok a ≡ ok b → a ≡ b
+same-value a b h = ap (answer-or a) h
+
+-- an outcome that is an answer
+pub record Answer {A : Type 0} (o : Outcome A) : Type 0 where
+  pub value : A
+  pub is : o ≡ ok value
+
+-- an accepted outcome is one
+pub accepted-answer : {A : Type 0} (o : Outcome A) → accepted o ≡ true → Answer o
+unfolding accepted
+accepted-answer (refused k) h = absurd (false≢true h)
+accepted-answer (ok a) h = record { value = a; is = refl }
+
+-- an answer is accepted
+pub accepted-ok : {A : Type 0} (o : Outcome A) (a : A) → o ≡ ok a → accepted o ≡ true
+unfolding accepted
+accepted-ok o a h = rw h
+
+-- a refusal is not
+pub accepted-refused : {A : Type 0} (o : Outcome A) (k : ℕ) → o ≡ refused k → accepted o ≡ false
+unfolding accepted
+accepted-refused o k h = rw h
+
+-- refused by no other number than k
+abbrev pub Only : {A : Type 0} → ℕ → Outcome A → Type 0
+Only k o = (j : ℕ) → o ≡ refused j → j ≡ k
+
+-- an outcome that is not accepted and refused by no other number than k
+pub refused-only : {A : Type 0} (k : ℕ) (o : Outcome A) → Only k o → accepted o ≡ false → o ≡ refused k
+unfolding accepted
+refused-only k (refused j) h e = rw (h j refl)
+refused-only k (ok a) h e = absurd (false≢true (sym e))
+
+-- so is a refusal by k
+pub only-refused : {A : Type 0} (k : ℕ) → Only {A = A} k (refused k)
+only-refused k j h = cc
+
+-- and an answer
+pub only-ok : {A : Type 0} (k : ℕ) (a : A) → Only k (ok a)
+only-ok k a j h = absurd (ok-not-refused a j h)
+
+-- a row of that number, and what follows it
+pub only-when : {A : Type 0} (k : ℕ) (t : Bool) (o : Outcome A) → Only k o → Only k (refuse k when t >> o)
+only-when k true o h j e = cc
+only-when k false o h j e = h j e
+
+-- an outcome, and what follows its answer
+pub only-bind : {A B : Type 0} (k : ℕ) (o : Outcome A) (f : A → Outcome B) → Only k o → ((a : A) → Only k (f a)) → Only k (o >>= f)
+only-bind k (refused i) f h g j e = h j (let d : i ≡ j = cc in rw d)
+only-bind k (ok a) f h g j e = g a j e
+
+-- an answer behind a row: the row does not apply
+pub when-ok : {A : Type 0} (k : ℕ) (t : Bool) (o : Outcome A) (a : A) → (refuse k when t >> o) ≡ ok a → (t ≡ false) × (o ≡ ok a)
+when-ok k true o a h = absurd (ok-not-refused a k (sym h))
+when-ok k false o a h = (refl, h)
+
+-- an answer behind another outcome: that is an answer too, and what follows it gives this one
+pub bind-ok : {A B : Type 0} (o : Outcome A) (f : A → Outcome B) (b : B) → (o >>= f) ≡ ok b → (a : A) × (o ≡ ok a) × (f a ≡ ok b)
+bind-ok (refused k) f b h = absurd (ok-not-refused b k (sym h))
+bind-ok (ok a) f b h = (a, refl, h)

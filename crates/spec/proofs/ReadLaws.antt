@@ -1,0 +1,279 @@
+-- What reading an entry, a run and all runs tells of them, for any format.
+use Prim.Native.Nat.{ℕ, zero, suc, _+_, _*_, _<_, _≤_}
+use mathlib.Core.Path.{_≡_, refl, sym, ap, ap₂, _∙_}
+use mathlib.Core.Bool.{Bool, true, false, not, false≢true}
+use mathlib.Core.List.{List, [], _∷_, _++_}
+use mathlib.Core.Option.{Option, none, some, Option·none-ne-some, Option·some-injective}
+use native.Mathlib.Omega.{arith}
+use lib.ListN.{length, take, drop, length-drop}
+use lib.Dec.{ltb, eqb}
+use borrow.Author.Tests.{ltb-false, eq-eqb, eqb-true, eqb-false, not-false}
+use Rattle.spec.specs.Outcome.{Outcome, refused, ok, _>>=_, _>>_, refuse_when_}
+use Rattle.spec.specs.Bytes.{from-little-endian, bytes-at, bytes-equal, split-zero}
+use Rattle.spec.specs.Header.{Format, get}
+use Rattle.spec.specs.Entry.{Entry, headword-ok, body-ok, entry-by, entry-from}
+use Rattle.spec.specs.Run.{Run, read-entry, entries-from}
+use Rattle.spec.specs.Index.{Element, index-from}
+use Rattle.spec.specs.Blocks.{free-list-from, each-once}
+use Rattle.spec.specs.Check.{Image, index-area, data-area, frame-from, first-entry, ends-below, run-from, next-headword, runs-from, counts-ok, image-by}
+use Rattle.spec.proofs.ListsLaws.{All}
+use Rattle.spec.proofs.OutcomeLaws.{ok-not-refused, same-value, when-ok, bind-ok}
+use Rattle.spec.proofs.RunLaws.{EntriesOk}
+
+-- an entry that was read keeps its rules and is above the one before
+abbrev pub EntryOk : Format → List ℕ → Entry → Type 0
+EntryOk F prev e = (headword-ok (e .headword) ≡ true) × (body-ok (e .body) ≡ true) × (F .below prev (e .headword) ≡ true)
+
+entry-by-told : (F : Format) (prev : List ℕ) (front : ℕ) (h b : List ℕ) (e : Entry) → entry-by F prev front h b ≡ ok e → EntryOk F prev e
+unfolding entry-by
+entry-by-told F prev front h b e p =
+    let (p₁, p₂) = when-ok 8 (ltb (length prev) front) _ e p in
+    let (q₁, q₂) = when-ok 8 (not (headword-ok h)) _ e p₂ in
+    let (r₁, r₂) = when-ok 8 (not (body-ok b)) _ e q₂ in
+    let (s₁, s₂) = when-ok 8 (not (F .below prev h)) _ e r₂ in
+    let v : record { headword = h; body = b } ≡ e = same-value _ e s₂ in
+    rw (← v) (not-false (headword-ok h) q₁, not-false (body-ok b) r₁, not-false (F .below prev h) s₁)
+
+-- the same of an entry's field
+pub entry-from-told : (F : Format) (prev : List ℕ) (front : ℕ) (field : List ℕ) (e : Entry) → entry-from F prev front field ≡ ok e → EntryOk F prev e
+unfolding entry-from
+entry-from-told F prev front field e p = go (split-zero field) p
+  where
+    go : (o : Option (List ℕ × List ℕ)) → elim o [ none ↦ refused 8 | some q ↦ entry-by F prev front (take front prev ++ q .0) (q .1) ] ≡ ok e → EntryOk F prev e
+    go none h = absurd (ok-not-refused e 8 (sym h))
+    go (some q) h = entry-by-told F prev front (take front prev ++ q .0) (q .1) e h
+
+-- an entry by its field length and whether that is zero
+abbrev behind : Format → List ℕ → List ℕ → ℕ → Bool → Outcome (Option (Entry × List ℕ))
+behind F prev s len t = elim t [
+  | true ↦ ok none
+  | false ↦ do
+    refuse 8 when ltb (length s) (3 + len)
+    e ← entry-from F prev (from-little-endian (bytes-at 2 1 s)) (bytes-at 3 len s)
+    ok (some (e, drop (3 + len) s))
+]
+
+-- an entry at the front of bytes keeps its rules, and bytes are taken
+pub entry-told : (F : Format) (prev s : List ℕ) (e : Entry) (rest : List ℕ) → read-entry F prev s ≡ ok (some (e, rest)) → EntryOk F prev e × (length rest < length s)
+unfolding read-entry
+entry-told F prev s e rest p =
+    let (p₁, p₂) = when-ok 8 (ltb (length s) 2) _ (some (e, rest)) p in
+    go (from-little-endian (take 2 s)) (eqb (from-little-endian (take 2 s)) 0) p₂
+  where
+    taken : (len : ℕ) → ltb (length s) (3 + len) ≡ false → length (drop (3 + len) s) < length s
+    taken len h = rw length-drop (omega (arith, ltb-false (length s) (3 + len) h))
+
+    go : (len : ℕ) (t : Bool) → behind F prev s len t ≡ ok (some (e, rest)) → EntryOk F prev e × (length rest < length s)
+    go len true h = absurd (Option·none-ne-some _ (same-value none (some (e, rest)) h))
+    go len false h =
+        let (q₁, q₂) = when-ok 8 (ltb (length s) (3 + len)) _ (some (e, rest)) h in
+        let (d, r₁, r₂) = bind-ok (entry-from F prev (from-little-endian (bytes-at 2 1 s)) (bytes-at 3 len s)) _ (some (e, rest)) q₂ in
+        let x : Entry × List ℕ = (d, drop (3 + len) s) in
+        let y : Entry × List ℕ = (e, rest) in
+        let v : x ≡ y = Option·some-injective x y (same-value (some x) (some y) r₂) in
+        let u : drop (3 + len) s ≡ rest = ap (λ (z : Entry × List ℕ). z .1) v in
+        (entry-from-told F prev _ _ e (r₁ ∙ ap (λ (z : Entry × List ℕ). ok (z .0)) v), rw (← u) (taken len q₁))
+
+-- a run's other entries, by the first step
+abbrev after-step : Format → ℕ → Option (Entry × List ℕ) → Outcome (List Entry)
+after-step F n r = elim r [
+  | none ↦ ok []
+  | some p ↦ do
+    es ← entries-from F n (p .0 .headword) (p .1)
+    ok (p .0 ∷ es)
+]
+
+-- entries that were read keep their rules and ascend
+pub entries-told : (F : Format) (n : ℕ) (prev s : List ℕ) (es : List Entry) → entries-from F n prev s ≡ ok es → EntriesOk F prev es
+unfolding entries-from
+entries-told F zero prev s es h = absurd (ok-not-refused es 8 (sym h))
+entries-told F (suc n) prev s es h =
+    let (r, p, q) = bind-ok (read-entry F prev s) (after-step F n) es h in
+    go (λ w t ds. entries-told F n w t ds) r p q
+  where
+    go : ((w t : List ℕ) (ds : List Entry) → entries-from F n w t ≡ ok ds → EntriesOk F w ds) → (r : Option (Entry × List ℕ)) → read-entry F prev s ≡ ok r → after-step F n r ≡ ok es → EntriesOk F prev es
+    go ih none p q = rw (← same-value [] es q) tt
+    go ih (some x) p q =
+        let (ds, u, v) = bind-ok (entries-from F n (x .0 .headword) (x .1)) (λ ds. ok (x .0 ∷ ds)) es q in
+        let (t, l) = entry-told F prev s (x .0) (x .1) p in
+        rw (← same-value (x .0 ∷ ds) es v) (t .0, t .1, t .2, ih (x .0 .headword) (x .1) ds u)
+
+-- equal byte strings are the same
+pub same-bytes : (a b : List ℕ) → bytes-equal a b ≡ true → a ≡ b
+unfolding bytes-equal
+same-bytes [] [] h = refl
+same-bytes [] (y ∷ ys) h = absurd (false≢true h)
+same-bytes (x ∷ xs) [] h = absurd (false≢true h)
+same-bytes (x ∷ xs) (y ∷ ys) h = go (same-bytes xs ys) (eqb x y) refl h
+  where
+    go : (bytes-equal xs ys ≡ true → xs ≡ ys) → (t : Bool) → eqb x y ≡ t → elim t [ true ↦ bytes-equal xs ys | false ↦ false ] ≡ true → _≡_ {A = List ℕ} (x ∷ xs) (y ∷ ys)
+    go ih true e k = ap₂ (λ (z : ℕ) (l : List ℕ). z ∷ l) (eqb-true x y e) (ih k)
+    go ih false e k = absurd (false≢true k)
+
+-- a byte string is equal to itself
+pub bytes-self : (a : List ℕ) → bytes-equal a a ≡ true
+unfolding bytes-equal
+bytes-self [] = refl
+bytes-self (x ∷ a) = rw (eq-eqb x x refl, bytes-equal) (bytes-self a)
+
+-- a run by its first step
+abbrev started : Format → List ℕ → Option (Entry × List ℕ) → Outcome (Entry × List ℕ)
+started F h r = elim r [
+  | none ↦ refused 8
+  | some p ↦ do
+    refuse 8 when not (bytes-equal (p .0 .headword) h)
+    ok p
+]
+
+-- a run's first entry is its element's
+pub first-told : (F : Format) (h s : List ℕ) (p : Entry × List ℕ) → first-entry F h s ≡ ok p → (read-entry F [] s ≡ ok (some p)) × (p .0 .headword ≡ h)
+unfolding first-entry
+first-told F h s p q =
+    let (r, u, v) = bind-ok (read-entry F [] s) (started F h) p q in
+    go r u v
+  where
+    go : (r : Option (Entry × List ℕ)) → read-entry F [] s ≡ ok r → started F h r ≡ ok p → (read-entry F [] s ≡ ok (some p)) × (p .0 .headword ≡ h)
+    go none u v = absurd (ok-not-refused p 8 (sym v))
+    go (some x) u v =
+        let (a, b) = when-ok 8 (not (bytes-equal (x .0 .headword) h)) (ok x) p v in
+        let w : x ≡ p = same-value x p b in
+        rw (← w) (u, same-bytes (x .0 .headword) h (not-false (bytes-equal (x .0 .headword) h) a))
+
+-- a run that was read
+pub record RunTold (F : Format) (D : ℕ) (area : List ℕ) (e : Element) (next : Option (List ℕ)) (r : Run) : Type 0 where
+  pub block : r .block ≡ e .block
+  pub headword : r .headword ≡ e .headword
+  pub size : r .size ≡ from-little-endian (bytes-at (256 * e .block) 2 area)
+  pub some-blocks : 1 ≤ r .size
+  pub few-blocks : r .size ≤ 32_767
+  pub inside : r .block + r .size ≤ D
+  pub bytes : r .bytes ≡ bytes-at (256 * r .block) (256 * r .size) area
+  pub first : Entry
+  pub others : List Entry
+  pub entries : r .entries ≡ first ∷ others
+  pub first-headword : first .headword ≡ r .headword
+  pub read : entries-from F (suc (length (r .bytes))) [] (drop 2 (r .bytes)) ≡ ok (r .entries)
+  pub ends : ends-below F next (r .entries) ≡ true
+
+-- a first entry and those behind it are all
+whole : (F : Format) (s : List ℕ) (p : Entry × List ℕ) (es : List Entry) → read-entry F [] (drop 2 s) ≡ ok (some p) → entries-from F (length s) (p .0 .headword) (p .1) ≡ ok es
+    → entries-from F (suc (length s)) [] (drop 2 s) ≡ ok (p .0 ∷ es)
+unfolding entries-from
+whole F s p es f v = rw (f, v)
+
+-- what is known of it
+pub run-told : (F : Format) (D : ℕ) (area : List ℕ) (e : Element) (next : Option (List ℕ)) (r : Run) → run-from F D area e next ≡ ok r → RunTold F D area e next r
+unfolding run-from
+run-told F D area e next r h =
+    let n : ℕ = from-little-endian (bytes-at (256 * e .block) 2 area) in
+    let bytes : List ℕ = bytes-at (256 * e .block) (256 * n) area in
+    let (a, h₁) = when-ok 7 (not (ltb (e .block) D)) _ r h in
+    let (b, h₂) = when-ok 7 (eqb n 0) _ r h₁ in
+    let (c, h₃) = when-ok 7 (ltb 32_767 n) _ r h₂ in
+    let (d, h₄) = when-ok 7 (ltb D (e .block + n)) _ r h₃ in
+    let (p, u, h₅) = bind-ok (first-entry F (e .headword) (drop 2 bytes)) _ r h₄ in
+    let (es, v, h₆) = bind-ok (entries-from F (length bytes) (p .0 .headword) (p .1)) _ r h₅ in
+    let (w, h₇) = when-ok 8 (not (ends-below F next (p .0 ∷ es))) _ r h₆ in
+    let (f₁, f₂) = first-told F (e .headword) (drop 2 bytes) p u in
+    rw (← same-value _ r h₇) (
+    record {
+      block = refl;
+      headword = refl;
+      size = refl;
+      some-blocks = omega (arith, eqb-false n 0 b);
+      few-blocks = ltb-false 32_767 n c;
+      inside = ltb-false D (e .block + n) d;
+      bytes = refl;
+      first = p .0;
+      others = es;
+      entries = refl;
+      first-headword = f₂;
+      read = whole F bytes p es f₁ v;
+      ends = not-false (ends-below F next (p .0 ∷ es)) w;
+    }
+    )
+
+-- the headword of the next run, if there is one
+abbrev pub next-run : List Run → Option (List ℕ)
+next-run [] = none
+next-run (r ∷ rs) = some (r .headword)
+
+-- runs of which each starts with its headword, ascends, and ends below the next
+abbrev pub RunsAscend : Format → List Run → Type 0
+RunsAscend F [] = Unit {0}
+RunsAscend F (r ∷ rs) =
+    ((first : Entry) × (others : List Entry) × (r .entries ≡ first ∷ others) × (first .headword ≡ r .headword)) × EntriesOk F [] (r .entries) × (ends-below F (next-run rs) (r .entries) ≡ true)
+    × RunsAscend F rs
+
+module _ (F : Format) (D : ℕ) (area : List ℕ) where
+  -- the first of the runs that were read, and the others
+  pub runs-first : (e : Element) (es : List Element) (rs : List Run) → runs-from F D area (e ∷ es) ≡ ok rs
+      → (r : Run) × (rs′ : List Run) × (rs ≡ r ∷ rs′) × (run-from F D area e (next-headword es) ≡ ok r) × (runs-from F D area es ≡ ok rs′)
+  unfolding runs-from
+  runs-first e es rs h =
+      let (r, u, h₁) = bind-ok (run-from F D area e (next-headword es)) _ rs h in
+      let (rs′, v, h₂) = bind-ok (runs-from F D area es) (λ rs′. ok (r ∷ rs′)) rs h₁ in
+      (r, rs′, sym (same-value (r ∷ rs′) rs h₂), u, v)
+
+  -- and what is known of it
+  pub runs-told : (e : Element) (es : List Element) (rs : List Run) → runs-from F D area (e ∷ es) ≡ ok rs
+      → (r : Run) × (rs′ : List Run) × (rs ≡ r ∷ rs′) × RunTold F D area e (next-headword es) r × (runs-from F D area es ≡ ok rs′)
+  runs-told e es rs h =
+      let (r, rs′, p, u, k) = runs-first e es rs h in
+      (r, rs′, p, run-told F D area e (next-headword es) r u, k)
+
+  -- the next run is the next element's
+  next-same : (es : List Element) (rs : List Run) → runs-from F D area es ≡ ok rs → next-headword es ≡ next-run rs
+  unfolding runs-from next-headword
+  next-same [] rs h = rw (← same-value [] rs h) refl
+  next-same (e ∷ es) rs h =
+      let (r, rs′, p, t, k) = runs-told e es rs h in
+      rw (p, t .headword) refl
+
+  -- runs that were read ascend
+  pub runs-ascend : (es : List Element) (rs : List Run) → runs-from F D area es ≡ ok rs → RunsAscend F rs
+  unfolding runs-from
+  runs-ascend [] rs h = rw (← same-value [] rs h) tt
+  runs-ascend (e ∷ es) rs h =
+      let (r, rs′, p, t, k) = runs-told e es rs h in
+      rw p ((t .first, t .others, t .entries, t .first-headword), entries-told F (suc (length (r .bytes))) [] (drop 2 (r .bytes)) (r .entries) (t .read), rw (next-same es rs′ k) at (t .ends), runs-ascend es rs′ k)
+
+  -- and lie inside the data area
+  pub runs-inside : (es : List Element) (rs : List Run) → runs-from F D area es ≡ ok rs → All (λ r. r .block + r .size ≤ D) rs
+  unfolding runs-from
+  runs-inside [] rs h = rw (← same-value [] rs h) tt
+  runs-inside (e ∷ es) rs h =
+      let (r, rs′, p, t, k) = runs-told e es rs h in
+      rw p (t .inside, runs-inside es rs′ k)
+
+-- an accepted image, step by step
+pub record ImageTold (F : Format) (s : List ℕ) (i : Image) : Type 0 where
+  pub frame : frame-from F s ≡ ok (i .frame)
+  pub elements : List Element
+  pub index : index-from F (i .frame .index-blocks) (get (F .layout .nindex2) s) (index-area (i .frame) s) ≡ ok elements
+  pub runs : runs-from F (i .frame .data-blocks) (data-area (i .frame) s) elements ≡ ok (i .runs)
+  pub free-list : free-list-from (i .frame .data-blocks) (i .frame .data-blocks) (get (F .layout .empty-block2) s) (data-area (i .frame) s) ≡ ok (i .free-list)
+  pub once : each-once (i .frame .data-blocks) (i .runs) (i .free-list) ≡ true
+  pub counts : counts-ok (F .layout) s (i .runs) ≡ true
+
+-- what is known of it
+pub image-told : (F : Format) (s : List ℕ) (i : Image) → image-by F s ≡ ok i → ImageTold F s i
+unfolding image-by
+image-told F s i h =
+    let (f, a, h₁) = bind-ok (frame-from F s) _ i h in
+    let (es, b, h₂) = bind-ok (index-from F (f .index-blocks) (get (F .layout .nindex2) s) (index-area f s)) _ i h₁ in
+    let (rs, c, h₃) = bind-ok (runs-from F (f .data-blocks) (data-area f s) es) _ i h₂ in
+    let (fl, d, h₄) = bind-ok (free-list-from (f .data-blocks) (f .data-blocks) (get (F .layout .empty-block2) s) (data-area f s)) _ i h₃ in
+    let (p, h₅) = when-ok 9 (not (each-once (f .data-blocks) rs fl)) _ i h₄ in
+    let (q, h₆) = when-ok 10 (not (counts-ok (F .layout) s rs)) _ i h₅ in
+    rw (← same-value (record { frame = f; runs = rs; free-list = fl }) i h₆) (
+    record {
+      frame = a;
+      elements = es;
+      index = b;
+      runs = c;
+      free-list = d;
+      once = not-false (each-once (f .data-blocks) rs fl) p;
+      counts = not-false (counts-ok (F .layout) s rs) q;
+    }
+    )

@@ -1,0 +1,527 @@
+-- What the walk over all runs shows, in the terms of the code.
+use Prim.Native.Nat.{ℕ, zero, suc, _+_, _-_, _*_, _<_, _≤_}
+use mathlib.Core.Path.{_≡_, refl, sym, ap, _∙_}
+use mathlib.Core.Logic.{_⊎_, inl, inr}
+use mathlib.Core.Bool.{Bool, true, false, not, false≢true}
+use mathlib.Core.List.{List, [], _∷_, _++_, append-assoc, append-nil}
+use mathlib.Core.Option.{Option, none, some}
+use native.Mathlib.Omega.{arith}
+use native.Mathlib.Nat.{add-zero}
+use lib.ListN.{length, take, drop, length-append}
+use lib.Seq.{length-take-le}
+use lib.Dec.{ltb, eqb}
+use borrow.Author.Needs.{needs}
+use borrow.Author.Tests.{lt-ltb, le-ltb, eq-eqb, ne-eqb, not-true, not-false}
+use Rattle.spec.specs.Outcome.{Outcome, refused, ok, _>>=_, _>>_, refuse_when_}
+use Rattle.spec.specs.Lists as Lists
+use Rattle.spec.specs.Bytes as BytesSpec
+use Rattle.spec.specs.Bytes.{from-little-endian, bytes-at, no-zero, bytes-equal}
+use Rattle.spec.specs.Order.{below-of}
+use Rattle.spec.specs.Header as Header
+use Rattle.spec.specs.Header.{Format, format4}
+use Rattle.spec.specs.Entry.{Entry}
+use Rattle.spec.proofs.PartLaws.{length-bytes-at}
+use Rattle.spec.proofs.IndexLaws.{headword-no-zero}
+use Rattle.spec.proofs.RunLaws.{head-bounds}
+use Rattle.spec.proofs.ReadLaws.{entry-told, first-told, same-bytes}
+use Rattle.spec.specs.Run as RunSpec
+use Rattle.spec.specs.Run.{Run, read-entry, entries-from}
+use Rattle.spec.specs.Index.{Element}
+use Rattle.spec.specs.Blocks as BlocksSpec
+use Rattle.spec.specs.Blocks.{run-blocks}
+use Rattle.spec.specs.Check as CheckSpec
+use Rattle.spec.specs.Check.{first-entry, ends-below, run-from, next-headword, runs-from, all-entries}
+use Rattle.runs.specs.Step as StepSpec
+use Rattle.runs.specs.Step.{step-entry, Kept}
+use Rattle.runs.proofs.Laws.{inside-short, told-broken, told-end, told-entry}
+use Rattle.runs.specs.declared.Step.{Step}
+use Rattle.index.specs.Elements as Elements
+use Rattle.index.specs.Elements.{element-end, element-headword, element-at, elements-at, Inside}
+use Rattle.index.proofs.Laws.{inside-start, inside-end, inside-next, elements-next, element-headword-length}
+use Rattle.marks.specs.Marks.{with-range}
+use Rattle.tally.specs.Tally.{Tally, covered, tally, runs-answer, last-below, Sized, Started}
+use Rattle.tally.specs.declared.Runs.{Runs}
+
+-- a run of n blocks by its first entry, the entries read so far and those that follow
+abbrev finished : Format → Element → Option (List ℕ) → ℕ → List ℕ → List Entry → Outcome (List Entry) → Outcome Run
+finished F e next n bytes before o = do
+  es ← o
+  refuse 8 when not (ends-below F next (before ++ es))
+  ok (record { headword = e .headword; block = e .block; size = n; bytes = bytes; entries = before ++ es })
+
+module _ (F : Format) where
+  -- whether entries end below the next headword is told by the last
+  ends-by-last : (next : Option (List ℕ)) (es : List Entry) (e : Entry) → ends-below F next (es ++ e ∷ []) ≡ last-below F (e .headword) next
+  unfolding CheckSpec.ends-below last-below
+  ends-by-last none [] e = refl
+  ends-by-last (some k) [] e = refl
+  ends-by-last next (a ∷ []) e = ends-by-last next [] e
+  ends-by-last next (a ∷ b ∷ es) e = ends-by-last next (b ∷ es) e
+
+  module _ (D : ℕ) (area : List ℕ) (e : Element) (next : Option (List ℕ)) where
+    -- row 7: number not below D
+    unplaced-number : D ≤ e .block → run-from F D area e next ≡ refused 7
+    unfolding CheckSpec.run-from
+    unplaced-number p = rw (le-ltb (e .block) D p)
+
+    module _ (p : e .block < D) (n : ℕ) (count : n ≡ from-little-endian (bytes-at (256 * e .block) 2 area)) where
+      -- size 0
+      unplaced-none : n ≡ 0 → run-from F D area e next ≡ refused 7
+      unfolding CheckSpec.run-from
+      unplaced-none q = rw (lt-ltb (e .block) D p, ← count, eq-eqb n 0 q)
+
+      module _ (some-blocks : n ≡ 0 → ⊥) where
+        -- top bit set
+        unplaced-top : 32_767 < n → run-from F D area e next ≡ refused 7
+        unfolding CheckSpec.run-from
+        unplaced-top q = rw (lt-ltb (e .block) D p, ← count, ne-eqb n 0 some-blocks, lt-ltb 32_767 n q)
+
+        module _ (few : n ≤ 32_767) where
+          -- run past the data area
+          unplaced-past : D < e .block + n → run-from F D area e next ≡ refused 7
+          unfolding CheckSpec.run-from
+          unplaced-past q = rw (lt-ltb (e .block) D p, ← count, ne-eqb n 0 some-blocks, le-ltb 32_767 n few, lt-ltb D (e .block + n) q)
+
+          -- a run that row 7 lets pass
+          placed : e .block + n ≤ D → (bytes : List ℕ) → bytes ≡ bytes-at (256 * e .block) (256 * n) area
+              → run-from F D area e next
+              ≡ first-entry F (e .headword) (drop 2 bytes)
+              >>= λ p. finished F e next n bytes (p .0 ∷ []) (entries-from F (length bytes) (p .0 .headword) (p .1))
+          unfolding CheckSpec.run-from
+          placed q bytes b = rw (lt-ltb (e .block) D p, ← count, ne-eqb n 0 some-blocks, le-ltb 32_767 n few, le-ltb D (e .block + n) q, b)
+
+-- a run of n blocks of which the first entries are read, so many; the last one's headword is in the buffer
+pub record Reading (F : Format) (D : ℕ) (area : List ℕ) (e : Element) (next : Option (List ℕ)) (n : ℕ) (run word : List ℕ) (len pos count : ℕ) : Type 0 where
+  pub fuel : ℕ
+  pub room : length run ≤ pos + fuel
+  pub inside : pos ≤ length run
+  pub few : count ≤ pos
+  pub buffer : length word ≡ 256
+  pub short : len ≤ 248
+  pub clean : no-zero (take len word) ≡ true
+  pub earlier : List Entry
+  pub last : Entry
+  pub last-word : last .headword ≡ take len word
+  pub counted : count ≡ suc (length earlier)
+  pub rest : run-from F D area e next ≡ finished F e next n run (earlier ++ last ∷ []) (entries-from F (suc fuel) (take len word) (drop pos run))
+
+-- entries by the first of them
+entries-next : (F : Format) (m : ℕ) (prev s rest : List ℕ) (d : Entry) → read-entry F prev s ≡ ok (some (d, rest)) → entries-from F (suc m) prev s ≡ entries-from F m (d .headword) rest >>= λ ds. ok (d ∷ ds)
+unfolding RunSpec.entries-from
+entries-next F m prev s rest d h = rw h
+
+module _ (F : Format) (D : ℕ) (area : List ℕ) (e : Element) (next : Option (List ℕ)) (n : ℕ) (run word : List ℕ) (len pos count : ℕ) (v : Reading F D area e next n run word len pos count) (st : Step)
+    (word′ : List ℕ) (step : step-entry run word′ st ≡ read-entry F (take len word) (drop pos run)) where
+  -- an entry rule is broken
+  pub reading-broken : st ≡ Step.Broken → run-from F D area e next ≡ refused 8
+  unfolding step-entry RunSpec.entries-from
+  reading-broken h =
+      let k : read-entry F (take len word) (drop pos run) ≡ refused 8 = sym step ∙ ap (step-entry run word′) h in
+      v .rest ∙ rw k
+
+  -- the entries end
+  ended : st ≡ Step.End → run-from F D area e next ≡ finished F e next n run (v .earlier ++ v .last ∷ []) (ok [])
+  unfolding step-entry RunSpec.entries-from
+  ended h =
+      let k : read-entry F (take len word) (drop pos run) ≡ ok none = sym step ∙ ap (step-entry run word′) h in
+      v .rest ∙ rw k
+
+  module _ (h : st ≡ Step.End) (b : Bool) (ends : b ≡ last-below F (take len word) next) where
+    end-told : ends-below F next (v .earlier ++ v .last ∷ []) ≡ b
+    end-told = ends-by-last F next (v .earlier) (v .last) ∙ ap (λ (k : List ℕ). last-below F k next) (v .last-word) ∙ sym ends
+
+    all-read : (v .earlier ++ v .last ∷ []) ++ [] ≡ v .earlier ++ v .last ∷ []
+    all-read = append-nil (v .earlier ++ v .last ∷ [])
+
+    -- the last headword is not below the next element's
+    pub reading-high : b ≡ false → run-from F D area e next ≡ refused 8
+    reading-high f = ended h ∙ rw (all-read, end-told, f)
+
+    -- a run that keeps all rules, with as many entries as were counted
+    pub reading-good : b ≡ true → (r : Run) × (run-from F D area e next ≡ ok r) × (length (r .entries) ≡ count) × (r .block ≡ e .block) × (r .size ≡ n)
+    reading-good t = (
+      record { headword = e .headword; block = e .block; size = n; bytes = run; entries = v .earlier ++ v .last ∷ [] },
+      ended h ∙ rw (all-read, end-told, t),
+      rw length-append (omega (arith, v .counted)),
+      refl,
+      refl,
+    )
+
+  -- one entry more
+  pub reading-turn : StepSpec.Inside pos run st → (k z x : ℕ) → st ≡ Step.Entry k z x → length word′ ≡ length word → Reading F D area e next n run word′ k x (count + 1)
+  unfolding step-entry
+  reading-turn place k z x h l =
+      let i = place k z x h in
+      let d : Entry = record { headword = take k word′; body = bytes-at (z + 1) (x - (z + 1)) run } in
+      let t : read-entry F (take len word) (drop pos run) ≡ ok (some (d, drop x run)) = sym step ∙ ap (step-entry run word′) h in
+      let (good, less) = entry-told F (take len word) (drop pos run) d (drop x run) t in
+      let j : suc (v .fuel - 1) ≡ v .fuel = omega (arith, v .room) in
+      record {
+        fuel = v .fuel - 1;
+        room = omega (arith, v .room);
+        inside = i .2;
+        few = omega (arith, v .few);
+        buffer = l ∙ v .buffer;
+        short = i .5;
+        clean = headword-no-zero (take k word′) (good .0);
+        earlier = v .earlier ++ v .last ∷ [];
+        last = d;
+        last-word = refl;
+        counted = rw length-append (omega (arith, v .counted));
+        rest = rw j (v .rest ∙ rw (entries-next F (v .fuel) (take len word) (drop pos run) (drop x run) d t) (joined (v .earlier ++ v .last ∷ []) d (entries-from F (v .fuel) (take k word′) (drop x run))));
+      }
+    where
+      joined : (es : List Entry) (d : Entry) (o : Outcome (List Entry)) → finished F e next n run es (o >>= λ ds. ok (d ∷ ds)) ≡ finished F e next n run (es ++ d ∷ []) o
+      joined es d (refused c) = refl
+      joined es d (ok ds) = rw (append-assoc es (d ∷ []) ds)
+
+module _ (F : Format) (D : ℕ) (area : List ℕ) (b : ℕ) where
+  -- row 7: number not below D
+  pub sized-number : D ≤ b → Sized F D area b 0
+  sized-number p = ((λ e next q z. unplaced-number F D area e next (rw q p)), λ z. absurd (omega arith))
+
+  module _ (p : b < D) (n : ℕ) (count : n ≡ from-little-endian (bytes-at (256 * b) 2 area)) where
+    no-blocks : n ≡ 0 → (e : Element) (next : Option (List ℕ)) → e .block ≡ b → run-from F D area e next ≡ refused 7
+    no-blocks z e next q = unplaced-none F D area e next (rw q p) n (rw q count) z
+
+    -- top bit set
+    pub sized-top : 32_767 < n → Sized F D area b 0
+    sized-top t = ((λ e next q z. unplaced-top F D area e next (rw q p) n (rw q count) (λ y. omega arith) t), λ z. absurd (omega arith))
+
+    -- run past the data area
+    pub sized-past : n ≤ 32_767 → D - b < n → Sized F D area b 0
+    sized-past t u = ((λ e next q z. unplaced-past F D area e next (rw q p) n (rw q count) (λ y. omega arith) t (rw q (omega arith))), λ z. absurd (omega arith))
+
+    -- size 0, or a good one
+    pub sized-good : n ≤ 32_767 → n ≤ D - b → Sized F D area b n
+    sized-good t u = ((λ e next q z. no-blocks z e next q), λ z. (p, count, t, omega arith))
+
+-- no headword has no zero byte
+pub none-clean : no-zero [] ≡ true
+unfolding BytesSpec.no-zero Lists.all
+none-clean = refl
+
+module _ (at : ℕ) (run : List ℕ) (st : Step) (inside : StepSpec.Inside at run st) (n z e : ℕ) (h : st ≡ Step.Entry n z e) where
+  module _ (word word′ : List ℕ) (room : 248 ≤ length word) (kept : length word′ ≡ length word) where
+    -- its headword has room in the buffer
+    pub entry-room : n ≤ length word′
+    entry-room = omega (arith, inside-short at run st inside n z e h)
+
+    -- and as many bytes as it says
+    pub entry-front : n ≡ length (take n word′)
+    entry-front = sym (length-take-le n word′ entry-room)
+
+-- the first step through a run: where its first entry ends
+module _ (F : Format) (h run word′ : List ℕ) (st : Step) (step : step-entry run word′ st ≡ read-entry F [] (drop 2 run)) where
+  refused-first : first-entry F h (drop 2 run) ≡ refused 8 → Started F h run word′ 0
+  refused-first q = (λ z. q, λ z. absurd (omega arith))
+
+  -- an entry rule is broken
+  pub started-broken : st ≡ Step.Broken → Started F h run word′ 0
+  unfolding CheckSpec.first-entry
+  started-broken e =
+      let k : read-entry F [] (drop 2 run) ≡ refused 8 = told-broken F [] (drop 2 run) run word′ st step e in
+      refused-first (rw k)
+
+  -- a run without entries
+  pub started-none : st ≡ Step.End → Started F h run word′ 0
+  unfolding CheckSpec.first-entry
+  started-none e =
+      let k : read-entry F [] (drop 2 run) ≡ ok none = told-end F [] (drop 2 run) run word′ st step e in
+      refused-first (rw k)
+
+  module _ (k z x : ℕ) (e : st ≡ Step.Entry k z x) (b : Bool) (same : b ≡ bytes-equal (take k word′) h) where
+    found : read-entry F [] (drop 2 run) ≡ ok (some (record { headword = take k word′; body = bytes-at (z + 1) (x - (z + 1)) run }, drop x run))
+    found = told-entry F [] (drop 2 run) run word′ st step k z x e
+
+    -- it is not the element's
+    pub started-other : b ≡ false → Started F h run word′ 0
+    unfolding CheckSpec.first-entry
+    started-other f = refused-first (rw (found, ← same, f))
+
+    -- it is the element's
+    pub started-same : b ≡ true → StepSpec.Inside 2 run st → k ≤ length word′ → Started F h run word′ x
+    unfolding CheckSpec.first-entry
+    started-same t inside room =
+        let w : take k word′ ≡ h = same-bytes (take k word′) h (sym same ∙ t) in
+        let l : length h ≡ k = ap length (sym w) ∙ length-take-le k word′ room in
+        let i = inside k z x e in
+        (λ n. absurd (omega arith), λ n. (omega arith, rw l w, bytes-at (z + 1) (x - (z + 1)) run, rw (← w) (rw (found, ← same, t))))
+
+-- the bytes of n blocks from block b on, as the code cuts them out
+abbrev pub run-slice : List ℕ → ℕ → ℕ → List ℕ
+run-slice area b n = take (256 * b + 256 * n - 256 * b) (drop (256 * b) area)
+
+pub slice-same : (area : List ℕ) (b n : ℕ) → run-slice area b n ≡ bytes-at (256 * b) (256 * n) area
+unfolding BytesSpec.bytes-at
+slice-same area b n =
+    let k : 256 * b + 256 * n - 256 * b ≡ 256 * n = omega arith in
+    rw k
+
+pub slice-long : (area : List ℕ) (b n D : ℕ) → 256 * D ≡ length area → b + n ≤ D → length (run-slice area b n) ≡ 256 * n
+slice-long area b n D l p = rw (slice-same area b n) (length-bytes-at area (256 * b) (256 * n) (omega arith))
+
+module _ (F : Format) (D : ℕ) (area : List ℕ) (e : Element) (next : Option (List ℕ)) (n b : ℕ) (num : e .block ≡ b) (sized : Sized F D area b n) where
+  -- row 7
+  pub walk-unplaced : n ≡ 0 → run-from F D area e next ≡ refused 7
+  walk-unplaced z = sized .0 e next num z
+
+  module _ (some-blocks : n ≡ 0 → ⊥) (long : 256 * D ≡ length area) (h : List ℕ) (head : e .headword ≡ h) where
+    told : (b < D) × (n ≡ from-little-endian (bytes-at (256 * b) 2 area)) × (n ≤ 32_767) × (b + n ≤ D)
+    told = sized .1 (omega arith)
+
+    opened : run-from F D area e next ≡ first-entry F h (drop 2 (run-slice area b n)) >>= λ p. finished F e next n (run-slice area b n) (p .0 ∷ []) (entries-from F (length (run-slice area b n)) (p .0 .headword) (p .1))
+    opened =
+        let (p, c, f, q) = told in
+        rw (← head) (placed F D area e next (rw num p) n (rw num c) some-blocks f (rw num q) (run-slice area b n) (rw num (slice-same area b n)))
+
+    module _ (x : ℕ) (word′ : List ℕ) (start : Started F h (run-slice area b n) word′ x) where
+      -- the first entry is broken or not the element's
+      pub walk-no-first : x ≡ 0 → run-from F D area e next ≡ refused 8
+      walk-no-first q = opened ∙ rw (start .0 q)
+
+      -- the first entry is read
+      pub reading-start : (x ≡ 0 → ⊥) → x ≤ length (run-slice area b n) → (k : ℕ) → k ≡ length h → length word′ ≡ 256 → Reading F D area e next n (run-slice area b n) word′ k x 1
+      reading-start there w k s l =
+          let (two, whole, body, g) = start .1 (omega arith) in
+          let d : Entry = record { headword = h; body = body } in
+          let (r, same) = first-told F h (drop 2 (run-slice area b n)) (d, drop x (run-slice area b n)) g in
+          let (good, less) = entry-told F [] (drop 2 (run-slice area b n)) d (drop x (run-slice area b n)) r in
+          let j : suc (length (run-slice area b n) - 1) ≡ length (run-slice area b n) = omega arith in
+          let y : take k word′ ≡ h = rw s whole in
+          record {
+            fuel = length (run-slice area b n) - 1;
+            room = omega arith;
+            inside = w;
+            few = omega arith;
+            buffer = l;
+            short = rw s (head-bounds h (good .0) .1);
+            clean = rw y (headword-no-zero h (good .0));
+            earlier = [];
+            last = d;
+            last-word = sym y;
+            counted = refl;
+            rest = rw (j, y) (opened ∙ rw g);
+          }
+
+-- no more elements than bytes
+inside-few : (index : List ℕ) (at n : ℕ) → Inside index at n → at + n ≤ length index
+unfolding Elements.element-end
+inside-few index at zero p = omega (arith, p)
+inside-few index at (suc n) (p, q, r) = omega (arith, inside-few index (element-end index at + 1) n r)
+
+-- a run in front of others, counted
+tally-cons : (w b : ℕ) (ms : List Bool) (r : Run) (o : Outcome (List Run)) → tally w b ms (o >>= λ rs. ok (r ∷ rs)) ≡ tally (w + length (r .entries)) (b + r .size) (with-range (r .block) (r .size) true ms) o
+unfolding tally covered CheckSpec.all-entries BlocksSpec.run-blocks
+tally-cons w b ms r (refused n) = refl
+tally-cons w b ms r (ok rs) =
+    let p : w + length (r .entries ++ all-entries rs) ≡ w + length (r .entries) + length (all-entries rs) = rw length-append (omega arith) in
+    let q : b + (r .size + run-blocks rs) ≡ b + r .size + run-blocks rs = omega arith in
+    rw (p, q)
+
+-- so many entries and blocks and these marks so far, and the answer is that of the elements from `at` on
+pub record Walking (F : Format) (index area : List ℕ) (n D : ℕ) (ms₀ : List Bool) (words blocks at left : ℕ) (ms : List Bool) : Type 0 where
+  pub standing : Inside index at left
+  pub fewer : left ≤ n
+  pub few : n ≤ length index
+  pub few-words : words ≤ (n - left) * 8_388_608
+  pub few-blocks : blocks ≤ (n - left) * 32_768
+  pub rest : tally 0 0 ms₀ (runs-from F D area (elements-at index 0 n)) ≡ tally words blocks ms (runs-from F D area (elements-at index at left))
+
+pub walk-start : (F : Format) (index area : List ℕ) (n D : ℕ) (ms : List Bool) → Inside index 0 n → Walking F index area n D ms 0 0 0 n ms
+walk-start F index area n D ms p = record { standing = p; fewer = omega arith; few = omega (arith, inside-few index 0 n p); few-words = omega arith; few-blocks = omega arith; rest = refl }
+
+-- the headword behind an element, if there is one
+abbrev pub following : List ℕ → ℕ → ℕ → Option (List ℕ)
+following index at left = next-headword (elements-at index (element-end index at + 1) (left - 1))
+
+module _ (F : Format) (index area : List ℕ) (n D : ℕ) (ms₀ : List Bool) (words blocks at left : ℕ) (ms : List Bool) (v : Walking F index area n D ms₀ words blocks at left ms) where
+  -- all runs are read
+  pub walk-done : left ≡ 0 → runs-answer (Runs.Read words blocks) ms ≡ tally 0 0 ms₀ (runs-from F D area (elements-at index 0 n))
+  unfolding runs-answer tally covered Elements.elements-at CheckSpec.runs-from CheckSpec.all-entries BlocksSpec.run-blocks
+  walk-done z = sym (v .rest ∙ rw (z, add-zero, add-zero))
+
+  module _ (some-left : left ≡ 0 → ⊥) where
+    here : elements-at index at left ≡ element-at index at ∷ elements-at index (element-end index at + 1) (left - 1)
+    unfolding Elements.elements-at
+    here =
+        let j : left ≡ suc (left - 1) = omega arith in
+        ap (elements-at index at) j
+
+    -- "The walk stops at the first fault it meets."
+    pub walk-refused : (k : ℕ) (ms′ : List Bool) → run-from F D area (element-at index at) (following index at left) ≡ refused k
+        → runs-answer (Runs.Refused k) ms′ ≡ tally 0 0 ms₀ (runs-from F D area (elements-at index 0 n))
+    unfolding runs-answer tally CheckSpec.runs-from
+    walk-refused k ms′ h = sym (v .rest ∙ rw (here, h))
+
+    -- one run more
+    pub walk-next : (r : Run) (count b size : ℕ) (ms′ : List Bool) → run-from F D area (element-at index at) (following index at left) ≡ ok r
+        → length (r .entries) ≡ count → r .block ≡ b → r .size ≡ size → count ≤ 8_388_608 → size ≤ 32_767 → ms′ ≡ with-range b size true ms
+        → Walking F index area n D ms₀ (words + count) (blocks + size) (element-end index at + 1) (left - 1) ms′
+    unfolding CheckSpec.runs-from
+    walk-next r count b size ms′ h c num z few′ small m =
+        record {
+          standing = inside-next index at left (v .standing) (omega arith);
+          fewer = omega (arith, v .fewer);
+          few = v .few;
+          few-words = omega (arith, v .fewer, v .few-words);
+          few-blocks = omega (arith, v .fewer, v .few-blocks);
+          rest = v .rest ∙ rw (here, opened) (tally-cons words blocks ms r others ∙ rw (c, num, z, m));
+        }
+      where
+        others : Outcome (List Run)
+        others = runs-from F D area (elements-at index (element-end index at + 1) (left - 1))
+
+        opened : runs-from F D area (element-at index at ∷ elements-at index (element-end index at + 1) (left - 1)) ≡ others >>= λ rs. ok (r ∷ rs)
+        opened = rw h
+
+-- there is no next element
+pub ends-none : (F : Format) (index last : List ℕ) (at left : ℕ) → left ≡ 0 → true ≡ last-below F last (next-headword (elements-at index at left))
+unfolding last-below CheckSpec.next-headword Elements.elements-at
+ends-none F index last at left z = rw z
+
+module _ (index : List ℕ) (at left : ℕ) (some-left : left ≡ 0 → ⊥) where
+  -- the next element's headword decides
+  pub ends-next : (last : List ℕ) (end : ℕ) (b : Bool) → end ≡ element-end index at → b ≡ below-of 0 last (take (end - (at + 2)) (drop (at + 2) index))
+      → b ≡ last-below format4 last (next-headword (elements-at index at left))
+  unfolding last-below CheckSpec.next-headword Elements.element-at Elements.element-headword BytesSpec.bytes-at Header.format4
+  ends-next last end b e h = rw (elements-next index at left (omega arith), ← e) h
+
+module _ (index : List ℕ) (at left : ℕ) (standing : Inside index at left) (some-left : left ≡ 0 → ⊥) where
+  -- an element's number stands inside the index
+  pub number-inside : at + 2 ≤ length index
+  number-inside = inside-start index at left standing (omega arith)
+
+  -- so does its headword, and its zero byte
+  pub headword-inside : (end : ℕ) → end ≡ element-end index at → end < length index
+  headword-inside end e = rw e (inside-end index at left standing (omega arith))
+
+-- a step takes bytes
+pub turn-less : (pos : ℕ) (run : List ℕ) (st : Step) → StepSpec.Inside pos run st → (k z x : ℕ) → st ≡ Step.Entry k z x → length run - x < length run - pos
+turn-less pos run st place k z x h =
+    let i = place k z x h in
+    omega arith
+
+-- the walk inside the run of an element, in the terms of the code
+pub record Underway (index area : List ℕ) (D words blocks at left b size : ℕ) (run : List ℕ) (end : ℕ) (word : List ℕ) (len pos count : ℕ) : Type 0 where
+  pub standing : Inside index at left
+  pub some-left : left ≡ 0 → ⊥
+  pub number : b ≡ from-little-endian (bytes-at at 2 index)
+  pub ended : end ≡ element-end index at
+  pub many-words : words ≤ 70_368_744_177_664
+  pub many-blocks : blocks ≤ 274_877_906_944
+  pub end-low : end < 8_388_608
+  pub small : size ≤ 32_767
+  pub placed-in : b + size ≤ D
+  pub long : length run ≡ 256 * size
+  pub reading : Reading format4 D area (element-at index at) (following index at left) size run word len pos count
+
+-- the walk at an element, in the terms of the code
+module _ (index area : List ℕ) (n D : ℕ) (ms₀ : List Bool) (words blocks at left : ℕ) (ms : List Bool) (v : Walking format4 index area n D ms₀ words blocks at left ms) (some-left : left ≡ 0 → ⊥) where
+  -- its number stands inside the index
+  pub walk-number : at + 2 ≤ length index
+  walk-number = number-inside index at left (v .standing) some-left
+
+  module _ (b : ℕ) (num : b ≡ from-little-endian (bytes-at at 2 index)) (size : ℕ) (sized : Sized format4 D area b size) where
+    number : element-at index at .block ≡ b
+    unfolding Elements.element-at
+    number = sym num
+
+    -- row 7
+    pub walk-seven : (ms′ : List Bool) → size ≡ 0 → runs-answer (Runs.Refused 7) ms′ ≡ tally 0 0 ms₀ (runs-from format4 D area (elements-at index 0 n))
+    walk-seven ms′ z = walk-refused format4 index area n D ms₀ words blocks at left ms v some-left 7 ms′ (walk-unplaced format4 D area (element-at index at) (following index at left) size b number sized z)
+
+    module _ (some-blocks : size ≡ 0 → ⊥) (long : 256 * D ≡ length area) (end : ℕ) (e : end ≡ element-end index at) where
+      headword : element-at index at .headword ≡ take (end - (at + 2)) (drop (at + 2) index)
+      unfolding Elements.element-at Elements.element-headword BytesSpec.bytes-at
+      headword = rw e
+
+      headword-long : end - (at + 2) ≡ length (take (end - (at + 2)) (drop (at + 2) index))
+      unfolding Elements.element-at
+      headword-long = rw e (sym (element-headword-length index at walk-number)) ∙ ap length headword
+
+      module _ (x : ℕ) (word′ : List ℕ) (start : Started format4 (take (end - (at + 2)) (drop (at + 2) index)) (run-slice area b size) word′ x) where
+        -- row 8: the first entry
+        pub walk-eight : (ms′ : List Bool) → x ≡ 0 → runs-answer (Runs.Refused 8) ms′ ≡ tally 0 0 ms₀ (runs-from format4 D area (elements-at index 0 n))
+        walk-eight ms′ z = walk-refused format4 index area n D ms₀ words blocks at left ms v some-left 8 ms′
+            (walk-no-first format4 D area (element-at index at) (following index at left) size b number sized some-blocks long (take (end - (at + 2)) (drop (at + 2) index)) headword x word′ start z)
+
+        -- the first entry is read
+        pub walk-reading : (x ≡ 0 → ⊥) → x ≤ length (run-slice area b size) → length word′ ≡ 256 → length index ≤ 8_388_608
+            → Underway index area D words blocks at left b size (run-slice area b size) end word′ (end - (at + 2)) x 1
+        walk-reading there w l few =
+            let told = sized .1 (omega arith) in
+            let past : end < length index = headword-inside index at left (v .standing) some-left end e in
+            record {
+              standing = v .standing;
+              some-left = some-left;
+              number = num;
+              ended = e;
+              many-words = omega (arith, v .few-words, v .fewer, v .few);
+              many-blocks = omega (arith, v .few-blocks, v .fewer, v .few);
+              end-low = omega arith;
+              small = told .2;
+              placed-in = told .3;
+              long = slice-long area b size D long (told .3);
+              reading =
+                  reading-start format4 D area (element-at index at) (following index at left) size b number sized some-blocks long (take (end - (at + 2)) (drop (at + 2) index)) headword x word′ start there w (end - (at + 2))
+                  headword-long l;
+            }
+
+-- a step inside the run
+module _ (index area : List ℕ) (D words blocks at left b size : ℕ) (run : List ℕ) (end : ℕ) (word : List ℕ) (len pos count : ℕ)
+    (u : Underway index area D words blocks at left b size run end word len pos count) (st : Step) (word′ : List ℕ) (step : step-entry run word′ st ≡ read-entry format4 (take len word) (drop pos run)) where
+  -- row 8: an entry rule
+  pub walk-broken : (n : ℕ) (ms₀ ms : List Bool) → Walking format4 index area n D ms₀ words blocks at left ms → (ms′ : List Bool) → st ≡ Step.Broken → runs-answer (Runs.Refused 8) ms′ ≡ tally 0 0 ms₀ (runs-from format4 D area (elements-at index 0 n))
+  walk-broken n ms₀ ms v ms′ h =
+      walk-refused format4 index area n D ms₀ words blocks at left ms v (u .some-left) 8 ms′
+      (reading-broken format4 D area (element-at index at) (following index at left) size run word len pos count (u .reading) st word′ step h)
+
+  -- one entry more
+  pub walk-turn : StepSpec.Inside pos run st → (k z x : ℕ) → st ≡ Step.Entry k z x → length word′ ≡ length word → Underway index area D words blocks at left b size run end word′ k x (count + 1)
+  walk-turn place k z x h l =
+      record {
+        standing = u .standing;
+        some-left = u .some-left;
+        number = u .number;
+        ended = u .ended;
+        many-words = u .many-words;
+        many-blocks = u .many-blocks;
+        end-low = u .end-low;
+        small = u .small;
+        placed-in = u .placed-in;
+        long = u .long;
+        reading = reading-turn format4 D area (element-at index at) (following index at left) size run word len pos count (u .reading) st word′ step place k z x h l;
+      }
+
+  module _ (h : st ≡ Step.End) (kept : Kept word word′ st) (t : Bool) (ends : t ≡ last-below format4 (take len word′) (next-headword (elements-at index (end + 1) (left - 1)))) where
+    ends-here : t ≡ last-below format4 (take len word) (following index at left)
+    ends-here =
+        let k : word′ ≡ word = kept h in
+        rw (← k, ← u .ended) ends
+
+    -- row 8: the last headword
+    pub walk-high : (n : ℕ) (ms₀ ms : List Bool) → Walking format4 index area n D ms₀ words blocks at left ms → (ms′ : List Bool) → not t ≡ true → runs-answer (Runs.Refused 8) ms′ ≡ tally 0 0 ms₀ (runs-from format4 D area (elements-at index 0 n))
+    walk-high n ms₀ ms v ms′ f =
+        walk-refused format4 index area n D ms₀ words blocks at left ms v (u .some-left) 8 ms′
+        (reading-high format4 D area (element-at index at) (following index at left) size run word len pos count (u .reading) st word′ step h t ends-here (not-true t f))
+
+    -- one run more
+    pub walk-on : (n : ℕ) (ms₀ ms : List Bool) → Walking format4 index area n D ms₀ words blocks at left ms → not t ≡ false → (ms′ : List Bool) → ms′ ≡ with-range b size true ms → Walking format4 index area n D ms₀ (words + count) (blocks + size) (end + 1) (left - 1) ms′
+    unfolding Elements.element-at
+    walk-on n ms₀ ms v f ms′ m =
+        let (r, g, c, x, y) = reading-good format4 D area (element-at index at) (following index at left) size run word len pos count (u .reading) st word′ step h t ends-here (not-false t f) in
+        rw (u .ended) (walk-next format4 index area n D ms₀ words blocks at left ms v (u .some-left) r count b size ms′ g c (x ∙ sym (u .number)) y (omega (arith, u .small, u .long, u .reading .few, u .reading .inside)) (u .small) m)
+
+-- where the walk stands inside a run
+module _ (index area : List ℕ) (D words blocks at left b size : ℕ) (run : List ℕ) (end : ℕ) (word : List ℕ) (len pos count : ℕ)
+    (u : Underway index area D words blocks at left b size run end word len pos count) where
+  -- the other elements stand behind
+  pub walk-behind : Inside index (end + 1) (left - 1)
+  walk-behind = rw (u .ended) (inside-next index at left (u .standing) (omega (arith, u .some-left)))
+
+  -- the headword in the buffer has as many bytes as are counted
+  pub walk-front : (word′ : List ℕ) → length word′ ≡ length word → len ≡ length (take len word′)
+  walk-front word′ l = sym (length-take-le len word′ (omega (arith, u .reading .buffer, u .reading .short)))
+
+pub ruleset runs-laws = (walk-start, walk-done, walk-number, walk-behind, walk-seven, walk-eight, walk-reading, turn-less, walk-broken, walk-turn, walk-high, walk-on, walk-front, needs)

@@ -1,0 +1,59 @@
+-- What is counted of runs: their entries, their blocks, and the marks of these.
+use Prim.Native.Nat.{ℕ, _+_, _*_, _<_, _≤_}
+use mathlib.Core.Path.{_≡_}
+use mathlib.Core.Bool.{Bool, true}
+use mathlib.Core.List.{List, [], _∷_}
+use mathlib.Core.Option.{Option, none, some}
+use lib.ListN.{length, take, drop}
+use Rattle.spec.specs.Outcome.{Outcome, refused, ok}
+use Rattle.spec.specs.Bytes.{from-little-endian, bytes-at}
+use Rattle.spec.specs.Header.{Format}
+use Rattle.spec.specs.Index.{Element}
+use Rattle.spec.specs.Run.{Run}
+use Rattle.spec.specs.Blocks.{run-blocks}
+use Rattle.spec.specs.Check.{all-entries, first-entry, run-from}
+use Rattle.marks.specs.Marks.{with-range}
+use Rattle.tally.specs.declared.Runs.{Runs}
+
+-- the marks with those of all blocks of runs set
+unfoldable pub covered : List Run → List Bool → List Bool
+covered [] ms = ms
+covered (r ∷ rs) ms = covered rs (with-range (r .block) (r .size) true ms)
+
+-- entries, blocks, and marks of blocks
+pub record Tally : Type 0 where
+  pub words : ℕ
+  pub blocks : ℕ
+  pub marked : List Bool
+
+-- runs counted, after so many entries and blocks and these marks
+unfoldable pub tally : ℕ → ℕ → List Bool → Outcome (List Run) → Outcome Tally
+tally w b ms (refused n) = refused n
+tally w b ms (ok rs) = ok (record { words = w + length (all-entries rs); blocks = b + run-blocks rs; marked = covered rs ms })
+
+-- the answer about all runs, with the marks then
+unfoldable pub runs-answer : Runs → List Bool → Outcome Tally
+runs-answer (Runs.Read w b) ms = ok (record { words = w; blocks = b; marked = ms })
+runs-answer (Runs.Refused n) ms = refused n
+
+-- "the last is below the next element's", by the last headword
+unfoldable pub last-below : Format → List ℕ → Option (List ℕ) → Bool
+last-below F h none = true
+last-below F h (some k) = F .below h k
+
+-- what is known of the size that row 7 allows the run at block b: 0 where it is refused
+abbrev pub Sized : Format → ℕ → List ℕ → ℕ → ℕ → Type 0
+Sized F D area b n =
+    ((e : Element) (next : Option (List ℕ)) → e .block ≡ b → n ≡ 0 → run-from F D area e next ≡ refused 7)
+    × (0 < n → (b < D) × (n ≡ from-little-endian (bytes-at (256 * b) 2 area)) × (n ≤ 32_767) × (b + n ≤ D))
+
+-- what is known of the place where the first entry of a run ends, which is to have the headword h: 0 where it is refused
+abbrev pub Started : Format → List ℕ → List ℕ → List ℕ → ℕ → Type 0
+Started F h run word x =
+    (x ≡ 0 → first-entry F h (drop 2 run) ≡ refused 8)
+    × (0 < x → (2 < x) × (take (length h) word ≡ h) × (body : List ℕ) × (first-entry F h (drop 2 run) ≡ ok (record { headword = h; body = body }, drop x run)))
+
+-- names all definitions of this module: who unfolds it unfolds them
+unfoldable pub open-tally : Unit {0}
+unfolding covered tally runs-answer last-below
+open-tally = tt
