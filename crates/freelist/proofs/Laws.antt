@@ -14,7 +14,7 @@ use Rattle.spec.specs.Outcome.{Outcome, refused, ok, _>>=_, _>>_, refuse_when_}
 use Rattle.spec.specs.Lists.{any, filter, count, range-from}
 use Rattle.spec.specs.Bytes.{from-little-endian, bytes-at, all-zero}
 use Rattle.spec.specs.Blocks.{free-list-end, free-list-from, free-marks, count-marks}
-use Rattle.spec.proofs.ListsLaws.{All, less-or, length-range}
+use Rattle.spec.proofs.ListsLaws.{or-false, All, less-or, length-range}
 use Rattle.freelist.specs.FreeList.{has-length, with-marks}
 
 -- ---- the numbers
@@ -136,10 +136,6 @@ pub length-with-marks : (fl : List ℕ) (ms : List Bool) → length (with-marks 
 unfolding with-marks
 length-with-marks [] ms = refl
 length-with-marks (a ∷ fl) ms = length-with-marks fl (set ms a true) ∙ length-set ms a true
-
-or-false : (t : Bool) → t ≡ t || false
-or-false true = refl
-or-false false = refl
 
 or-true : (t u : Bool) → true ≡ t || (true || u)
 or-true true u = refl

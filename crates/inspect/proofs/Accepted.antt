@@ -1,17 +1,17 @@
 -- What an accepted image tells of its parts, as the code cuts them out.
 use Prim.Native.Nat.{ℕ, _+_, _-_, _*_, _/_, _%_, _≤_}
-use mathlib.Core.Path.{_≡_, refl, sym, ap, ap₂, _∙_}
+use mathlib.Core.Path.{_≡_, sym, ap, ap₂, _∙_}
 use mathlib.Core.Bool.{not, _||_}
 use mathlib.Core.List.{List}
 use native.Mathlib.Omega.{arith}
-use lib.ListN.{length, take, drop}
+use lib.ListN.{length}
 use lib.Dec.{ltb}
 use Rattle.spec.specs.Outcome.{ok, _>>_, refuse_when_}
 use Rattle.spec.specs.Header as HeaderSpec
 use Rattle.spec.specs.Header.{Format, layout4, format4, get}
 use Rattle.spec.specs.Index.{index-from}
 use Rattle.spec.specs.Check as CheckSpec
-use Rattle.spec.specs.Check.{Frame, Image, index-area, data-area, kind-ok, options-ok, frame-from, runs-from, image-from}
+use Rattle.spec.specs.Check.{Frame, index-area, data-area, kind-ok, options-ok, frame-from, runs-from, image-from}
 use Rattle.spec.proofs.OutcomeLaws.{same-value, when-ok}
 use Rattle.spec.proofs.ReadLaws.{ImageTold, image-told}
 use Rattle.index.specs.Elements.{elements-at, Inside}

@@ -1,28 +1,28 @@
 -- What the tests of a whole image show, in the terms of the code.
 use Prim.Native.Nat.{ℕ, zero, suc, _+_, _-_, _*_, _<_, _≤_}
 use mathlib.Core.Path.{_≡_, refl, sym, ap, _∙_}
-use mathlib.Core.Bool.{Bool, true, false, not, _&&_, _||_, false≢true, true≢false}
+use mathlib.Core.Bool.{Bool, true, false, not, _||_, true≢false}
 use mathlib.Core.List.{List, [], _∷_, _++_}
 use mathlib.Core.Logic.{_⊎_, inl, inr}
 use native.Mathlib.Omega.{arith}
 use native.Mathlib.Nat.{zero-add, min-le-left}
 use lib.ListN.{length, getD, take, drop, replicate, length-take, length-drop, length-replicate, getD-replicate}
 use lib.Seq.{getD-take, length-take-le}
-use lib.Dec.{eqb, ltb}
+use lib.Dec.{eqb}
 use borrow.Author.Needs.{needs}
 use borrow.Author.Tests.{eq-eqb, ne-eqb, eqb-true, not-true, not-false}
 use Rattle.spec.specs.Outcome.{Outcome, refused, ok, _>>=_, _>>_, refuse_when_, accepted}
 use Rattle.spec.specs.Lists as Lists
 use Rattle.spec.specs.Lists.{any}
 use Rattle.spec.specs.Header as Header
-use Rattle.spec.specs.Header.{Format, layout4, format4, get}
+use Rattle.spec.specs.Header.{layout4, format4, get}
 use Rattle.spec.specs.Run.{Run}
 use Rattle.spec.specs.Index as Index
 use Rattle.spec.specs.Index.{Element, elements-from, index-from}
 use Rattle.spec.specs.Blocks.{covers, run-blocks, free-list-from, each-once, free-marks}
 use Rattle.spec.specs.Check as Check
-use Rattle.spec.specs.Check.{Frame, Image, index-area, data-area, frame-from, runs-from, counts-ok, image-by, image-from, all-entries, entries-of}
-use Rattle.spec.proofs.ListsLaws.{All, less-or}
+use Rattle.spec.specs.Check.{Image, index-area, data-area, frame-from, runs-from, counts-ok, image-by, image-from, all-entries, entries-of}
+use Rattle.spec.proofs.ListsLaws.{All, or-false, less-or}
 use Rattle.spec.proofs.OutcomeLaws.{same-value, ok-not-refused, when-ok, Answer, accepted-answer}
 use Rattle.spec.proofs.ReadLaws.{runs-inside}
 use Rattle.spec.proofs.BlocksLaws.{covers-inside, covers-outside}
@@ -62,11 +62,7 @@ index-some area (suc b) n z t h = h
 -- whether a block is marked, with those of runs
 covered-mark : (rs : List Run) (D b : ℕ) (ms : List Bool) → All (λ r. r .block + r .size ≤ D) rs → D ≤ length ms → b < length ms → getD (covered rs ms) b false ≡ (getD ms b false || any (covers b) rs)
 unfolding Tally.covered Lists.any
-covered-mark [] D b ms p l q = or-none (getD ms b false)
-  where
-    or-none : (t : Bool) → t ≡ t || false
-    or-none true = refl
-    or-none false = refl
+covered-mark [] D b ms p l q = or-false (getD ms b false)
 covered-mark (r ∷ rs) D b ms (p, ps) l q =
     covered-mark rs D b (with-range (r .block) (r .size) true ms) ps (rw (length-range (r .block) (r .size) true ms (omega arith)) l) (rw (length-range (r .block) (r .size) true ms (omega arith)) q)
     ∙ ap (λ (t : Bool). t || any (covers b) rs) here ∙ or-assoc (getD ms b false) (covers b r) (any (covers b) rs)
@@ -78,10 +74,6 @@ covered-mark (r ∷ rs) D b ms (p, ps) l q =
     or-true : (t : Bool) → true ≡ t || true
     or-true true = refl
     or-true false = refl
-
-    or-false : (t : Bool) → t ≡ t || false
-    or-false true = refl
-    or-false false = refl
 
     outside : (b < r .block) ⊎ (r .block + r .size ≤ b) → getD (with-range (r .block) (r .size) true ms) b false ≡ getD ms b false
     outside (inl k) = get-range-below (r .block) (r .size) b true false ms (omega arith) k

@@ -1,6 +1,6 @@
 -- What the returns of the calls from C show.
 use Prim.Native.Nat.{ℕ}
-use mathlib.Core.Path.{_≡_, sym, ap, _∙_}
+use mathlib.Core.Path.{_≡_}
 use mathlib.Core.List.{List}
 use Rattle.spec.specs.Outcome.{Outcome}
 use Rattle.spec.specs.Calls.{Figures, LookUpResult, WalkResult}

@@ -1,11 +1,8 @@
 -- The calls from C: the number returned, and what every slice and number lent for writing holds then.
 use Prim.Native.Nat.{ℕ}
-use mathlib.Core.Bool.{not}
 use mathlib.Core.List.{List}
-use mathlib.Core.Option.{Option}
-use lib.Dec.{eqb}
 use Rattle.spec.specs.Outcome.{Outcome}
-use Rattle.spec.specs.Calls.{Figures, check, FoundText, LookUpResult, look-up, FoundEntry, WalkResult, walk}
+use Rattle.spec.specs.Calls.{Figures, check, LookUpResult, WalkResult, walk}
 use Rattle.spec.specs.Answers.{code, code-or-absent, lent-number, lent-number-or-absent}
 
 -- check from C

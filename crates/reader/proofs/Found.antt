@@ -1,28 +1,28 @@
 -- What the returns of look up and walk in an accepted image show, in the terms of the code.
-use Prim.Native.Nat.{ℕ, _+_, _-_, _*_, _%_, _<_, _≤_}
-use mathlib.Core.Path.{_≡_, refl, sym, ap, _∙_}
-use mathlib.Core.Bool.{Bool, true, false, not, _||_}
+use Prim.Native.Nat.{ℕ, _+_, _-_, _<_, _≤_}
+use mathlib.Core.Path.{_≡_, sym, ap, _∙_}
+use mathlib.Core.Bool.{Bool, true, false, not}
 use mathlib.Core.List.{List, [], _∷_}
-use mathlib.Core.Option.{Option, none, some}
+use mathlib.Core.Option.{none, some}
 use native.Mathlib.Omega.{arith}
 use native.Mathlib.Nat.{sub-zero}
-use lib.ListN.{length, getD, take, drop}
+use lib.ListN.{length, getD, take}
 use lib.Seq.{length-take-le, take-length}
 use lib.Dec.{ltb}
-use borrow.Author.Tests.{lt-ltb, le-ltb, lt-leb, le-leb, not-true, not-false}
-use Rattle.spec.specs.Outcome.{Outcome, ok}
+use borrow.Author.Tests.{lt-ltb, le-ltb, lt-leb, le-leb, not-false}
+use Rattle.spec.specs.Outcome.{ok}
 use Rattle.spec.specs.Bytes as BytesSpec
 use Rattle.spec.specs.Bytes.{write, bytes-at, no-zero, bytes-equal}
 use Rattle.spec.specs.Order.{below-of}
 use Rattle.spec.specs.Header as Header
 use Rattle.spec.specs.Header.{layout4, format4, get}
-use Rattle.spec.specs.Entry.{Entry, headword-ok, attribute, text}
+use Rattle.spec.specs.Entry.{Entry, headword-ok, text}
 use Rattle.spec.specs.Run.{Run}
 use Rattle.spec.specs.Check as Check
 use Rattle.spec.specs.Check.{Image, runs-from, image-from, all-entries, entries-of}
 use Rattle.spec.specs.SortedList.{lookup, successor}
 use Rattle.spec.specs.Calls as Calls
-use Rattle.spec.specs.Calls.{LookUpResult, look-up-result, WalkResult, walk-result}
+use Rattle.spec.specs.Calls.{look-up-result, walk-result}
 use Rattle.spec.specs.Answers as Answers
 use Rattle.spec.specs.Answers.{look-up-answer, walk-answer}
 use Rattle.spec.specs.declared.LookUpAnswer.{LookUpAnswer}

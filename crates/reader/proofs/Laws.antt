@@ -1,17 +1,17 @@
 -- What the returns of the reading calls show, in the terms of the code.
-use Prim.Native.Nat.{ℕ, _+_, _-_, _*_, _%_, _<_, _≤_}
-use mathlib.Core.Path.{_≡_, refl, sym, ap, _∙_}
+use Prim.Native.Nat.{ℕ, _+_, _-_, _*_, _%_, _≤_}
+use mathlib.Core.Path.{_≡_, sym, ap, _∙_}
 use mathlib.Core.Bool.{Bool, true, false, not}
-use mathlib.Core.List.{List, _++_}
+use mathlib.Core.List.{List}
 use lib.ListN.{length, take}
 use lib.Seq.{length-take-le}
 use borrow.Author.Tests.{not-true, not-false}
-use Rattle.spec.specs.Outcome.{Outcome, refused, ok, accepted}
+use Rattle.spec.specs.Outcome.{refused, ok, accepted}
 use Rattle.spec.specs.Blocks.{free-marks, count-marks}
 use Rattle.spec.specs.Check as Check
 use Rattle.spec.specs.Check.{Image, slice-ok, image-from, image-in, entries-of}
 use Rattle.spec.specs.Calls as Calls
-use Rattle.spec.specs.Calls.{figures, check, LookUpResult, look-up-result, look-up, WalkResult, walk-result, walk}
+use Rattle.spec.specs.Calls.{figures, check, look-up-result, look-up, walk-result, walk}
 use Rattle.spec.specs.Answers as Answers
 use Rattle.spec.specs.Answers.{check-answer, look-up-answer, walk-answer}
 use Rattle.spec.specs.declared.CheckAnswer.{CheckAnswer}

@@ -1,26 +1,22 @@
 -- Laws of the entry step, for the crates above.
 use Prim.Native.Nat.{ℕ, _+_, _-_, _<_, _≤_}
-use mathlib.Core.Path.{_≡_, refl, sym, ap, _∙_}
+use mathlib.Core.Path.{_≡_, refl, sym}
 use mathlib.Core.Bool.{Bool, true, false, not, _&&_}
-use mathlib.Core.List.{List, _∷_, _++_}
-use mathlib.Core.Option.{Option, none, some}
+use mathlib.Core.List.{List, _∷_}
+use mathlib.Core.Option.{none, some}
 use native.Mathlib.Omega.{arith}
-use lib.ListN.{length, getD, take, drop, length-drop}
-use lib.Dec.{ltb, eqb}
-use borrow.Author.Tests.{ltb-false}
+use lib.ListN.{length, getD, take, drop}
+use lib.Dec.{ltb}
 use Rattle.spec.specs.Outcome.{Outcome, refused, ok, _>>=_, _>>_, refuse_when_}
-use Rattle.spec.specs.Bytes.{from-little-endian, bytes-at, no-zero, split-zero}
+use Rattle.spec.specs.Bytes.{bytes-at, no-zero}
 use Rattle.spec.specs.Header.{Format}
-use Rattle.spec.specs.Entry.{Entry, headword-ok, body-ok, attribute, text, entry-by, entry-from}
+use Rattle.spec.specs.Entry.{Entry, headword-ok, body-ok, attribute, text, entry-by}
 use Rattle.spec.specs.Run.{read-entry}
 use Rattle.spec.proofs.PartLaws.{part-cons}
 use Rattle.spec.proofs.IndexLaws.{headword-no-zero}
 use Rattle.spec.proofs.ReadLaws.{EntryOk, entry-told}
 use Rattle.runs.specs.Step.{step-entry, Inside}
 use Rattle.runs.specs.declared.Step.{Step}
-
-pub clash : {A : Type 0} → _≡_ {A = ℕ} 0 1 → A
-clash h = absurd (let z : ⊥ = omega arith in z)
 
 -- an entry that a test lets pass
 abbrev pub entry-if : Bool → Entry → Outcome Entry

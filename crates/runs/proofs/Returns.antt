@@ -16,7 +16,7 @@ use Rattle.spec.specs.Order.{byte-below, below-of, IsOrder}
 use Rattle.spec.specs.Header.{Format, format4}
 use Rattle.spec.specs.Entry.{headword-ok, attribute-ok, text-ok, body-ok, entry-from}
 use Rattle.spec.specs.Run.{read-entry}
-use Rattle.spec.proofs.ListsLaws.{and-left, and-right}
+use Rattle.spec.proofs.ListsLaws.{clash, and-left, and-right}
 use Rattle.spec.proofs.BytesLaws.{no-zero-append}
 use Rattle.spec.proofs.PartLaws.{length-bytes-at, part-cons, part-none, part-split}
 use Rattle.spec.proofs.RunLaws.{body-short, head-bounds}
@@ -26,7 +26,7 @@ use Rattle.scans.proofs.Laws.{no-zero-before, split-zero-some, split-zero-none}
 use Rattle.runs.specs.Step.{Kept, step-entry, Inside, entry-between, field-entry, FieldTold, FieldInside, follows}
 use Rattle.runs.specs.declared.Step.{Step}
 use Rattle.runs.specs.declared.Field.{Field}
-use Rattle.runs.proofs.Laws.{clash, entry-if, entry-by-rules}
+use Rattle.runs.proofs.Laws.{entry-if, entry-by-rules}
 
 -- all bytes of a list
 all-bytes : (s : List ℕ) → bytes-at 0 (length s - 0) s ≡ s

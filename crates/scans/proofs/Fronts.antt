@@ -8,11 +8,12 @@ use native.Mathlib.Nat.{zero-add, add-zero, sub-zero}
 use lib.ListN.{length, getD, take, drop, take-append-drop, drop-of-length-le}
 use lib.Dec.{eqb, ltb, eqb·suc-suc}
 use lib.Seq.{drop-cons, length-take-le, drop-drop, take-add, take-take}
-use borrow.Author.Tests.{eq-eqb, ne-eqb, eqb-true, eqb-false, lt-ltb, le-ltb, ltb-true, ltb-false}
+use borrow.Author.Tests.{eq-eqb, ne-eqb, eqb-true, eqb-false, le-ltb, ltb-true, ltb-false}
 use Rattle.spec.specs.Bytes.{bytes-at, bytes-equal}
 use Rattle.spec.specs.Order.{byte-below, below-of, common-prefix}
 use Rattle.scans.specs.Compare.{comparison}
 use Rattle.scans.specs.declared.Comparison.the-variants.{Below, Same, Above}
+use Rattle.spec.proofs.OrderLaws.{below-less}
 use Rattle.spec.proofs.PartLaws.{length-bytes-at, part-cons, part-none}
 
 -- the common front of lists in two parts
@@ -188,10 +189,6 @@ prefix-differ (x ∷ xs) (y ∷ ys) p q h = go (prefix-differ xs ys) (eqb x y) r
     go ih false e = eqb-false x y e (rw (e, common-prefix) at h)
 
 -- the byte that decides
-below-less : (x y : ℕ) (xs ys : List ℕ) → x < y → byte-below (x ∷ xs) (y ∷ ys) ≡ true
-unfolding byte-below
-below-less x y xs ys h = rw (ne-eqb x y (omega arith), lt-ltb x y, byte-below)
-
 below-more : (x y : ℕ) (xs ys : List ℕ) → y < x → byte-below (x ∷ xs) (y ∷ ys) ≡ false
 unfolding byte-below
 below-more x y xs ys h = rw (ne-eqb x y (omega arith), le-ltb x y (omega arith), byte-below)

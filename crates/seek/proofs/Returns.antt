@@ -23,9 +23,9 @@ use Rattle.spec.specs.Check as Check
 use Rattle.spec.specs.Check.{run-from, runs-from, next-headword, all-entries}
 use Rattle.spec.specs.SortedList as SortedList
 use Rattle.spec.specs.SortedList.{walk-takes, successor}
-use Rattle.spec.proofs.OutcomeLaws.{ok-not-refused, same-value, bind-ok}
+use Rattle.spec.proofs.OutcomeLaws.{ok-not-refused}
 use Rattle.spec.proofs.OrderLaws.{order-of}
-use Rattle.spec.proofs.ReadLaws.{runs-first, run-told, RunsAscend, runs-ascend}
+use Rattle.spec.proofs.ReadLaws.{entries-unbroken, entries-ended, entries-more, no-runs, runs-first, run-told, RunsAscend, runs-ascend}
 use Rattle.spec.proofs.SearchLaws.{or-else, walk-stops, successor-here, successor-later, run-passed, run-last, run-next}
 use Rattle.spec.proofs.WriteLaws.{bytes-at-within}
 use Rattle.runs.specs.Step as StepSpec
@@ -76,19 +76,19 @@ module _ (below : List ℕ → List ℕ → Bool) (above : Bool) (h w : List ℕ
         go (x ∷ k) q p body = ap not p
 
 -- ---- find_in_run
--- what entries that were read tell of the first step
+-- what entries that were read tell of the first step, whatever the bound
 module _ (F : Format) (prev s : List ℕ) (es : List Entry) where
   -- no entry rule is broken
   never-broken : (fuel : ℕ) → entries-from F fuel prev s ≡ ok es → read-entry F prev s ≡ refused 8 → ⊥
   unfolding entries-from
   never-broken zero h r = ok-not-refused es 8 (sym h)
-  never-broken (suc m) h r = ok-not-refused es 8 (sym (rw (r, entries-from) at h))
+  never-broken (suc m) h r = entries-unbroken F m prev s es h r
 
   -- at the end there are none
   ended : (fuel : ℕ) → entries-from F fuel prev s ≡ ok es → read-entry F prev s ≡ ok none → es ≡ []
   unfolding entries-from
   ended zero h r = absurd (ok-not-refused es 8 (sym h))
-  ended (suc m) h r = sym (same-value [] es (rw (r, entries-from) at h))
+  ended (suc m) h r = entries-ended F m prev s es h r
 
   -- an entry is the first of them, and the others are read behind it
   went-on : (fuel : ℕ) → entries-from F fuel prev s ≡ ok es → (d : Entry) (rest : List ℕ) → read-entry F prev s ≡ ok (some (d, rest))
@@ -96,9 +96,8 @@ module _ (F : Format) (prev s : List ℕ) (es : List Entry) where
   unfolding entries-from
   went-on zero h d rest r = absurd (ok-not-refused es 8 (sym h))
   went-on (suc m) h d rest r =
-      let k : (entries-from F m (d .headword) rest >>= λ ds. ok (d ∷ ds)) ≡ ok es = rw (r, entries-from) at h in
-      let (ds, u, v) = bind-ok (entries-from F m (d .headword) rest) (λ ds. ok (d ∷ ds)) es k in
-      (m, ds, u, sym (same-value (d ∷ ds) es v))
+      let (ds, u, v) = entries-more F m prev s es h d rest r in
+      (m, ds, u, v)
 
 -- nothing is found among no entries
 successor-none : (below : List ℕ → List ℕ → Bool) (above : Bool) (h : List ℕ) → successor below above h [] ≡ none
@@ -308,11 +307,6 @@ module _ (F : Format) (below : List ℕ → List ℕ → Bool) (above : Bool) (h
 -- what a search in the first run of elements finds, where their runs can be read
 abbrev pub FoundFirst : Format → (List ℕ → List ℕ → Bool) → Bool → List ℕ → ℕ → List ℕ → List Element → List ℕ → Spot → Type 0
 FoundFirst F below above h D area es word r = (rs : List Run) → runs-from F D area es ≡ ok rs → spot-entry area word r ≡ successor below above h (first-entries rs)
-
--- no elements, no runs
-no-runs : (F : Format) (D : ℕ) (area : List ℕ) (rs : List Run) → runs-from F D area [] ≡ ok rs → rs ≡ []
-unfolding Check.runs-from
-no-runs F D area rs h = sym (same-value [] rs h)
 
 module _ (F : Format) (below : List ℕ → List ℕ → Bool) (above : Bool) (h : List ℕ) (D : ℕ) (area index : List ℕ) (at left : ℕ) (word : List ℕ) where
   -- there is no other run

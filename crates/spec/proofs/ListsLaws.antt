@@ -10,6 +10,10 @@ use native.Mathlib.Omega.{arith}
 use lib.ListN.{length, drop}
 use Rattle.spec.specs.Lists.{all, any, filter, count, range-from}
 
+-- numbers that differ are not equal: what follows from that they are
+pub clash : {A : Type 0} → _≡_ {A = ℕ} 0 1 → A
+clash h = absurd (let z : ⊥ = omega arith in z)
+
 -- of two tests that both hold the first holds
 pub and-left : (a b : Bool) → a && b ≡ true → a ≡ true
 and-left true b h = refl
@@ -24,6 +28,11 @@ and-right false b h = absurd (false≢true h)
 pub or-cases : (a b : Bool) {C : Type 0} → (a ≡ true → C) → (b ≡ true → C) → a || b ≡ true → C
 or-cases true b f g h = f refl
 or-cases false b f g h = g h
+
+-- a test or none is the test
+pub or-false : (t : Bool) → t ≡ t || false
+or-false true = refl
+or-false false = refl
 
 -- of two numbers the first is below, or not
 pub less-or : (a b : ℕ) → (a < b) ⊎ (b ≤ a)

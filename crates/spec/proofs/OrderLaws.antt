@@ -11,7 +11,7 @@ use borrow.Author.Tests.{eqb-true, eqb-false, ltb-true, ltb-false, eq-eqb, ne-eq
 use Rattle.spec.specs.Order.{byte-below, below-of, common-prefix, IsOrder}
 
 -- a smaller first byte decides
-below-less : (x y : ℕ) (xs ys : List ℕ) → x < y → byte-below (x ∷ xs) (y ∷ ys) ≡ true
+pub below-less : (x y : ℕ) (xs ys : List ℕ) → x < y → byte-below (x ∷ xs) (y ∷ ys) ≡ true
 unfolding byte-below
 below-less x y xs ys h = rw (ne-eqb x y (omega arith), lt-ltb x y, byte-below)
 

@@ -2,11 +2,8 @@
 use Prim.Native.Nat.{ℕ}
 use mathlib.Core.Path.{_≡_, refl, sym, ap}
 use mathlib.Core.Bool.{Bool, true, false, false≢true}
-use native.Mathlib.Omega.{arith}
+use Rattle.spec.proofs.ListsLaws.{clash}
 use Rattle.spec.specs.Outcome.{Outcome, refused, ok, _>>=_, _>>_, refuse_when_, accepted}
-
-clash : {A : Type 0} → _≡_ {A = ℕ} 0 1 → A
-clash h = absurd (let z : ⊥ = omega arith in z)
 
 -- an answer is no refusal
 pub ok-not-refused : {A : Type 0} (a : A) (k : ℕ) → ok a ≡ refused k → ⊥

@@ -98,6 +98,25 @@ entries-told F (suc n) prev s es h =
         let (t, l) = entry-told F prev s (x .0) (x .1) p in
         rw (← same-value (x .0 ∷ ds) es v) (t .0, t .1, t .2, ih (x .0 .headword) (x .1) ds u)
 
+-- what entries that were read tell of the first step
+module _ (F : Format) (n : ℕ) (prev s : List ℕ) (es : List Entry) (h : entries-from F (suc n) prev s ≡ ok es) where
+  -- no entry rule is broken
+  pub entries-unbroken : read-entry F prev s ≡ refused 8 → ⊥
+  unfolding entries-from
+  entries-unbroken q = ok-not-refused es 8 (sym h ∙ rw q)
+
+  -- at the end there are none
+  pub entries-ended : read-entry F prev s ≡ ok none → es ≡ []
+  unfolding entries-from
+  entries-ended q = same-value es [] (sym h ∙ rw q)
+
+  -- an entry is the first of them, and the others are read behind it
+  pub entries-more : (d : Entry) (rest : List ℕ) → read-entry F prev s ≡ ok (some (d, rest)) → (ds : List Entry) × (entries-from F n (d .headword) rest ≡ ok ds) × (es ≡ d ∷ ds)
+  unfolding entries-from
+  entries-more d rest q =
+      let (ds, u, v) = bind-ok (entries-from F n (d .headword) rest) (λ ds. ok (d ∷ ds)) es (sym (rw q) ∙ h) in
+      (ds, u, sym (same-value (d ∷ ds) es v))
+
 -- equal byte strings are the same
 pub same-bytes : (a b : List ℕ) → bytes-equal a b ≡ true → a ≡ b
 unfolding bytes-equal
@@ -206,6 +225,11 @@ RunsAscend F (r ∷ rs) =
     × RunsAscend F rs
 
 module _ (F : Format) (D : ℕ) (area : List ℕ) where
+  -- no element, no run
+  pub no-runs : (rs : List Run) → runs-from F D area [] ≡ ok rs → rs ≡ []
+  unfolding runs-from
+  no-runs rs h = sym (same-value [] rs h)
+
   -- the first of the runs that were read, and the others
   pub runs-first : (e : Element) (es : List Element) (rs : List Run) → runs-from F D area (e ∷ es) ≡ ok rs
       → (r : Run) × (rs′ : List Run) × (rs ≡ r ∷ rs′) × (run-from F D area e (next-headword es) ≡ ok r) × (runs-from F D area es ≡ ok rs′)

@@ -1,5 +1,5 @@
 -- Looking up and walking by the index: the run concerned has what the whole list has. For any order of headwords.
-use Prim.Native.Nat.{ℕ, zero, suc}
+use Prim.Native.Nat.{ℕ}
 use mathlib.Core.Path.{_≡_, refl, sym, ap, _∙_}
 use mathlib.Core.Bool.{Bool, true, false, not, true≢false}
 use mathlib.Core.List.{List, [], _∷_, _++_, append-nil}
@@ -8,14 +8,14 @@ use Rattle.spec.specs.Lists.{filter, first}
 use Rattle.spec.specs.Bytes.{bytes-equal}
 use Rattle.spec.specs.Order.{IsOrder}
 use Rattle.spec.specs.Header.{Format}
-use Rattle.spec.specs.Entry.{Entry, headword-ok}
+use Rattle.spec.specs.Entry.{Entry}
 use Rattle.spec.specs.Run.{Run}
 use Rattle.spec.specs.Check.{ends-below, all-entries}
 use Rattle.spec.specs.SortedList.{has-headword, lookup, walk-takes, successor}
 use Rattle.spec.proofs.ListsLaws.{All, filter-yes, filter-no}
 use Rattle.spec.proofs.OrderLaws.{one-way}
 use Rattle.spec.proofs.RunLaws.{EntriesOk}
-use Rattle.spec.proofs.ReadLaws.{RunsAscend, next-run, same-bytes, bytes-self}
+use Rattle.spec.proofs.ReadLaws.{RunsAscend, same-bytes, bytes-self}
 
 -- the first of two answers that there is
 abbrev pub or-else : {A : Type 0} → Option A → Option A → Option A

@@ -1,15 +1,13 @@
 -- What the walk over all runs shows, in the terms of the code.
 use Prim.Native.Nat.{ℕ, zero, suc, _+_, _-_, _*_, _<_, _≤_}
 use mathlib.Core.Path.{_≡_, refl, sym, ap, _∙_}
-use mathlib.Core.Logic.{_⊎_, inl, inr}
-use mathlib.Core.Bool.{Bool, true, false, not, false≢true}
+use mathlib.Core.Bool.{Bool, true, false, not}
 use mathlib.Core.List.{List, [], _∷_, _++_, append-assoc, append-nil}
 use mathlib.Core.Option.{Option, none, some}
 use native.Mathlib.Omega.{arith}
 use native.Mathlib.Nat.{add-zero}
 use lib.ListN.{length, take, drop, length-append}
 use lib.Seq.{length-take-le}
-use lib.Dec.{ltb, eqb}
 use borrow.Author.Needs.{needs}
 use borrow.Author.Tests.{lt-ltb, le-ltb, eq-eqb, ne-eqb, not-true, not-false}
 use Rattle.spec.specs.Outcome.{Outcome, refused, ok, _>>=_, _>>_, refuse_when_}
@@ -39,7 +37,7 @@ use Rattle.index.specs.Elements as Elements
 use Rattle.index.specs.Elements.{element-end, element-headword, element-at, elements-at, Inside}
 use Rattle.index.proofs.Laws.{inside-start, inside-end, inside-next, elements-next, element-headword-length}
 use Rattle.marks.specs.Marks.{with-range}
-use Rattle.tally.specs.Tally.{Tally, covered, tally, runs-answer, last-below, Sized, Started}
+use Rattle.tally.specs.Tally.{covered, tally, runs-answer, last-below, Sized, Started}
 use Rattle.tally.specs.declared.Runs.{Runs}
 
 -- a run of n blocks by its first entry, the entries read so far and those that follow

@@ -1,4 +1,4 @@
-use Rattle.tally.proofs.RunsLaws.{ends-none, ends-next, number-inside, headword-inside}
+use Rattle.tally.proofs.RunsLaws.{ends-none, ends-next, number-inside}
 use borrow.Author.Needs.{needs}
 use Rattle.tally.proofs.ends_below.Statement.{statement}
 use Rattle.tally.proofs.ends_below.Tie as tie

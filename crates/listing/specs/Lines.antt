@@ -1,0 +1,52 @@
+-- The lines of the printed list by the numbers that stand in them.
+use Prim.Native.Nat.{ℕ, suc, _+_, _*_, _≤_}
+use mathlib.Core.Path.{_≡_}
+use mathlib.Core.List.{List, [], _∷_, _++_}
+use lib.ListN.{length, drop}
+use Rattle.spec.specs.Outcome.{ok}
+use Rattle.spec.specs.Bytes.{write}
+use Rattle.spec.specs.Header.{Format}
+use Rattle.spec.specs.Run.{Run, entries-from}
+use Rattle.spec.specs.Index.{Element}
+use Rattle.spec.specs.Blocks.{run-blocks}
+use Rattle.spec.specs.Check.{Image, image-from, runs-from}
+use Rattle.spec.specs.Calls.{Figures, figures}
+use Rattle.spec.specs.Listing.{column, line, entry-lines, run-lines}
+use Rattle.listing.specs.declared.Printed.{Printed}
+
+-- the numbers of an entry's line: ordinal, run's block, run's blocks, attribute, text length
+unfoldable pub entry-numbers : ℕ → ℕ → ℕ → ℕ → ℕ → List ℕ
+entry-numbers k b n a t = column 6 k ++ column 6 b ++ column 6 n ++ column 4 a ++ column 6 t
+
+-- the line, by these and the headword
+unfoldable pub fields-line : ℕ → ℕ → ℕ → ℕ → ℕ → List ℕ → List ℕ
+fields-line k b n a t h = line (entry-numbers k b n a t ++ 32 ∷ h)
+
+-- four numbers: headwords, index blocks, data blocks, free blocks
+abbrev pub numbers : ℕ → ℕ → ℕ → ℕ → Figures
+numbers h i d f = record { headwords = h; index-blocks = i; data-blocks = d; free-blocks = f }
+
+-- the lines of the run of n blocks at block b, whose bytes these are, the first with the ordinal k, stand in out′ from `start` on;
+-- the answer says where they end, and which ordinal is next
+abbrev pub RunPrinted : Format → ℕ → ℕ → List ℕ → ℕ → ℕ → List ℕ → List ℕ → Printed → Type 0
+RunPrinted F b n run k start out out′ p =
+    (r : Run) → r .block ≡ b → r .size ≡ n → entries-from F (suc (length run)) [] (drop 2 run) ≡ ok (r .entries)
+    → (out′ ≡ write start (entry-lines k r (r .entries)) out) × (p .at ≡ start + length (entry-lines k r (r .entries))) × (p .next ≡ k + length (r .entries))
+
+-- runs that are read without a refusal, and whose lines have room from `start` on: an entry takes at least 5 bytes of its run and its line
+-- at most 278, so that a byte of a run has at most 56 bytes of lines, and a block 14,336
+abbrev pub Printable : Format → ℕ → List ℕ → List Element → ℕ → ℕ → Type 0
+Printable F D area es start room = (rs : List Run) × (runs-from F D area es ≡ ok rs) × (start + 14_336 * run-blocks rs ≤ room)
+
+-- the lines of these runs, the first with the ordinal 1, stand in out′ from `start` up to `end`
+abbrev pub AllPrinted : Format → ℕ → List ℕ → List Element → ℕ → List ℕ → List ℕ → ℕ → Type 0
+AllPrinted F D area es start out out′ end = (rs : List Run) → runs-from F D area es ≡ ok rs → (out′ ≡ write start (run-lines 1 rs) out) × (end ≡ start + length (run-lines 1 rs))
+
+-- an accepted image with these four numbers
+abbrev pub Accepted : List ℕ → Figures → Type 0
+Accepted s c = (i : Image) × (image-from s ≡ ok i) × (figures i ≡ c)
+
+-- names all definitions of this module: who unfolds it unfolds them
+unfoldable pub open-lines : Unit {0}
+unfolding entry-numbers fields-line
+open-lines = tt

@@ -1,0 +1,298 @@
+// The printed list of an image: one line of numbers, then one line for each entry.
+ghost use mathlib.Core.Path.{_≡_};
+ghost use mathlib.Core.Bool.{false, cond, not};
+ghost use Prim.Native.Nat.{_+_, _-_, _*_, _%_, _≤_, _<_};
+ghost use lib.ListN.{length, getD};
+ghost use lib.Dec.{eqb};
+ghost use Rattle.spec.specs.Bytes.{write};
+ghost use Rattle.spec.specs.Outcome.{refused};
+ghost use Rattle.spec.specs.Header.{format4};
+ghost use Rattle.spec.specs.Check.{image-from};
+ghost use Rattle.spec.specs.Listing.{digits, column, first-line, image-lines, listing};
+ghost use Rattle.listing.specs.Lines.{entry-numbers, fields-line, numbers, RunPrinted, Printable, AllPrinted, Accepted};
+ghost use Rattle.index.specs.Elements.{elements-at, Inside};
+use byteops::copy;
+use byteops::read_u16;
+use byteops::wide;
+use byteops::write_u8;
+use header::nindex2;
+use header::slice_ok;
+use index::element_end;
+use inspect::Inspected;
+use runs::Step;
+
+// Where the lines stored so far end, and the ordinal of the next entry.
+struct Printed {
+    at: usize,
+    next: usize,
+}
+
+// A digit as a byte.
+fn digit(n: usize) -> u8
+    requires { ⌜ n < 10 ⌝ }
+    ensures { λ r. ⌜ r ≡ 48 + n ⌝ }
+{
+    b'0' + n as u8
+}
+
+// What stands in a column that is not the last, where n is left: its last digit, or a space.
+fn shown(n: usize) -> u8
+    ensures { λ r. ⌜ r ≡ cond (not (eqb n 0)) (48 + n % 10) 32 ⌝ }
+{
+    if n == 0 {
+        return b' ';
+    }
+    digit(n % 10)
+}
+
+// Stores the columns in front of the last one, w of them, where n is left.
+fn front_columns(out: &mut [u8], at: usize, w: usize, n: usize)
+    requires { ⌜ at + w ≤ length (now out) ⌝ }
+    ensures { λ _. ⌜ now (out .exit) ≡ write at (digits false w n) (now (out .entry)) ⌝ }
+    ensures { λ _. ⌜ length (now (out .exit)) ≡ length (now (out .entry)) ⌝ }
+{
+    let mut left = w;
+    let mut rest = n;
+    while 0 < left {
+        left -= 1;
+        out[at + left] = shown(rest);
+        rest = rest / 10;
+    }
+}
+
+// Stores n in w columns, right-justified.
+fn column(out: &mut [u8], at: usize, w: usize, n: usize)
+    requires { ⌜ (1 ≤ w) × (at + w ≤ length (now out)) ⌝ }
+    ensures { λ _. ⌜ now (out .exit) ≡ write at (column w n) (now (out .entry)) ⌝ }
+    ensures { λ _. ⌜ length (now (out .exit)) ≡ length (now (out .entry)) ⌝ }
+{
+    front_columns(out, at, w - 1, n / 10);
+    write_u8(out, at + (w - 1), digit(n % 10));
+}
+
+// Stores the line of a refusal, and answers where it ends.
+fn refused_line(out: &mut [u8], k: usize) -> usize
+    requires { ⌜ 12 ≤ length (now out) ⌝ }
+    ensures { λ r. ⌜ (r ≡ length (image-lines (refused k))) × (r ≤ length (now (out .entry))) ⌝ }
+    ensures { λ _. ⌜ now (out .exit) ≡ write 0 (image-lines (refused k)) (now (out .entry)) ⌝ }
+{
+    copy(out, 0, b"refused", 0, 7);
+    column(out, 7, 4, k);
+    write_u8(out, 11, b'\n');
+    12
+}
+
+// Stores the first line, and answers where it ends.
+fn first_line(out: &mut [u8], words: usize, index: usize, area: usize, free: usize) -> usize
+    requires { ⌜ 25 ≤ length (now out) ⌝ }
+    ensures { λ r. ⌜ (r ≡ length (first-line (numbers words index area free))) × (r ≡ 25) ⌝ }
+    ensures { λ _. ⌜ now (out .exit) ≡ write 0 (first-line (numbers words index area free)) (now (out .entry)) ⌝ }
+    ensures { λ _. ⌜ length (now (out .exit)) ≡ length (now (out .entry)) ⌝ }
+{
+    column(out, 0, 6, words);
+    column(out, 6, 6, index);
+    column(out, 12, 6, area);
+    column(out, 18, 6, free);
+    write_u8(out, 24, b'\n');
+    25
+}
+
+// Stores the numbers of an entry's line.
+fn entry_numbers(
+    out: &mut [u8],
+    at: usize,
+    k: usize,
+    block: usize,
+    blocks: usize,
+    attribute: usize,
+    text: usize,
+)
+    requires { ⌜ at + 28 ≤ length (now out) ⌝ }
+    ensures { λ _. ⌜ now (out .exit) ≡ write at (entry-numbers k block blocks attribute text) (now (out .entry)) ⌝ }
+    ensures { λ _. ⌜ length (now (out .exit)) ≡ length (now (out .entry)) ⌝ }
+{
+    column(out, at, 6, k);
+    column(out, at + 6, 6, block);
+    column(out, at + 12, 6, blocks);
+    column(out, at + 18, 4, attribute);
+    column(out, at + 22, 6, text);
+}
+
+// Stores the line of the entry whose body stands in its run from behind `zero` up to `next`, and answers where it ends.
+fn entry_line(
+    out: &mut [u8],
+    at: usize,
+    k: usize,
+    block: usize,
+    blocks: usize,
+    run: &[u8],
+    zero: usize,
+    next: usize,
+    word: &[u8],
+) -> usize
+    requires { ⌜ (zero + 2 ≤ next) × (next ≤ length (now run)) × (at + 30 + length (now word) ≤ length (now out)) ⌝ }
+    ensures { λ r. ⌜ r ≡ at + 30 + length (now (word .entry)) ⌝ }
+    ensures { λ _. ⌜ now (out .exit) ≡ write at (fields-line k block blocks (getD (now (run .entry)) (zero + 1) 0) (next - (zero + 2)) (now (word .entry))) (now (out .entry)) ⌝ }
+    ensures { λ _. ⌜ length (now (out .exit)) ≡ length (now (out .entry)) ⌝ }
+{
+    entry_numbers(
+        out,
+        at,
+        k,
+        block,
+        blocks,
+        wide(run[zero + 1]),
+        next - (zero + 2),
+    );
+    write_u8(out, at + 28, b' ');
+    copy(out, at + 29, word, 0, word.len());
+    write_u8(out, at + 29 + word.len(), b'\n');
+    at + 30 + word.len()
+}
+
+// Stores the lines of the entries of a run of `blocks` blocks at `block`, the first with the ordinal k.
+fn run_lines(
+    out: &mut [u8],
+    start: usize,
+    k: usize,
+    block: usize,
+    blocks: usize,
+    run: &[u8],
+) -> Printed
+    requires { ⌜ (2 ≤ length (now run)) × (k ≤ start) × (start + 56 * length (now run) ≤ length (now out)) ⌝ }
+    ensures { λ r. ⌜ RunPrinted format4 block blocks (now (run .entry)) k start (now (out .entry)) (now (out .exit)) r ⌝ }
+    ensures { λ r. ⌜ (r .next ≤ r .at) × (r .at ≤ start + 56 * length (now (run .entry))) ⌝ }
+    ensures { λ _. ⌜ length (now (out .exit)) ≡ length (now (out .entry)) ⌝ }
+{
+    let mut word = [0u8; 256];
+    let mut len = 0;
+    let mut pos = 2;
+    let mut at = start;
+    let mut ordinal = k;
+    loop {
+        let st = runs::read_entry(run, pos, &mut word, len);
+        match st {
+            Step::Broken => {
+                return Printed {
+                    at: at,
+                    next: ordinal,
+                };
+            }
+            Step::End => {
+                return Printed {
+                    at: at,
+                    next: ordinal,
+                };
+            }
+            Step::Entry { length, zero, next } => {
+                at = entry_line(
+                    out,
+                    at,
+                    ordinal,
+                    block,
+                    blocks,
+                    run,
+                    zero,
+                    next,
+                    &word[..length],
+                );
+                len = length;
+                pos = next;
+                ordinal += 1;
+            }
+        }
+    }
+}
+
+// Stores the lines of the entries of all runs in index order, and answers where they end.
+fn all_lines(out: &mut [u8], start: usize, index: &[u8], n: usize, area: &[u8], d: usize) -> usize
+    requires { ⌜ Inside (now index) 0 n ⌝ }
+    requires { ⌜ (1 ≤ start) × (256 * d ≡ length (now area)) ⌝ }
+    requires { ⌜ Printable format4 d (now area) (elements-at (now index) 0 n) start (length (now out)) ⌝ }
+    ensures { λ r. ⌜ AllPrinted format4 d (now (area .entry)) (elements-at (now (index .entry)) 0 n) start (now (out .entry)) (now (out .exit)) r ⌝ }
+    ensures { λ r. ⌜ r ≤ length (now (out .entry)) ⌝ }
+{
+    let mut at = start;
+    let mut ordinal = 1;
+    let mut place = 0;
+    let mut left = n;
+    while 0 < left {
+        let b = read_u16(index, place);
+        let size = read_u16(area, 256 * b);
+        let printed = run_lines(
+            out,
+            at,
+            ordinal,
+            b,
+            size,
+            &area[256 * b..256 * b + 256 * size],
+        );
+        at = printed.at;
+        ordinal = printed.next;
+        place = element_end(index, place) + 1;
+        left -= 1;
+    }
+    at
+}
+
+// Stores the list of an accepted image with these four numbers, and answers where it ends.
+fn accepted_lines(
+    out: &mut [u8],
+    image: &[u8],
+    words: usize,
+    n: usize,
+    d: usize,
+    free: usize,
+) -> usize
+    requires { ⌜ Accepted (now image) (numbers words n d free) ⌝ }
+    requires { ⌜ (256 ≤ length (now image)) × (length (now image) ≤ 65536) × (length (now image) % 256 ≡ 0) × (4000000 ≤ length (now out)) ⌝ }
+    ensures { λ r. ⌜ (r ≡ length (image-lines (image-from (now (image .entry))))) × (r ≤ length (now (out .entry))) ⌝ }
+    ensures { λ _. ⌜ now (out .exit) ≡ write 0 (image-lines (image-from (now (image .entry)))) (now (out .entry)) ⌝ }
+{
+    let start = first_line(out, words, n, d, free);
+    let area = 256 + 256 * n;
+    all_lines(
+        out,
+        start,
+        &image[256..area],
+        nindex2(image),
+        &image[area..],
+        d,
+    )
+}
+
+// Stores the list of what stands in all bytes of `image`, an image or not, and answers where it ends.
+fn inspected_lines(out: &mut [u8], image: &[u8]) -> usize
+    requires { ⌜ (256 ≤ length (now image)) × (length (now image) ≤ 65536) × (length (now image) % 256 ≡ 0) × (4000000 ≤ length (now out)) ⌝ }
+    ensures { λ r. ⌜ (r ≡ length (image-lines (image-from (now (image .entry))))) × (r ≤ length (now (out .entry))) ⌝ }
+    ensures { λ _. ⌜ now (out .exit) ≡ write 0 (image-lines (image-from (now (image .entry)))) (now (out .entry)) ⌝ }
+{
+    let mut free = [0u64; 1024];
+    let inspected = inspect::inspect(image, &mut free);
+    match inspected {
+        Inspected::Sound { words, index, area } => accepted_lines(
+            out,
+            image,
+            words,
+            index,
+            area,
+            marks::count(&free),
+        ),
+        Inspected::Refused(k) => refused_line(out, k as usize),
+    }
+}
+
+// Stores the list of the image in `image`, and answers where it ends.
+pub fn listing(image: &[u8], out: &mut [u8]) -> usize
+    requires { ⌜ 4000000 ≤ length (now out) ⌝ }
+    ensures { λ r. ⌜ (r ≡ length (listing (now (image .entry)))) × (r ≤ length (now (out .entry))) ⌝ }
+    ensures { λ _. ⌜ now (out .exit) ≡ write 0 (listing (now (image .entry))) (now (out .entry)) ⌝ }
+{
+    if 65536 < image.len() {
+        return refused_line(out, 1);
+    }
+    if !slice_ok(image, image.len()) {
+        return refused_line(out, 1);
+    }
+    inspected_lines(out, image)
+}
