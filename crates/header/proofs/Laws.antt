@@ -5,7 +5,7 @@ use mathlib.Core.Bool.{Bool, true, false, not, _&&_, _||_, false≢true}
 use mathlib.Core.List.{List}
 use native.Mathlib.Omega.{arith}
 use lib.ListN.{length, getD, take, drop, length-drop}
-use lib.Seq.{take-all, length-take-le}
+use lib.Seq.{take-all}
 use lib.Dec.{eqb, ltb, leb}
 use borrow.Author.Tests.{lt-ltb, le-ltb, le-leb, lt-leb, eq-eqb, ne-eqb, ltb-true, ltb-false, eqb-true, not-false}
 use Rattle.spec.specs.Outcome.{Outcome, refused, ok, accepted, _>>_, refuse_when_}
@@ -264,23 +264,10 @@ module _ (s : List ℕ) (r : Framed) (e : framed r ≡ frame-from format4 s) whe
     unfolding format4
     frame-data-few = fits .data-few
 
-    -- with the index in the image
-    pub frame-index-inside : 256 + 256 * n ≤ length s
-    unfolding format4
-    frame-index-inside = fits .index-inside
-
     -- and the data blocks all that follows it
     pub frame-length-is : length s % 256 ≡ 0 → 256 + 256 * n + 256 * d ≡ length s
     unfolding format4
     frame-length-is w = omega (arith, fits .index-inside, fits .data-are)
-
-    -- the bytes of the index, as code takes them
-    pub index-slice-length : length (take (256 + 256 * n - 256) (drop 256 s)) ≡ 256 * n
-    index-slice-length = length-take-le (256 + 256 * n - 256) (drop 256 s) (omega (arith, length-drop 256 s, frame-index-inside)) ∙ omega arith
-
-    -- the bytes of the data blocks, as code takes them
-    pub data-slice-length : length s % 256 ≡ 0 → length (take (length s - (256 + 256 * n)) (drop (256 + 256 * n) s)) ≡ 256 * d
-    data-slice-length w = length-take-le (length s - (256 + 256 * n)) (drop (256 + 256 * n) s) (omega (arith, length-drop (256 + 256 * n) s)) ∙ omega (arith, frame-length-is w)
 
 -- the index area as code takes it
 pub index-slice : (s : List ℕ) (n d : ℕ) → index-area (frame4 n d) s ≡ take (256 + 256 * n - 256) (drop 256 s)

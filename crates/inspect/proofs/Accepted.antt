@@ -50,9 +50,7 @@ module _ (s : List ℕ) (n d : ℕ) (a : AcceptedImage s n d) where
   unfolding HeaderSpec.format4
   accepted-index = fits .index-inside
 
-  pub accepted-few : n ≤ 32_767
-  accepted-few = fits .index-few
-
+  -- there are no more data blocks than row 5 allows
   pub accepted-blocks : d ≤ 65_536
   unfolding HeaderSpec.format4
   accepted-blocks = fits .data-few

@@ -38,7 +38,7 @@ unfoldable pub overview : Inspected → List Bool → Outcome Overview
 overview (Inspected.Sound w n d) ms = ok (record { words = w; index-blocks = n; data-blocks = d; free = ms })
 overview (Inspected.Refused k) ms = refused k
 
--- an image of which all runs are read, and kept rows 1 to 8: n index blocks, d data blocks, its entries and the blocks of its runs counted and these marked
+-- an image that keeps rows 3 to 8, all its runs read: n index blocks, d data blocks, its entries and the blocks of its runs counted and these marked
 pub record RunsRead (s area : List ℕ) (n d words blocks : ℕ) (ms : List Bool) : Type 0 where
   pub frame : frame-from format4 s ≡ ok (frame4 n d)
   pub area-is : area ≡ data-area (frame4 n d) s

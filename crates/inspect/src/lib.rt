@@ -33,8 +33,8 @@ fn index_ok(index: &[u8], blocks: usize, n: usize) -> bool
     index::elements_ok(index, n)
 }
 
-// Rows 9 and 10, where all runs are read: each data block in one run or once on the free list, which is marked, and the
-// header's counts.
+// Rows 9 and 10, where all runs are read: each data block in one run or once on the free list, whose blocks are marked in
+// `free`, and the header's counts.
 fn settle(
     s: &[u8],
     area: &[u8],

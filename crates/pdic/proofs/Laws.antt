@@ -23,6 +23,7 @@ module _ (r : CheckAnswer) (o : Outcome Figures) (e : check-answer r ≡ o) (h�
   check-counted h i d f q = rw (← e, q)
 
 module _ (r : LookUpAnswer) (t : List ℕ) (o : LookUpResult) (e : record { answer = look-up-answer r; text = t } ≡ o) (a₀ n₀ : ℕ) where
+  -- a refusal's number
   pub look-up-refused : (k : ℕ) → r ≡ LookUpAnswer.Refused k → record { returned = k; text = t; attribute = a₀; text-length = n₀ } ≡ look-up-lent o a₀ n₀
   unfolding look-up-lent Answers.look-up-answer Answers.code-or-absent Answers.lent-number-or-absent
   look-up-refused k q = rw (← e, q)
@@ -38,14 +39,17 @@ module _ (r : LookUpAnswer) (t : List ℕ) (o : LookUpResult) (e : record { answ
   look-up-found a n q = rw (← e, q)
 
 module _ (r : WalkAnswer) (h t : List ℕ) (o : WalkResult) (e : record { answer = walk-answer r; headword = h; text = t } ≡ o) (a₀ m₀ n₀ : ℕ) where
+  -- a refusal's number
   pub walk-refused : (k : ℕ) → r ≡ WalkAnswer.Refused k → record { returned = k; headword = h; text = t; attribute = a₀; headword-length = m₀; text-length = n₀ } ≡ walk-lent o a₀ m₀ n₀
   unfolding walk-lent Answers.walk-answer Answers.code-or-absent Answers.lent-number-or-absent
   walk-refused k q = rw (← e, q)
 
+  -- absent: 100
   pub walk-absent : r ≡ WalkAnswer.Absent → record { returned = 100; headword = h; text = t; attribute = a₀; headword-length = m₀; text-length = n₀ } ≡ walk-lent o a₀ m₀ n₀
   unfolding walk-lent Answers.walk-answer Answers.code-or-absent Answers.lent-number-or-absent
   walk-absent q = rw (← e, q)
 
+  -- found: 0, the attribute and both lengths
   pub walk-found : (a m n : ℕ) → r ≡ WalkAnswer.Found a m n → record { returned = 0; headword = h; text = t; attribute = a; headword-length = m; text-length = n } ≡ walk-lent o a₀ m₀ n₀
   unfolding walk-lent Answers.walk-answer Answers.code-or-absent Answers.lent-number-or-absent
   walk-found a m n q = rw (← e, q)

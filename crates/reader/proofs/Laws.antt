@@ -100,6 +100,7 @@ module _ (s : List ℕ) (len : ℕ) (t : Bool) (slice : t ≡ accepted (slice-ok
         pub accepted-image : AcceptedImage (take len s) n d
         accepted-image = record { image = sound .image; is = sound .is; index-blocks = sound .index-blocks; data-blocks = sound .data-blocks }
 
+        -- and its data area starts inside it
         pub accepted-start : 256 + 256 * n ≤ length (take len s)
         accepted-start = accepted-index (take len s) n d accepted-image
 

@@ -126,8 +126,8 @@ fn give_entry(
     requires { ⌜ (zero + 2 ≤ next) × (next ≤ length (now area)) ⌝ }
     ensures { λ r. ⌜ record { answer = walk-answer r; headword = now (out .exit); text = now (text .exit) } ≡ walk-result (now (out .entry)) (now (text .entry)) (entry-fitted (now (out .entry)) (now (text .entry)) (some (record { headword = now (headword .entry); body = bytes-at (zero + 1) (next - (zero + 1)) (now (area .entry)) }))) ⌝ }
 {
-    let from = zero + 2;
-    let n = next - from;
+    let start = zero + 2;
+    let n = next - start;
     if out.len() < headword.len() {
         return WalkAnswer::Refused(14);
     }
@@ -135,7 +135,7 @@ fn give_entry(
         return WalkAnswer::Refused(14);
     }
     byteops::copy(out, 0, headword, 0, headword.len());
-    byteops::copy(text, 0, area, from, n);
+    byteops::copy(text, 0, area, start, n);
     WalkAnswer::Found(area[zero + 1], headword.len(), n)
 }
 

@@ -88,6 +88,12 @@ module _ (at : ℕ) (run : List ℕ) (st : Step) (h : Inside at run st) (n z e :
   pub inside-short : n ≤ 248
   inside-short = h n z e q .5
 
+-- a step takes bytes
+pub step-less : (at : ℕ) (run : List ℕ) (st : Step) → Inside at run st → (n z e : ℕ) → st ≡ Step.Entry n z e → length run - e < length run - at
+step-less at run st h n z e q =
+    let i = h n z e q in
+    omega arith
+
 -- attribute and text of an entry whose body stands in a run
 module _ (run h : List ℕ) (z e : ℕ) (p : z + 2 ≤ e) (q : e ≤ length run) where
   body-parts : bytes-at (z + 1) (e - (z + 1)) run ≡ getD run (z + 1) 0 ∷ bytes-at (z + 2) (e - (z + 2)) run

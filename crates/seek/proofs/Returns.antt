@@ -196,12 +196,6 @@ module _ (at : ℕ) (run : List ℕ) (st : Step) (h : StepSpec.Inside at run st)
       let (a₀, a₁, a₂, a₃, a₄, a₅) = h n′ z′ e′ (q ∙ s) in
       (omega arith, a₁, a₂, a₃, a₄, a₅)
 
-  -- fewer bytes are left behind it
-  pub find-less : length run - e < length run - at
-  find-less =
-      let (a₀, a₁, a₂, a₃, a₄, a₅) = h n z e q in
-      omega arith
-
 -- ---- find_at
 -- what a search in the run of an element finds, where that can be read
 abbrev pub FoundAt : Format → (List ℕ → List ℕ → Bool) → Bool → List ℕ → ℕ → List ℕ → Element → List ℕ → Spot → Type 0

@@ -31,7 +31,7 @@ use Rattle.spec.specs.Check as CheckSpec
 use Rattle.spec.specs.Check.{first-entry, ends-below, run-from, next-headword, runs-from, all-entries}
 use Rattle.runs.specs.Step as StepSpec
 use Rattle.runs.specs.Step.{step-entry, Kept}
-use Rattle.runs.proofs.Laws.{inside-short, told-broken, told-end, told-entry}
+use Rattle.runs.proofs.Laws.{inside-short, step-less, told-broken, told-end, told-entry}
 use Rattle.runs.specs.declared.Step.{Step}
 use Rattle.index.specs.Elements as Elements
 use Rattle.index.specs.Elements.{element-end, element-headword, element-at, elements-at, Inside}
@@ -40,7 +40,7 @@ use Rattle.marks.specs.Marks.{with-range}
 use Rattle.tally.specs.Tally.{covered, tally, runs-answer, last-below, Sized, Started}
 use Rattle.tally.specs.declared.Runs.{Runs}
 
--- a run of n blocks by its first entry, the entries read so far and those that follow
+-- a run of n blocks by the entries read so far and those that follow
 abbrev finished : Format → Element → Option (List ℕ) → ℕ → List ℕ → List Entry → Outcome (List Entry) → Outcome Run
 finished F e next n bytes before o = do
   es ← o
@@ -103,7 +103,7 @@ pub record Reading (F : Format) (D : ℕ) (area : List ℕ) (e : Element) (next 
   pub counted : count ≡ suc (length earlier)
   pub rest : run-from F D area e next ≡ finished F e next n run (earlier ++ last ∷ []) (entries-from F (suc fuel) (take len word) (drop pos run))
 
--- entries by the first of them
+-- entries that are read by one step and the steps behind it
 entries-next : (F : Format) (m : ℕ) (prev s rest : List ℕ) (d : Entry) → read-entry F prev s ≡ ok (some (d, rest)) → entries-from F (suc m) prev s ≡ entries-from F m (d .headword) rest >>= λ ds. ok (d ∷ ds)
 unfolding RunSpec.entries-from
 entries-next F m prev s rest d h = rw h
@@ -114,14 +114,14 @@ module _ (F : Format) (D : ℕ) (area : List ℕ) (e : Element) (next : Option (
   pub reading-broken : st ≡ Step.Broken → run-from F D area e next ≡ refused 8
   unfolding step-entry RunSpec.entries-from
   reading-broken h =
-      let k : read-entry F (take len word) (drop pos run) ≡ refused 8 = sym step ∙ ap (step-entry run word′) h in
+      let k : read-entry F (take len word) (drop pos run) ≡ refused 8 = told-broken F (take len word) (drop pos run) run word′ st step h in
       v .rest ∙ rw k
 
   -- the entries end
   ended : st ≡ Step.End → run-from F D area e next ≡ finished F e next n run (v .earlier ++ v .last ∷ []) (ok [])
   unfolding step-entry RunSpec.entries-from
   ended h =
-      let k : read-entry F (take len word) (drop pos run) ≡ ok none = sym step ∙ ap (step-entry run word′) h in
+      let k : read-entry F (take len word) (drop pos run) ≡ ok none = told-end F (take len word) (drop pos run) run word′ st step h in
       v .rest ∙ rw k
 
   module _ (h : st ≡ Step.End) (b : Bool) (ends : b ≡ last-below F (take len word) next) where
@@ -151,7 +151,7 @@ module _ (F : Format) (D : ℕ) (area : List ℕ) (e : Element) (next : Option (
   reading-turn place k z x h l =
       let i = place k z x h in
       let d : Entry = record { headword = take k word′; body = bytes-at (z + 1) (x - (z + 1)) run } in
-      let t : read-entry F (take len word) (drop pos run) ≡ ok (some (d, drop x run)) = sym step ∙ ap (step-entry run word′) h in
+      let t : read-entry F (take len word) (drop pos run) ≡ ok (some (d, drop x run)) = told-entry F (take len word) (drop pos run) run word′ st step k z x h in
       let (good, less) = entry-told F (take len word) (drop pos run) d (drop x run) t in
       let j : suc (v .fuel - 1) ≡ v .fuel = omega (arith, v .room) in
       record {
@@ -250,12 +250,14 @@ module _ (F : Format) (h run word′ : List ℕ) (st : Step) (step : step-entry 
 abbrev pub run-slice : List ℕ → ℕ → ℕ → List ℕ
 run-slice area b n = take (256 * b + 256 * n - 256 * b) (drop (256 * b) area)
 
+-- which are those of its run
 pub slice-same : (area : List ℕ) (b n : ℕ) → run-slice area b n ≡ bytes-at (256 * b) (256 * n) area
 unfolding BytesSpec.bytes-at
 slice-same area b n =
     let k : 256 * b + 256 * n - 256 * b ≡ 256 * n = omega arith in
     rw k
 
+-- as many as it has blocks
 pub slice-long : (area : List ℕ) (b n D : ℕ) → 256 * D ≡ length area → b + n ≤ D → length (run-slice area b n) ≡ 256 * n
 slice-long area b n D l p = rw (slice-same area b n) (length-bytes-at area (256 * b) (256 * n) (omega arith))
 
@@ -326,6 +328,7 @@ pub record Walking (F : Format) (index area : List ℕ) (n D : ℕ) (ms₀ : Lis
   pub few-blocks : blocks ≤ (n - left) * 32_768
   pub rest : tally 0 0 ms₀ (runs-from F D area (elements-at index 0 n)) ≡ tally words blocks ms (runs-from F D area (elements-at index at left))
 
+-- at first nothing is counted
 pub walk-start : (F : Format) (index area : List ℕ) (n D : ℕ) (ms : List Bool) → Inside index 0 n → Walking F index area n D ms 0 0 0 n ms
 walk-start F index area n D ms p = record { standing = p; fewer = omega arith; few = omega (arith, inside-few index 0 n p); few-words = omega arith; few-blocks = omega arith; rest = refl }
 
@@ -394,12 +397,6 @@ module _ (index : List ℕ) (at left : ℕ) (standing : Inside index at left) (s
   pub headword-inside : (end : ℕ) → end ≡ element-end index at → end < length index
   headword-inside end e = rw e (inside-end index at left standing (omega arith))
 
--- a step takes bytes
-pub turn-less : (pos : ℕ) (run : List ℕ) (st : Step) → StepSpec.Inside pos run st → (k z x : ℕ) → st ≡ Step.Entry k z x → length run - x < length run - pos
-turn-less pos run st place k z x h =
-    let i = place k z x h in
-    omega arith
-
 -- the walk inside the run of an element, in the terms of the code
 pub record Underway (index area : List ℕ) (D words blocks at left b size : ℕ) (run : List ℕ) (end : ℕ) (word : List ℕ) (len pos count : ℕ) : Type 0 where
   pub standing : Inside index at left
@@ -410,7 +407,6 @@ pub record Underway (index area : List ℕ) (D words blocks at left b size : ℕ
   pub many-blocks : blocks ≤ 274_877_906_944
   pub end-low : end < 8_388_608
   pub small : size ≤ 32_767
-  pub placed-in : b + size ≤ D
   pub long : length run ≡ 256 * size
   pub reading : Reading format4 D area (element-at index at) (following index at left) size run word len pos count
 
@@ -459,7 +455,6 @@ module _ (index area : List ℕ) (n D : ℕ) (ms₀ : List Bool) (words blocks a
               many-blocks = omega (arith, v .few-blocks, v .fewer, v .few);
               end-low = omega arith;
               small = told .2;
-              placed-in = told .3;
               long = slice-long area b size D long (told .3);
               reading =
                   reading-start format4 D area (element-at index at) (following index at left) size b number sized some-blocks long (take (end - (at + 2)) (drop (at + 2) index)) headword x word′ start there w (end - (at + 2))
@@ -487,7 +482,6 @@ module _ (index area : List ℕ) (D words blocks at left b size : ℕ) (run : Li
         many-blocks = u .many-blocks;
         end-low = u .end-low;
         small = u .small;
-        placed-in = u .placed-in;
         long = u .long;
         reading = reading-turn format4 D area (element-at index at) (following index at left) size run word len pos count (u .reading) st word′ step place k z x h l;
       }
@@ -522,4 +516,4 @@ module _ (index area : List ℕ) (D words blocks at left b size : ℕ) (run : Li
   pub walk-front : (word′ : List ℕ) → length word′ ≡ length word → len ≡ length (take len word′)
   walk-front word′ l = sym (length-take-le len word′ (omega (arith, u .reading .buffer, u .reading .short)))
 
-pub ruleset runs-laws = (walk-start, walk-done, walk-number, walk-behind, walk-seven, walk-eight, walk-reading, turn-less, walk-broken, walk-turn, walk-high, walk-on, walk-front, needs)
+pub ruleset runs-laws = (walk-start, walk-done, walk-number, walk-seven, walk-eight, step-less, walk-broken, walk-high, walk-front, needs)

@@ -36,8 +36,8 @@ pub fn run_size(area: &[u8], d: usize, b: usize) -> usize
     n
 }
 
-// Where the first entry of a run ends, which is to have its element's headword; 0 where it breaks row 8. The headword is
-// then in the buffer.
+// Where the first entry of a run ends, which is to have its element's headword; that is then in the buffer. 0 where the
+// entry breaks row 8.
 fn first_entry(run: &[u8], headword: &[u8], word: &mut [u8]) -> usize
     requires { ⌜ (2 ≤ length (now run)) × (248 ≤ length (now word)) ⌝ }
     ensures { λ r. ⌜ Started format4 (now (headword .entry)) (now (run .entry)) (now (word .exit)) r ⌝ }

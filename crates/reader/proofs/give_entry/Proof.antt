@@ -4,8 +4,8 @@ use Rattle.reader.proofs.give_entry.Statement.{statement}
 use Rattle.reader.proofs.give_entry.Tie as tie
 
 -- src/lib.rt:129:16
-add-from : tie.Need-add-from
-add-from c = search needs
+add-start : tie.Need-add-start
+add-start c = search needs
 
 -- src/lib.rt:130:13
 sub-n : tie.Need-sub-n
@@ -51,7 +51,7 @@ pub give-entry-spec : {M : Type 1} → statement M
 give-entry-spec =
     tie.close
     (tie.spec
-    add-from
+    add-start
     sub-n
     returns
     returns-2

@@ -3,10 +3,10 @@ use lib.ListN.{length}
 use borrow.Author.Needs.{needs}
 use Rattle.spec.specs.Header.{format4}
 use Rattle.spec.specs.Order.{below-of}
-use Rattle.runs.proofs.Laws.{inside-rest, inside-body, inside-run, inside-short}
+use Rattle.runs.proofs.Laws.{step-less, inside-rest, inside-body, inside-run, inside-short}
 use Rattle.runs.proofs.Returns.{none-inside-end}
 use Rattle.tally.proofs.RunsLaws.{entry-room, entry-front}
-use Rattle.seek.proofs.Returns.{Passing, passing-start, find-broken, find-end, find-entry, find-turn, inside-from, find-less}
+use Rattle.seek.proofs.Returns.{Passing, passing-start, find-broken, find-end, find-entry, find-turn, inside-from}
 use Rattle.seek.proofs.find_in_run.Statement.{statement}
 use Rattle.seek.proofs.find_in_run.Tie as tie
 
@@ -59,7 +59,7 @@ returns-3 : tie.Need-returns-3 Inv-loop μ-loop
 returns-3 c = (search find-entry, (search (inside-from, needs), search needs))
 
 loop-less : tie.Need-loop-less Inv-loop μ-loop
-loop-less c = search find-less
+loop-less c = search step-less
 
 loop-again : tie.Need-loop-again Inv-loop μ-loop
 loop-again c = search (find-turn, inside-rest, inside-body, inside-run, inside-short)
