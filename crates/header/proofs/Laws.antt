@@ -215,6 +215,7 @@ rows-back false false false false false f g h = (refl, refl, refl, cc)
 
 -- a frame that fits an image
 pub record FrameFits (F : Format) (s : List ℕ) (f : Frame) : Type 0 where
+  pub is : f ≡ record { format = F; index-blocks = f .index-blocks; data-blocks = f .data-blocks }
   pub index-few : f .index-blocks ≤ 32767
   pub data-few : f .data-blocks ≤ F .most-blocks
   pub index-inside : F .header-bytes + 256 * f .index-blocks ≤ length s
@@ -233,6 +234,7 @@ frame-fits F s f h =
     let i : n ≡ f .index-blocks = ap (λ (g : Frame). g .index-blocks) (r .3) in
     let d : D ≡ f .data-blocks = ap (λ (g : Frame). g .data-blocks) (r .3) in
     record {
+      is = sym (r .3) ∙ ap (λ (g : Frame). record { format = F; index-blocks = g .index-blocks; data-blocks = g .data-blocks }) (r .3);
       index-few = rw i at p;
       data-few = rw d at m;
       index-inside = rw i at q;
@@ -246,28 +248,34 @@ module _ (s : List ℕ) (r : Framed) (e : framed r ≡ frame-from format4 s) whe
   unfolding framed
   frame-refused k h = sym (rw h at e)
 
-  module _ (n d : ℕ) (h : r ≡ Framed.Blocks n d) where
-    -- numbers of blocks are the frame's
-    pub frame-read : frame-from format4 s ≡ ok (frame4 n d)
-    unfolding framed
-    frame-read = sym (rw h at e)
+  -- numbers of blocks are the frame's
+  pub frame-read : (n d : ℕ) → r ≡ Framed.Blocks n d → frame-from format4 s ≡ ok (frame4 n d)
+  unfolding framed
+  frame-read n d h = sym (rw h at e)
 
-    fits : FrameFits format4 s (frame4 n d)
-    fits = frame-fits format4 s (frame4 n d) frame-read
+-- what a frame of n index blocks and d data blocks tells of its image
+module _ (s : List ℕ) (n d : ℕ) (read : frame-from format4 s ≡ ok (frame4 n d)) where
+  fits : FrameFits format4 s (frame4 n d)
+  fits = frame-fits format4 s (frame4 n d) read
 
-    -- of at most 32,767 index blocks,
-    pub frame-index-few : n ≤ 32767
-    frame-index-few = fits .index-few
+  -- at most 32,767 index blocks,
+  pub frame-index-few : n ≤ 32767
+  frame-index-few = fits .index-few
 
-    -- at most 65,536 data blocks,
-    pub frame-data-few : d ≤ 65536
-    unfolding format4
-    frame-data-few = fits .data-few
+  -- which lie in the image,
+  pub frame-index-inside : 256 + 256 * n ≤ length s
+  unfolding format4
+  frame-index-inside = fits .index-inside
 
-    -- and the data blocks all that follows it
-    pub frame-length-is : length s % 256 ≡ 0 → 256 + 256 * n + 256 * d ≡ length s
-    unfolding format4
-    frame-length-is w = omega (arith, fits .index-inside, fits .data-are)
+  -- at most 65,536 data blocks,
+  pub frame-data-few : d ≤ 65536
+  unfolding format4
+  frame-data-few = fits .data-few
+
+  -- and these are all that follows
+  pub frame-length-is : length s % 256 ≡ 0 → 256 + 256 * n + 256 * d ≡ length s
+  unfolding format4
+  frame-length-is w = omega (arith, fits .index-inside, fits .data-are)
 
 -- the index area as code takes it
 pub index-slice : (s : List ℕ) (n d : ℕ) → index-area (frame4 n d) s ≡ take (256 + 256 * n - 256) (drop 256 s)

@@ -81,10 +81,6 @@ unfolding index-from
 index-only F zero n area = only-when 6 (not (eqb n 0)) (ok []) (only-ok 6 [])
 index-only F (suc b) n area = elements-only F n [] area
 
--- elements that are not accepted are refused by 6
-pub elements-refused : (F : Format) (n : ℕ) (prev s : List ℕ) → accepted (elements-from F n prev s) ≡ false → elements-from F n prev s ≡ refused 6
-elements-refused F n prev s h = refused-only 6 (elements-from F n prev s) (elements-only F n prev s) h
-
 -- and so is an index that is not accepted
 pub index-refused : (F : Format) (b n : ℕ) (area : List ℕ) → accepted (index-from F b n area) ≡ false → index-from F b n area ≡ refused 6
 index-refused F b n area h = refused-only 6 (index-from F b n area) (index-only F b n area) h
@@ -231,11 +227,6 @@ elements-next index at zero p = absurd (omega arith)
 elements-next index at (suc n) p =
     let e : suc n - 1 ≡ n = omega arith in
     rw e
-
--- elements start inside the index
-pub inside-within : (index : List ℕ) (at left : ℕ) → Inside index at left → at ≤ length index
-inside-within index at zero h = h
-inside-within index at (suc n) h = let p : at + 2 ≤ length index = h .0 in omega arith
 
 -- ---- the element of the run concerned
 module _ (below : List ℕ → List ℕ → Bool) (index h : List ℕ) where

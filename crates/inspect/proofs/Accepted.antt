@@ -1,37 +1,20 @@
 -- What an accepted image tells of its parts, as the code cuts them out.
-use Prim.Native.Nat.{ℕ, _+_, _-_, _*_, _/_, _%_, _≤_}
+use Prim.Native.Nat.{ℕ, _+_, _-_, _*_, _%_, _≤_}
 use mathlib.Core.Path.{_≡_, sym, ap, ap₂, _∙_}
-use mathlib.Core.Bool.{not, _||_}
 use mathlib.Core.List.{List}
-use native.Mathlib.Omega.{arith}
 use lib.ListN.{length}
-use lib.Dec.{ltb}
-use Rattle.spec.specs.Outcome.{ok, _>>_, refuse_when_}
+use Rattle.spec.specs.Outcome.{ok}
 use Rattle.spec.specs.Header as HeaderSpec
-use Rattle.spec.specs.Header.{Format, layout4, format4, get}
+use Rattle.spec.specs.Header.{layout4, format4, get}
 use Rattle.spec.specs.Index.{index-from}
 use Rattle.spec.specs.Check as CheckSpec
-use Rattle.spec.specs.Check.{Frame, index-area, data-area, kind-ok, options-ok, frame-from, runs-from, image-from}
-use Rattle.spec.proofs.OutcomeLaws.{same-value, when-ok}
+use Rattle.spec.specs.Check.{Frame, index-area, data-area, frame-from, runs-from, image-from}
 use Rattle.spec.proofs.ReadLaws.{ImageTold, image-told}
 use Rattle.index.specs.Elements.{elements-at, Inside}
 use Rattle.header.specs.Framed.{frame4}
-use Rattle.header.proofs.Laws.{FrameFits, frame-fits, index-slice, data-slice}
+use Rattle.header.proofs.Laws.{frame-fits, frame-index-inside, frame-data-few, frame-length-is, index-slice, data-slice}
 use Rattle.inspect.specs.Overview.{AcceptedImage}
 use Rattle.inspect.proofs.Laws.{index-part, data-part, index-told, data-long}
-
--- a frame that was read is of its format
-frame-is : (F : Format) (s : List ℕ) (f : Frame) → frame-from F s ≡ ok f → f ≡ record { format = F; index-blocks = f .index-blocks; data-blocks = f .data-blocks }
-unfolding CheckSpec.frame-from
-frame-is F s f h =
-    let n : ℕ = get (F .layout .index-block) s in
-    let D : ℕ = (length s - (F .header-bytes + 256 * n)) / 256 in
-    let (a, h₁) = when-ok 3 (not (kind-ok (F .layout) s)) _ f h in
-    let (b, h₂) = when-ok 4 (not (options-ok (F .layout) s)) _ f h₁ in
-    let (c, h₃) = when-ok 5 (ltb 32_767 n || ltb (length s) (F .header-bytes + 256 * n)) _ f h₂ in
-    let (d, h₄) = when-ok 5 (ltb (F .most-blocks) D) _ f h₃ in
-    let e : record { format = F; index-blocks = n; data-blocks = D } ≡ f = same-value _ f h₄ in
-    sym e ∙ ap (λ (g : Frame). record { format = F; index-blocks = g .index-blocks; data-blocks = g .data-blocks }) e
 
 module _ (s : List ℕ) (n d : ℕ) (a : AcceptedImage s n d) where
   told : ImageTold format4 s (a .image)
@@ -40,25 +23,22 @@ module _ (s : List ℕ) (n d : ℕ) (a : AcceptedImage s n d) where
 
   -- its frame has these blocks
   pub accepted-frame : a .image .frame ≡ frame4 n d
-  accepted-frame = frame-is format4 s (a .image .frame) (told .frame) ∙ ap₂ (λ (x y : ℕ). frame4 x y) (sym (a .index-blocks)) (sym (a .data-blocks))
+  accepted-frame = frame-fits format4 s (a .image .frame) (told .frame) .is ∙ ap₂ (λ (x y : ℕ). frame4 x y) (sym (a .index-blocks)) (sym (a .data-blocks))
 
-  fits : FrameFits format4 s (frame4 n d)
-  fits = frame-fits format4 s (frame4 n d) (told .frame ∙ ap ok accepted-frame)
+  read : frame-from format4 s ≡ ok (frame4 n d)
+  read = told .frame ∙ ap ok accepted-frame
 
   -- the index lies inside the image
   pub accepted-index : 256 + 256 * n ≤ length s
-  unfolding HeaderSpec.format4
-  accepted-index = fits .index-inside
+  accepted-index = frame-index-inside s n d read
 
   -- there are no more data blocks than row 5 allows
   pub accepted-blocks : d ≤ 65_536
-  unfolding HeaderSpec.format4
-  accepted-blocks = fits .data-few
+  accepted-blocks = frame-data-few s n d read
 
-  -- the data area behind it is the rest
+  -- the data area behind the index is the rest
   pub accepted-whole : length s % 256 ≡ 0 → 256 + 256 * n + 256 * d ≡ length s
-  unfolding HeaderSpec.format4
-  accepted-whole m = omega (arith, fits .index-inside, fits .data-are)
+  accepted-whole = frame-length-is s n d read
 
   pub accepted-area : length s % 256 ≡ 0 → 256 * d ≡ length (data-part s n)
   accepted-area m = data-long s n d (accepted-whole m)

@@ -31,7 +31,7 @@ use Rattle.marks.specs.Marks.{with-range, next}
 use Rattle.marks.proofs.Laws.{length-marks, next-is, next-before, length-range, get-range-in, get-range-below, get-range-above}
 use Rattle.header.specs.Framed.{frame4, framed}
 use Rattle.header.specs.declared.Framed.{Framed}
-use Rattle.header.proofs.Laws.{frame-refused, index-slice, data-slice}
+use Rattle.header.proofs.Laws.{frame-refused, frame-read, frame-index-few, frame-data-few, index-slice, data-slice}
 use Rattle.index.specs.Elements as Elements
 use Rattle.index.specs.Elements.{elements-at, Inside}
 use Rattle.index.proofs.Laws.{width4, elements-found, index-refused}
@@ -283,6 +283,14 @@ index-told area zero n es h =
 index-told area (suc b) n es h =
     let (p, q, r) = elements-found format4 width4 area n es h in
     (p, q)
+
+-- the bounds of a frame that is read, by the answer
+module _ (s : List ℕ) (r : Framed) (e : framed r ≡ frame-from format4 s) (n d : ℕ) (h : r ≡ Framed.Blocks n d) where
+  pub areas-index-few : n ≤ 32_767
+  areas-index-few = frame-index-few s n d (frame-read s r e n d h)
+
+  pub areas-data-few : d ≤ 65_536
+  areas-data-few = frame-data-few s n d (frame-read s r e n d h)
 
 -- a frame that is refused
 pub areas-frame : (s : List ℕ) (r : Framed) → framed r ≡ frame-from format4 s → (j : ℕ) → r ≡ Framed.Refused j → (k : ℕ) (ms : List Bool) → overview (Inspected.Refused j) ms ≡ viewed k (image-from s)

@@ -22,7 +22,7 @@ use Rattle.spec.specs.Check as Check
 use Rattle.spec.specs.Check.{Image, runs-from, image-from, all-entries, entries-of}
 use Rattle.spec.specs.SortedList.{lookup, successor}
 use Rattle.spec.specs.Calls as Calls
-use Rattle.spec.specs.Calls.{look-up-result, walk-result}
+use Rattle.spec.specs.Calls.{text-fitted, look-up-in, entry-fitted, start-ok, walk-in, look-up-result, walk-result}
 use Rattle.spec.specs.Answers as Answers
 use Rattle.spec.specs.Answers.{look-up-answer, walk-answer}
 use Rattle.spec.specs.declared.LookUpAnswer.{LookUpAnswer}
@@ -43,7 +43,6 @@ use Rattle.inspect.specs.Overview.{AcceptedImage}
 use Rattle.inspect.proofs.Laws.{index-part, data-part}
 use Rattle.inspect.proofs.Accepted.{accepted-frame, accepted-runs}
 use Rattle.header.specs.Framed.{frame4}
-use Rattle.reader.specs.Found.{text-fitted, look-up-in, entry-fitted, start-ok, walk-in}
 
 -- the entry whose body stands in the data area
 abbrev pub entry-in : List ℕ → ℕ → ℕ → List ℕ → Entry
@@ -63,7 +62,7 @@ module _ (area : List ℕ) (z e : ℕ) (p : z + 2 ≤ e) (q : e ≤ length area)
 
   -- row 14
   pub text-short : length out < e - (z + 2) → (h : List ℕ) → record { answer = look-up-answer (LookUpAnswer.Refused 14); text = out } ≡ look-up-result out (text-fitted out (some (entry-in area z e h)))
-  unfolding Calls.look-up-result Answers.look-up-answer text-fitted
+  unfolding Calls.look-up-result Answers.look-up-answer Calls.text-fitted
   text-short l h =
       let k : ltb (length out) (length (text (entry-in area z e h))) ≡ true = lt-ltb (length out) (length (text (entry-in area z e h))) (rw (text-length h) l) in
       rw k
@@ -71,7 +70,7 @@ module _ (area : List ℕ) (z e : ℕ) (p : z + 2 ≤ e) (q : e ≤ length area)
   -- the text is copied
   pub text-given : e - (z + 2) ≤ length out → (out′ : List ℕ) → out′ ≡ write 0 (bytes-at (z + 2) (e - (z + 2)) area) out → (h : List ℕ)
       → record { answer = look-up-answer (LookUpAnswer.Found (getD area (z + 1) 0) (e - (z + 2))); text = out′ } ≡ look-up-result out (text-fitted out (some (entry-in area z e h)))
-  unfolding Calls.look-up-result Answers.look-up-answer text-fitted
+  unfolding Calls.look-up-result Answers.look-up-answer Calls.text-fitted
   text-given l out′ w h =
       let k : ltb (length out) (length (text (entry-in area z e h))) ≡ false = le-ltb (length out) (length (text (entry-in area z e h))) (rw (text-length h) l) in
       rw (k, attribute-in area h z e p q, text-length h, text-in area h z e p q, w)
@@ -79,7 +78,7 @@ module _ (area : List ℕ) (z e : ℕ) (p : z + 2 ≤ e) (q : e ≤ length area)
 module _ (s h out : List ℕ) (n d : ℕ) (a : AcceptedImage s n d) (t : Bool) (rule : t ≡ headword-ok h) where
   -- row 12
   pub look-up-twelve : not t ≡ true → (i : Image) → image-from s ≡ ok i → record { answer = look-up-answer (LookUpAnswer.Refused 12); text = out } ≡ look-up-result out (look-up-in i h out)
-  unfolding Calls.look-up-result Answers.look-up-answer look-up-in
+  unfolding Calls.look-up-result Answers.look-up-answer Calls.look-up-in
   look-up-twelve q i o = rw (← rule, q)
 
   module _ (q : not t ≡ false) (e : ℕ) (number : e ≡ get (layout4 .nindex2) s) (word : List ℕ) (p : Spot)
@@ -100,12 +99,12 @@ module _ (s h out : List ℕ) (n d : ℕ) (a : AcceptedImage s n d) (t : Bool) (
         known (b ∷ k) l es g = lookup-by-successor format4 (order-of 0) b k [] es g
 
     opened : look-up-in i h out ≡ text-fitted out (exactly h (spot-entry (data-part s n) word p))
-    unfolding look-up-in
+    unfolding Calls.look-up-in
     opened = rw (← rule, q, found)
 
     -- no entry stands there
     look-up-none : p ≡ Spot.Absent → record { answer = look-up-answer LookUpAnswer.Absent; text = out } ≡ look-up-result out (look-up-in i h out)
-    unfolding Calls.look-up-result Answers.look-up-answer text-fitted SpotSpec.spot-entry
+    unfolding Calls.look-up-result Answers.look-up-answer Calls.text-fitted SpotSpec.spot-entry
     look-up-none x = sym (rw (opened, x))
 
     module _ (k z x : ℕ) (y : p ≡ Spot.At k z x) (b : Bool) (same : b ≡ bytes-equal (take k word) h) where
@@ -115,7 +114,7 @@ module _ (s h out : List ℕ) (n d : ℕ) (a : AcceptedImage s n d) (t : Bool) (
 
       -- another entry stands there
       pub look-up-other : b ≡ false → record { answer = look-up-answer LookUpAnswer.Absent; text = out } ≡ look-up-result out (look-up-in i h out)
-      unfolding Calls.look-up-result Answers.look-up-answer text-fitted
+      unfolding Calls.look-up-result Answers.look-up-answer Calls.text-fitted
       look-up-other f =
           let g : exactly h (spot-entry (data-part s n) word p) ≡ none = spot ∙ rw f in
           ap (look-up-result out) (sym (opened ∙ ap (text-fitted out) g))
@@ -135,18 +134,18 @@ module _ (s h out : List ℕ) (n d : ℕ) (a : AcceptedImage s n d) (t : Bool) (
 
 -- row 12 of a walk
 pub start-long : (h : List ℕ) → 248 < length h → false ≡ start-ok h
-unfolding start-ok
+unfolding Calls.start-ok
 start-long h p = rw (lt-leb (length h) 248 p)
 
 pub start-clear : (h : List ℕ) → length h ≤ 248 → (t : Bool) → t ≡ no-zero (bytes-at 0 (length h - 0) h) → t ≡ start-ok h
-unfolding start-ok BytesSpec.bytes-at
+unfolding Calls.start-ok BytesSpec.bytes-at
 start-clear h p t e = rw (le-leb (length h) 248 p) (rw (sub-zero, take-length h) at e)
 
 module _ (area : List ℕ) (z e : ℕ) (p : z + 2 ≤ e) (q : e ≤ length area) (h out text-out : List ℕ) where
   -- row 14: the headword's output
   pub entry-long : length out < length h
       → record { answer = walk-answer (WalkAnswer.Refused 14); headword = out; text = text-out } ≡ walk-result out text-out (entry-fitted out text-out (some (entry-in area z e h)))
-  unfolding Calls.walk-result Answers.walk-answer entry-fitted
+  unfolding Calls.walk-result Answers.walk-answer Calls.entry-fitted
   entry-long l =
       let k : ltb (length out) (length h) ≡ true = lt-ltb (length out) (length h) l in
       rw k
@@ -158,7 +157,7 @@ module _ (area : List ℕ) (z e : ℕ) (p : z + 2 ≤ e) (q : e ≤ length area)
     -- row 14: the text's output
     pub entry-short : length text-out < e - (z + 2)
         → record { answer = walk-answer (WalkAnswer.Refused 14); headword = out; text = text-out } ≡ walk-result out text-out (entry-fitted out text-out (some (entry-in area z e h)))
-    unfolding Calls.walk-result Answers.walk-answer entry-fitted
+    unfolding Calls.walk-result Answers.walk-answer Calls.entry-fitted
     entry-short l =
         let k : ltb (length text-out) (length (text (entry-in area z e h))) ≡ true = lt-ltb (length text-out) (length (text (entry-in area z e h))) (rw (text-length area z e p q out h) l) in
         rw (headword-fits, k)
@@ -166,7 +165,7 @@ module _ (area : List ℕ) (z e : ℕ) (p : z + 2 ≤ e) (q : e ≤ length area)
     -- both are copied
     pub entry-given : e - (z + 2) ≤ length text-out → (out′ text′ : List ℕ) → out′ ≡ write 0 (bytes-at 0 (length h) h) out → text′ ≡ write 0 (bytes-at (z + 2) (e - (z + 2)) area) text-out
         → record { answer = walk-answer (WalkAnswer.Found (getD area (z + 1) 0) (length h) (e - (z + 2))); headword = out′; text = text′ } ≡ walk-result out text-out (entry-fitted out text-out (some (entry-in area z e h)))
-    unfolding Calls.walk-result Answers.walk-answer entry-fitted BytesSpec.bytes-at
+    unfolding Calls.walk-result Answers.walk-answer Calls.entry-fitted BytesSpec.bytes-at
     entry-given l out′ text′ u w =
         let k : ltb (length text-out) (length (text (entry-in area z e h))) ≡ false = le-ltb (length text-out) (length (text (entry-in area z e h))) (rw (text-length area z e p q out h) l) in
         let v : out′ ≡ write 0 h out = rw (take-length h) at u in
@@ -175,13 +174,13 @@ module _ (area : List ℕ) (z e : ℕ) (p : z + 2 ≤ e) (q : e ≤ length area)
 module _ (s h out text-out : List ℕ) (n d : ℕ) (a : AcceptedImage s n d) (above t : Bool) (rule : t ≡ start-ok h) where
   -- row 12
   pub walk-twelve : not t ≡ true → (i : Image) → image-from s ≡ ok i → record { answer = walk-answer (WalkAnswer.Refused 12); headword = out; text = text-out } ≡ walk-result out text-out (walk-in i above h out text-out)
-  unfolding Calls.walk-result Answers.walk-answer walk-in
+  unfolding Calls.walk-result Answers.walk-answer Calls.walk-in
   walk-twelve q i o = rw (← rule, q)
 
   module _ (q : not t ≡ false) (e : ℕ) (number : e ≡ get (layout4 .nindex2) s) (word : List ℕ) (p : Spot)
       (sought : (rs : List Run) → runs-from format4 d (data-part s n) (elements-at (index-part s n) 0 e) ≡ ok rs → spot-entry (data-part s n) word p ≡ successor (below-of 0) above h (all-entries rs)) where
     walked : (i : Image) → image-from s ≡ ok i → walk-in i above h out text-out ≡ entry-fitted out text-out (spot-entry (data-part s n) word p)
-    unfolding Check.entries-of Header.format4 walk-in
+    unfolding Check.entries-of Header.format4 Calls.walk-in
     walked i o =
         let j : a .image ≡ i = same-value (a .image) i (sym (a .is) ∙ o) in
         let f : i .frame ≡ frame4 n d = ap (λ (x : Image). x .frame) (sym j) ∙ accepted-frame s n d a in
@@ -190,7 +189,7 @@ module _ (s h out text-out : List ℕ) (n d : ℕ) (a : AcceptedImage s n d) (ab
 
     -- past the last
     pub walk-absent : p ≡ Spot.Absent → (i : Image) → image-from s ≡ ok i → record { answer = walk-answer WalkAnswer.Absent; headword = out; text = text-out } ≡ walk-result out text-out (walk-in i above h out text-out)
-    unfolding Calls.walk-result Answers.walk-answer entry-fitted SpotSpec.spot-entry
+    unfolding Calls.walk-result Answers.walk-answer Calls.entry-fitted SpotSpec.spot-entry
     walk-absent x i o = sym (rw (walked i o, x))
 
     -- the entry found

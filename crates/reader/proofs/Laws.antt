@@ -11,7 +11,7 @@ use Rattle.spec.specs.Blocks.{free-marks, count-marks}
 use Rattle.spec.specs.Check as Check
 use Rattle.spec.specs.Check.{Image, slice-ok, image-from, image-in, entries-of}
 use Rattle.spec.specs.Calls as Calls
-use Rattle.spec.specs.Calls.{figures, check, look-up-result, look-up, walk-result, walk}
+use Rattle.spec.specs.Calls.{text-fitted, look-up-in, entry-fitted, start-ok, walk-in, figures, check, look-up-result, look-up, walk-result, walk}
 use Rattle.spec.specs.Answers as Answers
 use Rattle.spec.specs.Answers.{check-answer, look-up-answer, walk-answer}
 use Rattle.spec.specs.declared.CheckAnswer.{CheckAnswer}
@@ -21,7 +21,6 @@ use Rattle.header.proofs.Laws.{slice-refused, slice-accepted, slice-has-header,
 use Rattle.freelist.proofs.Laws.{count-behind}
 use Rattle.inspect.specs.Overview.{overview, viewed, AcceptedImage}
 use Rattle.inspect.proofs.Accepted.{accepted-index}
-use Rattle.reader.specs.Found.{text-fitted, look-up-in, entry-fitted, start-ok, walk-in}
 use Rattle.inspect.specs.declared.Inspected.{Inspected}
 use Rattle.inspect.proofs.Laws.{SoundImage, overview-refused, overview-sound}
 
@@ -110,12 +109,12 @@ module _ (s : List ℕ) (len : ℕ) (t : Bool) (slice : t ≡ accepted (slice-ok
         -- a look up by the answer in the image
         pub look-up-answered : (g out : List ℕ) (x : LookUpAnswer) (out′ : List ℕ)
             → ((i : Image) → image-from (take len s) ≡ ok i → record { answer = look-up-answer x; text = out′ } ≡ look-up-result out (look-up-in i g out)) → record { answer = look-up-answer x; text = out′ } ≡ look-up s len g out
-        unfolding Calls.look-up Calls.look-up-entry look-up-in text-fitted
+        unfolding Calls.look-up Calls.look-up-entry Calls.look-up-in Calls.text-fitted
         look-up-answered g out x out′ f = f (sound .image) (sound .is) ∙ ap (look-up-result out) (sym (rw (image-ok)))
 
         -- a walk by the answer in the image
         pub walk-answered : (above : Bool) (g out text : List ℕ) (x : WalkAnswer) (out′ text′ : List ℕ)
             → ((i : Image) → image-from (take len s) ≡ ok i → record { answer = walk-answer x; headword = out′; text = text′ } ≡ walk-result out text (walk-in i above g out text))
             → record { answer = walk-answer x; headword = out′; text = text′ } ≡ walk s len above g out text
-        unfolding Calls.walk Calls.walk-entry walk-in start-ok entry-fitted
+        unfolding Calls.walk Calls.walk-entry Calls.walk-in Calls.start-ok Calls.entry-fitted
         walk-answered above g out text x out′ text′ f = f (sound .image) (sound .is) ∙ ap (walk-result out text) (sym (rw (image-ok)))

@@ -62,12 +62,6 @@ module _ (F : Format) (prev s run word : List ℕ) (st : Step) (h : step-entry r
     pub told-no-zero : no-zero (take n word) ≡ true
     told-no-zero = headword-no-zero (take n word) told-headword
 
-    pub told-body : body-ok (bytes-at (z + 1) (e - (z + 1)) run) ≡ true
-    told-body = told .0 .1
-
-    pub told-above : F .below prev (take n word) ≡ true
-    told-above = told .0 .2
-
 -- where an entry that was found stands, one by one
 module _ (at : ℕ) (run : List ℕ) (st : Step) (h : Inside at run st) (n z e : ℕ) (q : st ≡ Step.Entry n z e) where
   pub inside-rest : at + 3 ≤ z
@@ -78,12 +72,6 @@ module _ (at : ℕ) (run : List ℕ) (st : Step) (h : Inside at run st) (n z e :
 
   pub inside-run : e ≤ length run
   inside-run = h n z e q .2
-
-  pub inside-text : e ≤ z + 3002
-  inside-text = h n z e q .3
-
-  pub inside-some : 1 ≤ n
-  inside-some = h n z e q .4
 
   pub inside-short : n ≤ 248
   inside-short = h n z e q .5

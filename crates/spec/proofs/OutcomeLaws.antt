@@ -29,12 +29,7 @@ unfolding accepted
 accepted-answer (refused k) h = absurd (false≢true h)
 accepted-answer (ok a) h = record { value = a; is = refl }
 
--- an answer is accepted
-pub accepted-ok : {A : Type 0} (o : Outcome A) (a : A) → o ≡ ok a → accepted o ≡ true
-unfolding accepted
-accepted-ok o a h = rw h
-
--- a refusal is not
+-- a refusal is not accepted
 pub accepted-refused : {A : Type 0} (o : Outcome A) (k : ℕ) → o ≡ refused k → accepted o ≡ false
 unfolding accepted
 accepted-refused o k h = rw h

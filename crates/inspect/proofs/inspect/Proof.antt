@@ -1,5 +1,5 @@
-use Rattle.header.proofs.Laws.{frame-read, frame-length-is, frame-index-few, frame-data-few}
-use Rattle.inspect.proofs.Laws.{areas-frame}
+use Rattle.header.proofs.Laws.{frame-read, frame-length-is}
+use Rattle.inspect.proofs.Laws.{areas-frame, areas-index-few, areas-data-few}
 use borrow.Author.Needs.{needs}
 use Rattle.inspect.proofs.inspect.Statement.{statement}
 use Rattle.inspect.proofs.inspect.Tie as tie
@@ -18,7 +18,7 @@ enum-known-f-2 c = search needs
 
 -- src/lib.rt:107:43
 inspect-areas-requires : tie.Need-inspect-areas-requires
-inspect-areas-requires c κs = (search frame-read, ((search frame-length-is, search frame-index-few, search frame-data-few, search needs), search needs))
+inspect-areas-requires c κs = (search frame-read, ((search (frame-length-is, frame-read), search areas-index-few, search areas-data-few, search needs), search needs))
 
 -- src/lib.rt:99:1
 returns : tie.Need-returns
