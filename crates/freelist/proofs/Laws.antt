@@ -9,7 +9,7 @@ use native.Mathlib.Nat.{add-zero}
 use lib.ListN.{length, getD, set, replicate, length-set, length-append, length-replicate, length-map, getD-replicate, List·getD-append}
 use lib.Seq.{getD-set-same, getD-set-other, getD-append-add, ext-getD}
 use lib.Dec.{eqb, ltb, eqb·suc-zero}
-use borrow.Author.Tests.{eq-eqb, ne-eqb, eqb-true, eqb-false, lt-ltb, le-ltb, ltb-true}
+use borrow.Author.Tests.{eq-eqb, ne-eqb, eqb-true, eqb-false, lt-ltb, le-ltb}
 use Rattle.spec.specs.Outcome.{Outcome, refused, ok, _>>=_, _>>_, refuse_when_}
 use Rattle.spec.specs.Lists.{any, filter, count, range-from}
 use Rattle.spec.specs.Bytes.{from-little-endian, bytes-at, all-zero}
@@ -53,42 +53,6 @@ free-full m d b area e h z = by-turn m d b area ∙ rw (ne-eqb b free-list-end e
 pub free-next : (m d b : ℕ) (area : List ℕ) → b ≢ free-list-end → b < d → all-zero (bytes-at (256 * b) 2 area) ≡ true
     → free-list-from (suc m) d b area ≡ (free-list-from m d (from-little-endian (bytes-at (256 * b + 2) 4 area)) area >>= (λ bs. ok (b ∷ bs)))
 free-next m d b area e h z = by-turn m d b area ∙ rw (ne-eqb b free-list-end e, lt-ltb b d h, z)
-
--- the numbers of a list that was read are below D
-turn-below : (d b : ℕ) (e l z : Bool) (o : Outcome (List ℕ)) (fl : List ℕ) → ltb b d ≡ l → ((bs : List ℕ) → o ≡ ok bs → All (λ a. a < d) bs) → turn b e l z o ≡ ok fl → All (λ a. a < d) fl
-turn-below d b true l z o fl w ih h = let q : [] ≡ fl = cc in rw (← q) tt
-turn-below d b false false z o fl w ih h = absurd (false≢true (cc))
-turn-below d b false true false o fl w ih h = absurd (false≢true (cc))
-turn-below d b false true true (refused k) fl w ih h = absurd (false≢true (cc))
-turn-below d b false true true (ok bs) fl w ih h = let q : b ∷ bs ≡ fl = cc in rw (← q) (ltb-true b d w, ih bs refl)
-
-pub free-list-below : (m d b : ℕ) (area fl : List ℕ) → free-list-from m d b area ≡ ok fl → All (λ a. a < d) fl
-unfolding free-list-from
-free-list-below zero d b area fl h = go (eqb b free-list-end) h
-  where
-    go : (t : Bool) → (refuse 9 when not t >> ok []) ≡ ok fl → All (λ a. a < d) fl
-    go true h = let q : [] ≡ fl = cc in rw (← q) tt
-    go false h = absurd (false≢true (cc))
-free-list-below (suc m) d b area fl h =
-    turn-below d b (eqb b free-list-end) (ltb b d) (all-zero (bytes-at (256 * b) 2 area)) (free-list-from m d (from-little-endian (bytes-at (256 * b + 2) 4 area)) area) fl refl (λ bs. free-list-below m d (from-little-endian (bytes-at (256 * b + 2) 4 area)) area bs) (sym (by-turn m d b area) ∙ h)
-
--- a list that is not read is refused by row 9
-turn-nine : (b : ℕ) (e l z : Bool) (o : Outcome (List ℕ)) (k : ℕ) → ((j : ℕ) → o ≡ refused j → j ≡ 9) → turn b e l z o ≡ refused k → k ≡ 9
-turn-nine b true l z o k ih h = absurd (false≢true (cc))
-turn-nine b false false z o k ih h = let q : 9 ≡ k = cc in sym q
-turn-nine b false true false o k ih h = let q : 9 ≡ k = cc in sym q
-turn-nine b false true true (refused j) k ih h = let q : j ≡ k = cc in sym q ∙ ih j refl
-turn-nine b false true true (ok bs) k ih h = absurd (false≢true (cc))
-
-pub free-list-nine : (m d b : ℕ) (area : List ℕ) (k : ℕ) → free-list-from m d b area ≡ refused k → k ≡ 9
-unfolding free-list-from
-free-list-nine zero d b area k h = go (eqb b free-list-end) h
-  where
-    go : (t : Bool) → _≡_ {A = Outcome (List ℕ)} (refuse 9 when not t >> ok []) (refused k) → k ≡ 9
-    go true h = absurd (false≢true (cc))
-    go false h = let q : 9 ≡ k = cc in sym q
-free-list-nine (suc m) d b area k h =
-    turn-nine b (eqb b free-list-end) (ltb b d) (all-zero (bytes-at (256 * b) 2 area)) (free-list-from m d (from-little-endian (bytes-at (256 * b + 2) 4 area)) area) k (λ j. free-list-nine m d (from-little-endian (bytes-at (256 * b + 2) 4 area)) area j) (sym (by-turn m d b area) ∙ h)
 
 -- a list has no number where it starts with its end
 turn-none : (b : ℕ) (e l z : Bool) (o : Outcome (List ℕ)) → has-length 0 (turn b e l z o) ≡ e

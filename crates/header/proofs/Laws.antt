@@ -8,11 +8,12 @@ use lib.ListN.{length, getD, take, drop, length-drop}
 use lib.Seq.{take-all}
 use lib.Dec.{eqb, ltb, leb}
 use borrow.Author.Tests.{lt-ltb, le-ltb, le-leb, lt-leb, eq-eqb, ne-eqb, ltb-true, ltb-false, eqb-true, not-false}
-use Rattle.spec.specs.Outcome.{Outcome, refused, ok, accepted, _>>_, refuse_when_}
+use Rattle.spec.specs.Outcome.{refused, ok, accepted, refuse_when_}
 use Rattle.spec.specs.Bytes.{from-little-endian, bytes-at}
-use Rattle.spec.specs.Header.{Format, field-at, get, layout4, format4, high-version-of}
-use Rattle.spec.specs.Check.{Frame, slice-ok, kind-ok, options-ok, frame-from, data-start, index-area, data-area}
+use Rattle.spec.specs.Header.{field-at, get, layout4, format4, high-version-of}
+use Rattle.spec.specs.Check.{slice-ok, kind-ok, options-ok, frame-from, data-start, index-area, data-area}
 use Rattle.spec.proofs.PartLaws.{bytes-at-cons}
+use Rattle.spec.proofs.ReadLaws.{FrameFits, frame-fits}
 use Rattle.header.specs.Framed.{frame4, framed}
 use Rattle.header.specs.declared.Framed.{Framed}
 
@@ -195,51 +196,6 @@ module _ (s : List ℕ) (L : ℕ) where
     -- and lies in the slice
     pub slice-holds : L ≤ length s
     slice-holds = ltb-false (length s) L (tests .2)
-
--- rows 3 to 5 by their tests
-abbrev rows : (a b c d e : Bool) → Frame → Outcome Frame
-rows a b c d e f = do
-  refuse 3 when a
-  refuse 4 when b
-  refuse 5 when (c || d)
-  refuse 5 when e
-  ok f
-
-rows-back : (a b c d e : Bool) (f g : Frame) → rows a b c d e f ≡ ok g → (c ≡ false) × (d ≡ false) × (e ≡ false) × (f ≡ g)
-rows-back true b c d e f g h = absurd (false≢true (cc))
-rows-back false true c d e f g h = absurd (false≢true (cc))
-rows-back false false true d e f g h = absurd (false≢true (cc))
-rows-back false false false true e f g h = absurd (false≢true (cc))
-rows-back false false false false true f g h = absurd (false≢true (cc))
-rows-back false false false false false f g h = (refl, refl, refl, cc)
-
--- a frame that fits an image
-pub record FrameFits (F : Format) (s : List ℕ) (f : Frame) : Type 0 where
-  pub is : f ≡ record { format = F; index-blocks = f .index-blocks; data-blocks = f .data-blocks }
-  pub index-few : f .index-blocks ≤ 32767
-  pub data-few : f .data-blocks ≤ F .most-blocks
-  pub index-inside : F .header-bytes + 256 * f .index-blocks ≤ length s
-  pub data-are : f .data-blocks ≡ (length s - (F .header-bytes + 256 * f .index-blocks)) / 256
-
--- a frame that is read fits its image
-pub frame-fits : (F : Format) (s : List ℕ) (f : Frame) → frame-from F s ≡ ok f → FrameFits F s f
-unfolding frame-from
-frame-fits F s f h =
-    let n : ℕ = get (F .layout .index-block) s in
-    let D : ℕ = (length s - (F .header-bytes + 256 * n)) / 256 in
-    let r = rows-back (not (kind-ok (F .layout) s)) (not (options-ok (F .layout) s)) (ltb 32_767 n) (ltb (length s) (F .header-bytes + 256 * n)) (ltb (F .most-blocks) D) (record { format = F; index-blocks = n; data-blocks = D }) f h in
-    let p : n ≤ 32767 = ltb-false 32_767 n (r .0) in
-    let q : F .header-bytes + 256 * n ≤ length s = ltb-false (length s) (F .header-bytes + 256 * n) (r .1) in
-    let m : D ≤ F .most-blocks = ltb-false (F .most-blocks) D (r .2) in
-    let i : n ≡ f .index-blocks = ap (λ (g : Frame). g .index-blocks) (r .3) in
-    let d : D ≡ f .data-blocks = ap (λ (g : Frame). g .data-blocks) (r .3) in
-    record {
-      is = sym (r .3) ∙ ap (λ (g : Frame). record { format = F; index-blocks = g .index-blocks; data-blocks = g .data-blocks }) (r .3);
-      index-few = rw i at p;
-      data-few = rw d at m;
-      index-inside = rw i at q;
-      data-are = sym d ∙ ap (λ (k : ℕ). (length s - (F .header-bytes + 256 * k)) / 256) i;
-    }
 
 -- what an answer of `frame` tells
 module _ (s : List ℕ) (r : Framed) (e : framed r ≡ frame-from format4 s) where

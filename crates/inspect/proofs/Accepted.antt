@@ -9,10 +9,10 @@ use Rattle.spec.specs.Header.{layout4, format4, get}
 use Rattle.spec.specs.Index.{index-from}
 use Rattle.spec.specs.Check as CheckSpec
 use Rattle.spec.specs.Check.{Frame, index-area, data-area, frame-from, runs-from, image-from}
-use Rattle.spec.proofs.ReadLaws.{ImageTold, image-told}
+use Rattle.spec.proofs.ReadLaws.{frame-fits, ImageTold, image-told}
 use Rattle.index.specs.Elements.{elements-at, Inside}
 use Rattle.header.specs.Framed.{frame4}
-use Rattle.header.proofs.Laws.{frame-fits, frame-index-inside, frame-data-few, frame-length-is, index-slice, data-slice}
+use Rattle.header.proofs.Laws.{frame-index-inside, frame-data-few, frame-length-is, index-slice, data-slice}
 use Rattle.inspect.specs.Overview.{AcceptedImage}
 use Rattle.inspect.proofs.Laws.{index-part, data-part, index-told, data-long}
 

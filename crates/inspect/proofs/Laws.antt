@@ -24,7 +24,7 @@ use Rattle.spec.specs.Check as Check
 use Rattle.spec.specs.Check.{Image, index-area, data-area, frame-from, runs-from, counts-ok, image-by, image-from, all-entries, entries-of}
 use Rattle.spec.proofs.ListsLaws.{All, or-false, less-or}
 use Rattle.spec.proofs.OutcomeLaws.{same-value, ok-not-refused, when-ok, Answer, accepted-answer}
-use Rattle.spec.proofs.ReadLaws.{runs-inside}
+use Rattle.spec.proofs.ReadLaws.{free-list-below, free-list-nine, runs-inside}
 use Rattle.spec.proofs.BlocksLaws.{covers-inside, covers-outside}
 use Rattle.spec.proofs.CountLaws.{blocks-once, once-by-cover, once-covered}
 use Rattle.marks.specs.Marks.{with-range, next}
@@ -36,7 +36,7 @@ use Rattle.index.specs.Elements as Elements
 use Rattle.index.specs.Elements.{elements-at, Inside}
 use Rattle.index.proofs.Laws.{width4, elements-found, index-refused}
 use Rattle.freelist.specs.FreeList.{has-length, with-marks, Marked}
-use Rattle.freelist.proofs.Laws.{free-list-below, free-list-nine, Read, has-length-read, has-length-not, length-with-marks, get-with-marks, with-no-marks}
+use Rattle.freelist.proofs.Laws.{Read, has-length-read, has-length-not, length-with-marks, get-with-marks, with-no-marks}
 use Rattle.tally.specs.Tally as Tally
 use Rattle.tally.specs.Tally.{Tally as TallyRecord, covered, tally, runs-answer}
 use Rattle.tally.specs.declared.Runs.{Runs}

@@ -20,10 +20,10 @@ use Rattle.spec.specs.Listing as ListingSpec
 use Rattle.spec.specs.Listing.{first-line, run-lines, image-lines, listing}
 use Rattle.spec.proofs.ListsLaws.{All}
 use Rattle.spec.proofs.CountLaws.{blocks-once}
-use Rattle.spec.proofs.ReadLaws.{image-told, runs-inside}
+use Rattle.spec.proofs.ReadLaws.{free-list-below, image-told, runs-inside}
 use Rattle.index.specs.Elements.{elements-at, Inside}
 use Rattle.header.proofs.Laws.{slice-refused, slice-accepted, slice-has-header, slice-in-blocks}
-use Rattle.freelist.proofs.Laws.{count-behind, free-list-below}
+use Rattle.freelist.proofs.Laws.{count-behind}
 use Rattle.inspect.specs.Overview.{viewed, overview, AcceptedImage}
 use Rattle.inspect.proofs.Laws.{index-part, data-part, overview-refused, overview-sound}
 use Rattle.inspect.proofs.Accepted as Parts

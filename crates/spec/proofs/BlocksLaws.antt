@@ -22,6 +22,11 @@ abbrev pub Laid : ℕ → List Run → Type 0
 Laid D [] = Unit {0}
 Laid D (r ∷ rs) = (length (r .bytes) ≡ 256 * r .size) × (r .block + r .size ≤ D) × Apart (r .block) (r .size) rs × Laid D rs
 
+-- they lie inside these
+pub laid-inside : (D : ℕ) (rs : List Run) → Laid D rs → All (λ r. r .block + r .size ≤ D) rs
+laid-inside D [] l = tt
+laid-inside D (r ∷ rs) (n, h, a, l) = (h, laid-inside D rs l)
+
 -- a block that a run covers is one of its blocks
 pub covers-true : (b : ℕ) (r : Run) → covers b r ≡ true → (r .block ≤ b) × (b < r .block + r .size)
 unfolding covers

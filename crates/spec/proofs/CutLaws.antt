@@ -120,12 +120,14 @@ size-grows : (xs ys : List Entry) → encoded-size xs ≤ encoded-size (xs ++ ys
 unfolding encoded-size
 size-grows xs ys = omega (arith, bytes-grow [] xs ys)
 
-first-part : (limit : ℕ) (p : List Entry) (ps : List (List Entry)) → IsCut limit (p ∷ ps) → IsPart limit p
+-- the first part of a cut is one
+pub first-part : (limit : ℕ) (p : List Entry) (ps : List (List Entry)) → IsCut limit (p ∷ ps) → IsPart limit p
 unfolding IsCut
 first-part limit p [] c = c
 first-part limit p (q ∷ ps) c = c .0
 
-other-parts : (limit : ℕ) (p : List Entry) (ps : List (List Entry)) → IsCut limit (p ∷ ps) → IsCut limit ps
+-- and the others are a cut
+pub other-parts : (limit : ℕ) (p : List Entry) (ps : List (List Entry)) → IsCut limit (p ∷ ps) → IsCut limit ps
 unfolding IsCut
 other-parts limit p [] c = tt
 other-parts limit p (q ∷ ps) (a, f, c) = c

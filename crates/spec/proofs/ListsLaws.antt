@@ -4,7 +4,7 @@ use mathlib.Core.Path.{_≡_, refl, sym, ap, _∙_}
 use mathlib.Core.Logic.{_⊎_, inl, inr, ⊎-elim}
 use mathlib.Core.Bool.{Bool, true, false, _&&_, _||_, false≢true}
 use mathlib.Core.List.{List, [], _∷_, _++_, map}
-use lib.Dec.{ltb}
+use lib.Dec.{T, ltb}
 use borrow.Author.Tests.{ltb-true, ltb-false}
 use native.Mathlib.Omega.{arith}
 use lib.ListN.{length, drop}
@@ -24,10 +24,30 @@ pub and-right : (a b : Bool) → a && b ≡ true → b ≡ true
 and-right true b h = h
 and-right false b h = absurd (false≢true h)
 
+-- a test that holds, as a type
+pub holds-true : (a : Bool) → T a → a ≡ true
+holds-true true h = refl
+holds-true false h = absurd h
+
+-- the same of tests as types
+pub both-hold : (a b : Bool) → T (a && b) → T a × T b
+both-hold true b h = (tt, h)
+both-hold false b h = absurd h
+
+-- and back
+pub hold-both : (a b : Bool) → T a → T b → T (a && b)
+hold-both true b h k = k
+hold-both false b h k = h
+
 -- one of two tests holds: what follows from either
 pub or-cases : (a b : Bool) {C : Type 0} → (a ≡ true → C) → (b ≡ true → C) → a || b ≡ true → C
 or-cases true b f g h = f refl
 or-cases false b f g h = g h
+
+-- of two tests of which none holds
+pub or-neither : (a b : Bool) → a || b ≡ false → (a ≡ false) × (b ≡ false)
+or-neither true b h = absurd (false≢true (sym h))
+or-neither false b h = (refl, h)
 
 -- a test or none is the test
 pub or-false : (t : Bool) → t ≡ t || false
@@ -133,6 +153,43 @@ filter-all {A} f (a ∷ l) = go (f a) refl (filter-all f l)
     go : (t : Bool) → f a ≡ t → All (λ a. f a ≡ true) (filter f l) → All (λ a. f a ≡ true) (elim t as (λ y. List A) [ true ↦ a ∷ filter f l | false ↦ filter f l ])
     go true e h = (e, h)
     go false e h = h
+
+-- the elements of two lists for which a test holds
+pub filter-append {ℓ} : {A : Type ℓ} (f : A → Bool) (x y : List A) → filter f (x ++ y) ≡ filter f x ++ filter f y
+unfolding filter
+filter-append f [] y = refl
+filter-append f (a ∷ x) y = go (filter-append f x y) (f a) refl
+  where
+    go : filter f (x ++ y) ≡ filter f x ++ filter f y → (t : Bool) → f a ≡ t → filter f (a ∷ (x ++ y)) ≡ filter f (a ∷ x) ++ filter f y
+    go ih true e = rw (filter-yes f a (x ++ y) e, filter-yes f a x e, ih)
+    go ih false e = rw (filter-no f a (x ++ y) e, filter-no f a x e, ih)
+
+-- a test that holds for all elements keeps all
+pub filter-every {ℓ} : {A : Type ℓ} (f : A → Bool) (l : List A) → All (λ a. f a ≡ true) l → filter f l ≡ l
+unfolding filter
+filter-every f [] h = refl
+filter-every f (a ∷ l) (e, h) = filter-yes f a l e ∙ ap (λ (m : List _). a ∷ m) (filter-every f l h)
+
+-- a test that holds for no element keeps none
+pub filter-nothing {ℓ} : {A : Type ℓ} (f : A → Bool) (l : List A) → All (λ a. f a ≡ false) l → filter f l ≡ []
+unfolding filter
+filter-nothing f [] h = refl
+filter-nothing f (a ∷ l) (e, h) = filter-no f a l e ∙ filter-nothing f l h
+
+-- a fact that follows from another, of every element
+pub all-map {ℓ} : {A : Type ℓ} (P Q : A → Type 0) → ((a : A) → P a → Q a) → (l : List A) → All P l → All Q l
+all-map P Q f [] h = tt
+all-map P Q f (a ∷ l) (h, hs) = (f a h, all-map P Q f l hs)
+
+-- a fact of all elements is one of those for which a test holds
+pub all-filter {ℓ} : {A : Type ℓ} (P : A → Type 0) (f : A → Bool) (l : List A) → All P l → All P (filter f l)
+unfolding filter
+all-filter P f [] h = tt
+all-filter P f (a ∷ l) (h, hs) = go (f a) refl (all-filter P f l hs)
+  where
+    go : (t : Bool) → f a ≡ t → All P (filter f l) → All P (filter f (a ∷ l))
+    go true e ih = rw (filter-yes f a l e) (h, ih)
+    go false e ih = rw (filter-no f a l e) ih
 
 -- a range has its numbers
 pub length-range : (i n : ℕ) → length (range-from i n) ≡ n

@@ -1,6 +1,7 @@
 -- What an answer or a refusal tells of the steps that gave it.
 use Prim.Native.Nat.{ℕ}
-use mathlib.Core.Path.{_≡_, refl, sym, ap}
+use mathlib.Core.Path.{_≡_, refl, sym, ap, _∙_}
+use mathlib.Core.Logic.{_⊎_, inl, inr, ⊎-elim}
 use mathlib.Core.Bool.{Bool, true, false, false≢true}
 use Rattle.spec.proofs.ListsLaws.{clash}
 use Rattle.spec.specs.Outcome.{Outcome, refused, ok, _>>=_, _>>_, refuse_when_, accepted}
@@ -71,3 +72,31 @@ when-ok k false o a h = (refl, h)
 pub bind-ok : {A B : Type 0} (o : Outcome A) (f : A → Outcome B) (b : B) → (o >>= f) ≡ ok b → (a : A) × (o ≡ ok a) × (f a ≡ ok b)
 bind-ok (refused k) f b h = absurd (ok-not-refused b k (sym h))
 bind-ok (ok a) f b h = (a, refl, h)
+
+-- the same where the first answer is not used
+pub next-ok : {A B : Type 0} (o : Outcome A) (q : Outcome B) (b : B) → (o >> q) ≡ ok b → (a : A) × (o ≡ ok a) × (q ≡ ok b)
+next-ok (refused k) q b h = absurd (ok-not-refused b k (sym h))
+next-ok (ok a) q b h = (a, refl, h)
+
+-- a refusal behind a row: the row applies and it is by its number, or it does not and what follows refuses
+pub when-refused : {A : Type 0} (k : ℕ) (t : Bool) (o : Outcome A) (n : ℕ) → (refuse k when t >> o) ≡ refused n → ((t ≡ true) × (n ≡ k)) ⊎ ((t ≡ false) × (o ≡ refused n))
+when-refused k true o n h = inl (refl, let p : k ≡ n = cc in sym p)
+when-refused k false o n h = inr (refl, h)
+
+-- a refusal behind another outcome: that refuses, or it is an answer and what follows it refuses
+pub bind-refused : {A B : Type 0} (o : Outcome A) (f : A → Outcome B) (n : ℕ) → (o >>= f) ≡ refused n → (o ≡ refused n) ⊎ ((a : A) × (o ≡ ok a) × (f a ≡ refused n))
+bind-refused (refused k) f n h = inl (let p : k ≡ n = cc in rw p)
+bind-refused (ok a) f n h = inr (a, refl, h)
+
+-- the same where the answer is not used
+pub next-refused : {A B : Type 0} (o : Outcome A) (q : Outcome B) (n : ℕ) → (o >> q) ≡ refused n → (o ≡ refused n) ⊎ ((a : A) × (o ≡ ok a) × (q ≡ refused n))
+next-refused (refused k) q n h = inl (let p : k ≡ n = cc in rw p)
+next-refused (ok a) q n h = inr (a, refl, h)
+
+-- where what follows only answers, the refusal is the first outcome's
+pub then-refused : {A B : Type 0} (o : Outcome A) (f : A → B) (n : ℕ) → (o >>= λ a. ok (f a)) ≡ refused n → o ≡ refused n
+then-refused o f n h = ⊎-elim (λ e. e) (λ (a, p, q). absurd (ok-not-refused (f a) n q)) (bind-refused o (λ a. ok (f a)) n h)
+
+-- no outcome is an answer and a refusal
+pub not-both : {A : Type 0} (o : Outcome A) (a : A) (n : ℕ) → o ≡ ok a → o ≡ refused n → ⊥
+not-both o a n p q = ok-not-refused a n (sym p ∙ q)

@@ -1,13 +1,19 @@
 -- Placing keeps the entries: a run that is placed or moved keeps its headword, bytes and entries.
 use Prim.Native.Nat.{ℕ, _+_, max}
-use mathlib.Core.Path.{_≡_, refl, ap}
-use mathlib.Core.List.{List, [], _∷_, _++_, map}
+use mathlib.Core.Path.{_≡_, refl, sym, ap, _∙_}
+use mathlib.Core.List.{List, [], _∷_, _++_, map, append-assoc}
 use Rattle.spec.specs.Entry.{Entry}
 use Rattle.spec.specs.Run.{Run}
 use Rattle.spec.specs.Blocks.{place-for}
 use Rattle.spec.specs.Check.{all-entries}
 use Rattle.spec.specs.CutForm.{joined-parts}
 use Rattle.spec.specs.Place.{Move, new-run, at-block, with-run, place, renumbered, packed}
+
+-- the entries of two lists of runs, one after the other
+pub entries-append : (rs qs : List Run) → all-entries (rs ++ qs) ≡ all-entries rs ++ all-entries qs
+unfolding all-entries
+entries-append [] qs = refl
+entries-append (r ∷ rs) qs = ap (λ (l : List Entry). r .entries ++ l) (entries-append rs qs) ∙ sym (append-assoc (r .entries) (all-entries rs) (all-entries qs))
 
 -- the runs of parts have the parts' entries
 pub new-entries : (ps : List (List Entry)) → all-entries (map new-run ps) ≡ joined-parts ps

@@ -1,17 +1,18 @@
 -- A plan that is written is read back: for any lawful format an accepted image with the plan's frame and runs, and the free blocks as its free list.
-use Prim.Native.Nat.{ℕ, zero, suc, _+_, _-_, _*_, _/_, _<_, _≤_}
+use Prim.Native.Nat.{ℕ, zero, suc, _+_, _-_, _*_, _/_, _%_, _<_, _≤_}
 use mathlib.Core.Path.{_≡_, refl, sym, ap, _∙_}
-use mathlib.Core.Bool.{true}
+use mathlib.Core.Bool.{true, not}
 use mathlib.Core.List.{List, [], _∷_, _++_, map}
 use mathlib.Core.Option.{Option, none, some}
 use native.Mathlib.Omega.{arith}
 use lib.ListN.{length, take, drop, length-append, length-drop, length-map}
-use lib.Seq.{take-take, drop-at, take-length, length-take-le, take-append-add}
+use lib.Seq.{take-take, drop-at, drop-drop, take-length, length-take-le, take-append-add, drop-append-add}
 use lib.Dec.{leb}
 use borrow.Author.Tests.{lt-ltb, le-ltb, ne-eqb, eq-eqb, leb-true}
 use Rattle.spec.specs.Outcome.{Outcome, refused, ok, _>>=_}
+use Rattle.spec.specs.Lists.{all}
 use Rattle.spec.specs.Bytes.{from-little-endian, write, bytes-at}
-use Rattle.spec.specs.Header.{Field, Format, Lawful, get, high-version-of, tested-fields, written-fields, changed-header}
+use Rattle.spec.specs.Header.{Field, Format, Lawful, get, high-version-of, tested-fields, written-fields, lies-in, changed-header}
 use Rattle.spec.specs.Entry.{Entry}
 use Rattle.spec.specs.Run.{Run, read-entry, entries-from}
 use Rattle.spec.specs.Index.{index-from, index-need, index-bytes}
@@ -23,10 +24,11 @@ use Rattle.spec.proofs.WriteLaws.{bytes-at-front, bytes-at-back, bytes-
 use Rattle.spec.proofs.PiecesLaws.{write-all}
 use Rattle.spec.proofs.HeaderLaws.{CountsFit, Changed, length-changed, tested-kept, changed}
 use Rattle.spec.proofs.IndexLaws.{ElementsOk, index-back, index-bytes-length}
-use Rattle.spec.proofs.BlocksLaws.{Laid}
+use Rattle.spec.proofs.BlocksLaws.{Laid, laid-inside}
 use Rattle.spec.proofs.OnceLaws.{once}
 use Rattle.spec.proofs.CountLaws.{blocks-once}
-use Rattle.spec.proofs.FreeListLaws.{run-piece, data-pieces, data-written, data-length, data-runs, data-free-list, free-ascending, ascending-below, start-small, Stands}
+use Rattle.spec.proofs.WrittenLaws.{write-all-past, header-byte-kept}
+use Rattle.spec.proofs.FreeListLaws.{run-piece, data-pieces, data-disjoint, data-written, data-length, data-runs, data-free-list, free-ascending, ascending-below, start-small, Stands}
 
 -- a run whose bytes hold its entries, before a run with the headword next
 pub record RunOk (F : Format) (next : Option (List ℕ)) (r : Run) : Type 0 where
@@ -96,27 +98,26 @@ unfolding run-blocks
 runs-bound F [] k = omega arith
 runs-bound F (r ∷ rs) (k, ks) = omega (arith, k .some-blocks, runs-bound F rs ks)
 
-laid-inside : (D : ℕ) (rs : List Run) → Laid D rs → All (λ r. r .block + r .size ≤ D) rs
-laid-inside D [] l = tt
-laid-inside D (r ∷ rs) (n, h, a, l) = (h, laid-inside D rs l)
-
 -- An image in three parts: header, index and data blocks.
 module _ (F : Format) (H I B : List ℕ) (n D : ℕ) (hh : length H ≡ F .header-bytes) (hi : length I ≡ 256 * n) (hb : length B ≡ 256 * D) where
   front-length : length (H ++ I) ≡ F .header-bytes + 256 * n
   front-length = length-append H I ∙ cc
 
-  whole-length : length (H ++ I ++ B) ≡ F .header-bytes + 256 * n + 256 * D
+  -- the image's length is that of its parts
+  pub whole-length : length (H ++ I ++ B) ≡ F .header-bytes + 256 * n + 256 * D
   whole-length = length-append (H ++ I) B ∙ cc front-length
 
   -- header fields are read in the header
-  get-whole : (g : Field) → g .offset + g .bytes ≤ F .header-bytes → get g (H ++ I ++ B) ≡ get g H
+  pub get-whole : (g : Field) → g .offset + g .bytes ≤ F .header-bytes → get g (H ++ I ++ B) ≡ get g H
   unfolding get
   get-whole g h = ap from-little-endian (bytes-at-front (g .offset) (g .bytes) (H ++ I) B (omega (arith, front-length)) ∙ bytes-at-front (g .offset) (g .bytes) H I (omega arith))
 
-  frame-of : Frame
+  -- the frame of the three parts
+  unfoldable pub frame-of : Frame
   frame-of = record { format = F; index-blocks = n; data-blocks = D }
 
-  index-there : index-area frame-of (H ++ I ++ B) ≡ I
+  -- the index area is the second part
+  pub index-there : index-area frame-of (H ++ I ++ B) ≡ I
   unfolding frame-of index-area bytes-at
   index-there =
       bytes-at-front (F .header-bytes) (256 * n) (H ++ I) B (omega (arith, front-length))
@@ -129,7 +130,8 @@ module _ (F : Format) (H I B : List ℕ) (n D : ℕ) (hh : length H ≡ F .heade
       nothing : length H - length H ≡ 0
       nothing = omega arith
 
-  data-there : data-area frame-of (H ++ I ++ B) ≡ B
+  -- the data area is the third
+  pub data-there : data-area frame-of (H ++ I ++ B) ≡ B
   unfolding frame-of data-area data-start
   data-there = drop-at (H ++ I) B (F .header-bytes + 256 * n) front-length
 
@@ -208,16 +210,57 @@ module _ (F : Format) (law : Lawful F) (n D : ℕ) (rs : List Run) (s : List ℕ
   whole : List ℕ
   whole = header ++ index ++ blocks
 
+  -- the slice as written: header, index, and the data blocks and what follows them
+  written-parts : plan-written plan s ≡ header ++ index ++ write-all (data-pieces D rs) area
+  unfolding header index area plan-written data-area data-start
+  written-parts =
+      ap (λ (l : List ℕ). header ++ index ++ l)
+      (ap (free-list-written (free-blocks rs D)) (runs-pieces rs (drop (F .header-bytes + 256 * n) s)) ∙ data-written D rs (drop (F .header-bytes + 256 * n) s))
+
+  before-data : length (header ++ index) ≡ F .header-bytes + 256 * n
+  before-data = front-length F header index blocks n D header-length index-length blocks-length
+
   -- the image's bytes are header, index and data blocks
   written-shape : take (F .header-bytes + 256 * n + 256 * D) (plan-written plan s) ≡ whole
-  unfolding whole header index blocks area plan-written data-area data-start
+  unfolding whole blocks
   written-shape =
-      let rest : List ℕ = write-all (data-pieces D rs) (drop (F .header-bytes + 256 * n) s) in
-      let same : free-list-written (free-blocks rs D) (runs-written rs (drop (F .header-bytes + 256 * n) s)) ≡ rest =
-      ap (free-list-written (free-blocks rs D)) (runs-pieces rs _) ∙ data-written D rs _ in
-      ap (λ (l : List ℕ). take (F .header-bytes + 256 * n + 256 * D) (header ++ index ++ l)) same
-      ∙ ap (λ (k : ℕ). take (k + 256 * D) (header ++ index ++ rest)) (sym (front-length F header index blocks n D header-length index-length blocks-length))
+      let rest : List ℕ = write-all (data-pieces D rs) area in
+      ap (take (F .header-bytes + 256 * n + 256 * D)) written-parts
+      ∙ ap (λ (k : ℕ). take (k + 256 * D) (header ++ index ++ rest)) (sym before-data)
       ∙ take-append-add (header ++ index) rest (256 * D)
+
+  -- a plan that is written leaves the length
+  pub written-length : length (plan-written plan s) ≡ length s
+  unfolding area
+  written-length =
+      let rest : List ℕ = write-all (data-pieces D rs) area in
+      let e : length rest ≡ length s - (F .header-bytes + 256 * n) = data-length D rs area fits laid ∙ length-drop (F .header-bytes + 256 * n) s in
+      ap length written-parts ∙ length-append (header ++ index) rest ∙ omega (arith, before-data)
+
+  -- it leaves all bytes past its image
+  pub written-past : (k : ℕ) → F .header-bytes + 256 * n + 256 * D ≤ k → drop k (plan-written plan s) ≡ drop k s
+  unfolding area
+  written-past k h =
+      let m : ℕ = F .header-bytes + 256 * n in
+      let rest : List ℕ = write-all (data-pieces D rs) area in
+      let e : length (header ++ index) + (k - m) ≡ k = omega (arith, before-data) in
+      let g : m + (k - m) ≡ k = omega arith in
+      ap (drop k) written-parts
+      ∙ ap (λ (q : ℕ). drop q (header ++ index ++ rest)) (sym e)
+      ∙ drop-append-add (header ++ index) rest (k - m)
+      ∙ write-all-past area (data-pieces D rs) (256 * D) (k - m) (data-disjoint D (256 * D) rs (omega arith) laid) fits (omega arith)
+      ∙ drop-drop (k - m) m s
+      ∙ ap (λ (q : ℕ). drop q s) g
+
+  -- it leaves each header byte outside the fields that a change writes
+  pub written-header : (j : ℕ) → j < F .header-bytes → all (λ f. not (lies-in j f)) (written-fields (F .layout)) ≡ true → bytes-at j 1 (plan-written plan s) ≡ bytes-at j 1 s
+  unfolding header
+  written-header j h o =
+      ap (bytes-at j 1) written-parts
+      ∙ bytes-at-front j 1 (header ++ index) (write-all (data-pieces D rs) area) (omega (arith, before-data))
+      ∙ bytes-at-front j 1 header index (omega (arith, header-length))
+      ∙ header-byte-kept (F .layout) (law .layout-lawful) (plan-counts plan) (take (F .header-bytes) s) fits-header enough j o
+      ∙ bytes-at-take j 1 (F .header-bytes) s (omega arith)
 
   -- a field of the header, read in the image
   in-whole : (g : Field) → g .offset + g .bytes ≤ 256 → get g whole ≡ get g header
@@ -253,6 +296,18 @@ module _ (F : Format) (law : Lawful F) (n D : ℕ) (rs : List Run) (s : List ℕ
   holds : Changed (F .layout) (plan-counts plan) (take (F .header-bytes) s) header
   unfolding header
   holds = changed (F .layout) (law .layout-lawful) (plan-counts plan) (take (F .header-bytes) s) fits-header enough
+
+  -- a plan that is written adds one to the update count, which goes from 4,294,967,295 to 0
+  pub written-count : get (F .layout .update-count) (plan-written plan s) ≡ (get (F .layout .update-count) s + 1) % 4_294_967_296
+  unfolding get written-fields
+  written-count =
+      let g : Field = F .layout .update-count in
+      let h : g .offset + g .bytes ≤ 256 = written .1 .1 .1 .1 .1 .0 in
+      ap (get g) written-parts
+      ∙ ap from-little-endian (bytes-at-front (g .offset) (g .bytes) (header ++ index) (write-all (data-pieces D rs) area) (omega (arith, before-data, law .header-inside)))
+      ∙ ap from-little-endian (bytes-at-front (g .offset) (g .bytes) header index (omega (arith, header-length, law .header-inside)))
+      ∙ holds .update-count
+      ∙ ap (λ (k : ℕ). (k + 1) % 4_294_967_296) (in-slice g h)
 
   holds-index : get (F .layout .index-block) whole ≡ n
   unfolding plan-counts written-fields

@@ -1,23 +1,23 @@
 -- What reading an entry, a run and all runs tells of them, for any format.
-use Prim.Native.Nat.{ℕ, zero, suc, _+_, _*_, _<_, _≤_}
+use Prim.Native.Nat.{ℕ, zero, suc, _+_, _-_, _*_, _/_, _<_, _≤_}
 use mathlib.Core.Path.{_≡_, refl, sym, ap, ap₂, _∙_}
-use mathlib.Core.Bool.{Bool, true, false, not, false≢true}
+use mathlib.Core.Bool.{Bool, true, false, not, _||_, false≢true}
 use mathlib.Core.List.{List, [], _∷_, _++_}
 use mathlib.Core.Option.{Option, none, some, Option·none-ne-some, Option·some-injective}
 use native.Mathlib.Omega.{arith}
 use lib.ListN.{length, take, drop, length-drop}
 use lib.Dec.{ltb, eqb}
-use borrow.Author.Tests.{ltb-false, eq-eqb, eqb-true, eqb-false, not-false}
+use borrow.Author.Tests.{ltb-true, ltb-false, eq-eqb, eqb-true, eqb-false, not-false}
 use Rattle.spec.specs.Outcome.{Outcome, refused, ok, _>>=_, _>>_, refuse_when_}
-use Rattle.spec.specs.Bytes.{from-little-endian, bytes-at, bytes-equal, split-zero}
+use Rattle.spec.specs.Bytes.{from-little-endian, bytes-at, all-zero, bytes-equal, split-zero}
 use Rattle.spec.specs.Header.{Format, get}
 use Rattle.spec.specs.Entry.{Entry, headword-ok, body-ok, entry-by, entry-from}
 use Rattle.spec.specs.Run.{Run, read-entry, entries-from}
 use Rattle.spec.specs.Index.{Element, index-from}
-use Rattle.spec.specs.Blocks.{free-list-from, each-once}
-use Rattle.spec.specs.Check.{Image, index-area, data-area, frame-from, first-entry, ends-below, run-from, next-headword, runs-from, counts-ok, image-by}
-use Rattle.spec.proofs.ListsLaws.{All}
-use Rattle.spec.proofs.OutcomeLaws.{ok-not-refused, same-value, when-ok, bind-ok}
+use Rattle.spec.specs.Blocks.{free-list-end, free-list-from, each-once}
+use Rattle.spec.specs.Check.{Frame, Image, kind-ok, options-ok, index-area, data-area, frame-from, first-entry, ends-below, run-from, next-headword, runs-from, counts-ok, image-by}
+use Rattle.spec.proofs.ListsLaws.{All, or-neither}
+use Rattle.spec.proofs.OutcomeLaws.{ok-not-refused, same-value, Only, only-ok, only-when, only-bind, when-ok, bind-ok}
 use Rattle.spec.proofs.RunLaws.{EntriesOk}
 
 -- an entry that was read keeps its rules and is above the one before
@@ -44,7 +44,7 @@ entry-from-told F prev front field e p = go (split-zero field) p
     go (some q) h = entry-by-told F prev front (take front prev ++ q .0) (q .1) e h
 
 -- an entry by its field length and whether that is zero
-abbrev behind : Format → List ℕ → List ℕ → ℕ → Bool → Outcome (Option (Entry × List ℕ))
+abbrev pub behind : Format → List ℕ → List ℕ → ℕ → Bool → Outcome (Option (Entry × List ℕ))
 behind F prev s len t = elim t [
   | true ↦ ok none
   | false ↦ do
@@ -75,7 +75,7 @@ entry-told F prev s e rest p =
         (entry-from-told F prev _ _ e (r₁ ∙ ap (λ (z : Entry × List ℕ). ok (z .0)) v), rw (← u) (taken len q₁))
 
 -- a run's other entries, by the first step
-abbrev after-step : Format → ℕ → Option (Entry × List ℕ) → Outcome (List Entry)
+abbrev pub after-step : Format → ℕ → Option (Entry × List ℕ) → Outcome (List Entry)
 after-step F n r = elim r [
   | none ↦ ok []
   | some p ↦ do
@@ -174,6 +174,13 @@ pub record RunTold (F : Format) (D : ℕ) (area : List ℕ) (e : Element) (next 
   pub read : entries-from F (suc (length (r .bytes))) [] (drop 2 (r .bytes)) ≡ ok (r .entries)
   pub ends : ends-below F next (r .entries) ≡ true
 
+-- the last run's entries end below nothing
+pub ends-none : (F : Format) (es : List Entry) → ends-below F none es ≡ true
+unfolding ends-below
+ends-none F [] = refl
+ends-none F (e ∷ []) = refl
+ends-none F (e ∷ d ∷ es) = ends-none F (d ∷ es)
+
 -- a first entry and those behind it are all
 whole : (F : Format) (s : List ℕ) (p : Entry × List ℕ) (es : List Entry) → read-entry F [] (drop 2 s) ≡ ok (some p) → entries-from F (length s) (p .0 .headword) (p .1) ≡ ok es
     → entries-from F (suc (length s)) [] (drop 2 s) ≡ ok (p .0 ∷ es)
@@ -269,6 +276,76 @@ module _ (F : Format) (D : ℕ) (area : List ℕ) where
   runs-inside (e ∷ es) rs h =
       let (r, rs′, p, t, k) = runs-told e es rs h in
       rw p (t .inside, runs-inside es rs′ k)
+
+-- a free list by whether its number is the end
+abbrev pub free-step : ℕ → ℕ → ℕ → List ℕ → Bool → Outcome (List ℕ)
+free-step n D b area t = elim t [
+  | true ↦ ok []
+  | false ↦ do
+    refuse 9 when not (ltb b D)
+    refuse 9 when not (all-zero (bytes-at (256 * b) 2 area))
+    bs ← free-list-from n D (from-little-endian (bytes-at (256 * b + 2) 4 area)) area
+    ok (b ∷ bs)
+]
+
+-- a free list is refused by 9 only
+pub free-list-nine : (n D b : ℕ) (area : List ℕ) → Only 9 (free-list-from n D b area)
+unfolding free-list-from
+free-list-nine zero D b area = only-when 9 (not (eqb b free-list-end)) _ (only-ok 9 [])
+free-list-nine (suc n) D b area = go (free-list-nine n D) (eqb b free-list-end)
+  where
+    go : ((c : ℕ) (s : List ℕ) → Only 9 (free-list-from n D c s)) → (t : Bool) → Only 9 (free-step n D b area t)
+    go ih true = only-ok 9 []
+    go ih false = only-when 9 (not (ltb b D)) _ (only-when 9 (not (all-zero (bytes-at (256 * b) 2 area))) _ (only-bind 9 _ (λ bs. ok (b ∷ bs)) (ih _ area) (λ bs. only-ok 9 (b ∷ bs))))
+
+-- the numbers of a free list that was read are below D
+pub free-list-below : (n D b : ℕ) (area fl : List ℕ) → free-list-from n D b area ≡ ok fl → All (λ a. a < D) fl
+unfolding free-list-from
+free-list-below zero D b area fl h =
+    let (a, h₁) = when-ok 9 (not (eqb b free-list-end)) _ fl h in
+    rw (← same-value [] fl h₁) tt
+free-list-below (suc n) D b area fl h = go (λ c bs. free-list-below n D c area bs) (eqb b free-list-end) h
+  where
+    go : ((c : ℕ) (bs : List ℕ) → free-list-from n D c area ≡ ok bs → All (λ a. a < D) bs) → (t : Bool) → free-step n D b area t ≡ ok fl → All (λ a. a < D) fl
+    go ih true k = rw (← same-value [] fl k) tt
+    go ih false k =
+        let (a, k₁) = when-ok 9 (not (ltb b D)) _ fl k in
+        let (z, k₂) = when-ok 9 (not (all-zero (bytes-at (256 * b) 2 area))) _ fl k₁ in
+        let (bs, u, v) = bind-ok (free-list-from n D (from-little-endian (bytes-at (256 * b + 2) 4 area)) area) (λ bs. ok (b ∷ bs)) fl k₂ in
+        rw (← same-value (b ∷ bs) fl v) (ltb-true b D (not-false (ltb b D) a), ih (from-little-endian (bytes-at (256 * b + 2) 4 area)) bs u)
+
+-- a frame that fits an image
+pub record FrameFits (F : Format) (s : List ℕ) (f : Frame) : Type 0 where
+  pub is : f ≡ record { format = F; index-blocks = f .index-blocks; data-blocks = f .data-blocks }
+  pub kind : kind-ok (F .layout) s ≡ true
+  pub options : options-ok (F .layout) s ≡ true
+  pub index-few : f .index-blocks ≤ 32767
+  pub data-few : f .data-blocks ≤ F .most-blocks
+  pub index-inside : F .header-bytes + 256 * f .index-blocks ≤ length s
+  pub data-are : f .data-blocks ≡ (length s - (F .header-bytes + 256 * f .index-blocks)) / 256
+
+-- a frame that is read fits its image
+pub frame-fits : (F : Format) (s : List ℕ) (f : Frame) → frame-from F s ≡ ok f → FrameFits F s f
+unfolding frame-from
+frame-fits F s f h =
+    let n : ℕ = get (F .layout .index-block) s in
+    let D : ℕ = (length s - (F .header-bytes + 256 * n)) / 256 in
+    let (a, h₁) = when-ok 3 (not (kind-ok (F .layout) s)) _ f h in
+    let (b, h₂) = when-ok 4 (not (options-ok (F .layout) s)) _ f h₁ in
+    let (c, h₃) = when-ok 5 (ltb 32_767 n || ltb (length s) (F .header-bytes + 256 * n)) _ f h₂ in
+    let (d, h₄) = when-ok 5 (ltb (F .most-blocks) D) _ f h₃ in
+    let (x, y) = or-neither (ltb 32_767 n) (ltb (length s) (F .header-bytes + 256 * n)) c in
+    rw (← same-value (record { format = F; index-blocks = n; data-blocks = D }) f h₄) (
+    record {
+      is = refl;
+      kind = not-false (kind-ok (F .layout) s) a;
+      options = not-false (options-ok (F .layout) s) b;
+      index-few = ltb-false 32_767 n x;
+      data-few = ltb-false (F .most-blocks) D d;
+      index-inside = ltb-false (length s) (F .header-bytes + 256 * n) y;
+      data-are = refl;
+    }
+    )
 
 -- an accepted image, step by step
 pub record ImageTold (F : Format) (s : List ℕ) (i : Image) : Type 0 where

@@ -166,14 +166,15 @@ lookup-later h e es p = rw (filter-no (has-headword h) e es p)
 
 module _ (F : Format) (order : IsOrder (F .below)) where
   -- a headword below another is not the same
-  other : (x y : List ℕ) → F .below x y ≡ true → bytes-equal x y ≡ false
+  pub other : (x y : List ℕ) → F .below x y ≡ true → bytes-equal x y ≡ false
   other x y p = go (bytes-equal x y) refl
     where
       go : (t : Bool) → bytes-equal x y ≡ t → bytes-equal x y ≡ false
       go false e = e
       go true e = absurd (true≢false (sym p ∙ ap (λ (z : List ℕ). F .below z y) (same-bytes x y e) ∙ order .irreflexive y))
 
-  other-way : (x y : List ℕ) → F .below x y ≡ true → bytes-equal y x ≡ false
+  -- nor the other way round
+  pub other-way : (x y : List ℕ) → F .below x y ≡ true → bytes-equal y x ≡ false
   other-way x y p = go (bytes-equal y x) refl
     where
       go : (t : Bool) → bytes-equal y x ≡ t → bytes-equal y x ≡ false

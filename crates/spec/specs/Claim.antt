@@ -1,5 +1,5 @@
 -- The sorted-list claim. Document 01, "The sorted-list claim (demand 3)": "It is one claim about a whole list of calls, made for every such list, and not a law for each call."
-use Prim.Native.Nat.{ℕ, _+_, _<_, max}
+use Prim.Native.Nat.{ℕ, _+_, _-_, _%_, _<_, _≤_, max}
 use mathlib.Core.Path.{_≡_}
 use mathlib.Core.Bool.{Bool, true, false, not, _&&_, _||_}
 use mathlib.Core.List.{List, [], _∷_}
@@ -9,13 +9,14 @@ use lib.Dec.{T, leb, ltb, eqb}
 use lib.Pow.{areBytes}
 use Rattle.spec.specs.Outcome.{Outcome, refused, ok}
 use Rattle.spec.specs.Lists.{all, count}
-use Rattle.spec.specs.Bytes.{bytes-at, no-zero}
-use Rattle.spec.specs.Header.{writable, written-fields, lies-in}
+use Rattle.spec.specs.Bytes.{bytes-at, zeros, no-zero}
+use Rattle.spec.specs.Header.{get, writable, written-fields, lies-in}
 use Rattle.spec.specs.Entry.{Entry, headword-ok, text-ok, attribute-ok, entry-of, attribute, text}
 use Rattle.spec.specs.Blocks.{covers, run-blocks}
 use Rattle.spec.specs.Check.{Image, image-in, entries-of}
 use Rattle.spec.specs.SortedList.{Sorted, lookup, successor, replace, remove}
 use Rattle.spec.specs.Place.{Plan, plan-change, plan-packed, plan-full, plan-written}
+use Rattle.spec.specs.ImageForm.{IsImage}
 use Rattle.spec.specs.Calls.{FoundText, FoundEntry, check, look-up, walk, insert, delete, optimise, given-up-zeroed}
 
 -- "The calls are look up, walk, insert, delete and optimise on one image slice": each with its arguments and its other slices
@@ -243,6 +244,27 @@ unfoldable pub slice-kept : Bool → List ℕ → List ℕ → List ℕ
 slice-kept true s after = s
 slice-kept false s after = after
 
+-- "A successful change (an insertion, a deletion that removes, or any optimising not refused)": whether a call that is not refused is one
+unfoldable pub is-change : Call → List Entry → Bool
+is-change (look-up-call h out) es = false
+is-change (walk-call above h out-headword out-text) es = false
+is-change (insert-call work h a t) es = true
+is-change (delete-call work h) es = is-there (lookup h es)
+is-change (optimise-call work) es = true
+
+-- "adds one to update_count; the update count goes from 4,294,967,295 to 0"
+unfoldable pub next-count : Bool → ℕ → ℕ
+next-count true n = (n + 1) % 4_294_967_296
+next-count false n = n
+
+-- "optimise zeroes what it gives up": from the new L to the old
+unfoldable pub Zeroed : Call → List ℕ → ℕ → ℕ → Type 0
+Zeroed (look-up-call h out) image new old = Unit {0}
+Zeroed (walk-call above h out-headword out-text) image new old = Unit {0}
+Zeroed (insert-call work h a t) image new old = Unit {0}
+Zeroed (delete-call work h) image new old = Unit {0}
+Zeroed (optimise-call work) image new old = (new ≤ old) × (bytes-at new (old - new) image ≡ zeros (old - new))
+
 -- The claim.
 
 -- Between two calls, before the first and after the last: the image is accepted and its entries are the sorted list's;
@@ -251,6 +273,9 @@ slice-kept false s after = after
 pub record Matches (below : List ℕ → List ℕ → Bool) (s : List ℕ) (L : ℕ) (es : List Entry) : Type 0 where
   pub image : Image
   pub accepted : image-in s L ≡ ok image
+  -- demand 2: its bytes are made up as the format says
+  pub bytes : T (areBytes s)
+  pub made-up : IsImage (take L s) image
   pub same-order : image .frame .format .below ≡ below
   pub entries : entries-of image ≡ es
   pub sorted : Sorted below es
@@ -264,6 +289,8 @@ pub record AnswersAs (below : List ℕ → List ℕ → Bool) (s : List ℕ) (L 
   pub size-stays : length (r .image) ≡ length s
   -- "so does the image slice past L, except that optimise zeroes what it gives up": what stands past the old L and the new
   pub kept-past : drop (max L (r .length-after)) (r .image) ≡ drop (max L (r .length-after)) s
+  pub given-up : Zeroed c (r .image) (r .length-after) L
+  pub update-count : get (i .frame .format .layout .update-count) (r .image) ≡ next-count (not (is-refused (r .observed)) && is-change c es) (get (i .frame .format .layout .update-count) s)
   -- "No other header byte changes."
   pub header-kept : (n : ℕ) → n < i .frame .format .header-bytes → all (λ f. not (lies-in n f)) (written-fields (i .frame .format .layout)) ≡ true → bytes-at n 1 (r .image) ≡ bytes-at n 1 s
 
@@ -307,7 +334,13 @@ DeleteRefused =
     → (work h : List ℕ) (e : Entry) → T (good-change s i work h) → lookup h (entries-of i) ≡ some e
     → is-refused (perform s L (delete-call work h) .observed) ≡ plan-full s (delete-placing i h)
 
+-- an optimising with a working slice and a writable version is not refused: it never needs more than there is
+unfoldable pub OptimiseDone : Type 0
+OptimiseDone =
+    (s : List ℕ) (L : ℕ) (i : Image) → T (areBytes s) → image-in s L ≡ ok i
+    → (work : List ℕ) → T (leb (length s) (length work) && writable (i .frame .format .layout) s) → is-refused (perform s L (optimise-call work) .observed) ≡ false
+
 -- names all definitions of this module: who unfolds it unfolds them
 unfoldable pub open-claim : Unit {0}
-unfolding tell-text tell-entry tell-removed list-answer list-after list-step new-length new-length-or observed-text observed-entry observed-done observed-removed perform is-refused _if_ first-row too-short short-for-text short-for-entry is-there insert-placing delete-placing optimise-placing rows expected slice-after slice-kept History call-bytes SortedListClaim good-change InsertRefused DeleteRefused
+unfolding tell-text tell-entry tell-removed list-answer list-after list-step new-length new-length-or observed-text observed-entry observed-done observed-removed perform is-refused _if_ first-row too-short short-for-text short-for-entry is-there insert-placing delete-placing optimise-placing rows expected slice-after slice-kept is-change next-count Zeroed History call-bytes SortedListClaim good-change InsertRefused DeleteRefused OptimiseDone
 open-claim = tt

@@ -17,6 +17,7 @@ pub mod Answers
 pub mod Ascii
 pub mod Listing
 pub mod ImageForm
+pub mod Rows
 pub mod Claim
 pub mod Play
 pub mod Examples
