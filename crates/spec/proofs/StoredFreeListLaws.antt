@@ -21,31 +21,11 @@ use Rattle.spec.proofs.ListsLaws.{All, all-range, less-or}
 use Rattle.spec.proofs.BytesLaws.{all-zero-told, Small, small-of, small-at, to-from-little-endian}
 use Rattle.spec.proofs.PartLaws.{length-bytes-at, bytes-at-split}
 use Rattle.spec.proofs.PiecesLaws.{Standing}
-use Rattle.spec.proofs.OutcomeLaws.{same-value, Only, only-ok, only-when, only-bind, when-ok, bind-ok}
+use Rattle.spec.proofs.OutcomeLaws.{same-value, only-ok, only-when, only-bind, when-ok, bind-ok}
+use Rattle.spec.proofs.ReadLaws.{free-step, free-list-nine}
 use Rattle.spec.proofs.CountLaws.{total, total-const, total-add, count-numbers, block-once}
 use Rattle.spec.proofs.FreeListLaws.{link-pieces, length-link, free-list-back}
 use Rattle.spec.proofs.StoredHeaderLaws.{refused-none}
-
--- a free list by whether its number is the end
-abbrev free-step : ℕ → ℕ → ℕ → List ℕ → Bool → Outcome (List ℕ)
-free-step n D b area t = elim t [
-  | true ↦ ok []
-  | false ↦ do
-    refuse 9 when not (ltb b D)
-    refuse 9 when not (all-zero (bytes-at (256 * b) 2 area))
-    bs ← free-list-from n D (from-little-endian (bytes-at (256 * b + 2) 4 area)) area
-    ok (b ∷ bs)
-]
-
--- a free list is refused by 9 only
-free-only : (n D b : ℕ) (area : List ℕ) → Only 9 (free-list-from n D b area)
-unfolding free-list-from
-free-only zero D b area = only-when 9 (not (eqb b free-list-end)) _ (only-ok 9 [])
-free-only (suc n) D b area = go (free-only n D) (eqb b free-list-end)
-  where
-    go : ((c : ℕ) (s : List ℕ) → Only 9 (free-list-from n D c s)) → (t : Bool) → Only 9 (free-step n D b area t)
-    go ih true = only-ok 9 []
-    go ih false = only-when 9 (not (ltb b D)) _ (only-when 9 (not (all-zero (bytes-at (256 * b) 2 area))) _ (only-bind 9 _ (λ bs. ok (b ∷ bs)) (ih _ area) (λ bs. only-ok 9 (b ∷ bs))))
 
 module _ (D : ℕ) (area : List ℕ) (small : Small area) (whole : length area ≡ 256 * D) where
   -- six bytes with two zeros and the next number are a link
@@ -134,7 +114,7 @@ module _ (D start : ℕ) (area : List ℕ) (few : D ≤ free-list-end) (small : 
 
   -- it is refused by no other number than 9
   pub chain-refused : (j : ℕ) → free-list-from D D start area ≡ refused j → j ≡ 9
-  chain-refused = free-only D D start area
+  chain-refused = free-list-nine D D start area
 
   chain-row-told : (fl : List ℕ) → chain-from D start area rs ≡ ok fl → ChainRule D start area rs fl
   chain-row-told fl h =
