@@ -347,7 +347,8 @@ module _ (s : List ℕ) (L : ℕ) (i : Image) (got : image-in s L ≡ ok i) wher
   unfolding optimise-placing plan-packed plan-length frame-length data-start
   packed-shorter = omega (arith, frame-whole, blocks, image-need (i .frame .format) (take L s) i read)
 
-  packed-room : plan-full s (optimise-placing i) ≡ false
+  -- so it is never too long for the slice
+  pub packed-room : plan-full s (optimise-placing i) ≡ false
   unfolding optimise-placing plan-packed plan-full plan-length
   packed-room =
       let p : frame-length (optimise-placing i .frame) ≤ length s = omega (arith, packed-shorter, slice .in-slice) in

@@ -2,7 +2,7 @@
 use Prim.Native.Nat.{ℕ, zero, suc, _+_, _-_, _*_, _<_, _≤_, max}
 use mathlib.Core.Path.{_≡_, refl, sym, ap, subst, _∙_}
 use mathlib.Core.Logic.{_⊎_, inl, inr, ⊎-elim}
-use mathlib.Core.Bool.{Bool, true, false, not, _||_, false≢true}
+use mathlib.Core.Bool.{Bool, true, false, not, false≢true}
 use mathlib.Core.List.{List, [], _∷_, _++_, map, append-assoc, map-append}
 use mathlib.Core.List.{List·Permᴰ, List·Permᴰ·nil, List·Permᴰ·cons, List·Permᴰ·swap, List·Permᴰ·trans, Permᴰ·refl, Permᴰ·symm, Permᴰ·middle, Permᴰ·append-right}
 use native.Mathlib.Omega.{arith}
@@ -18,7 +18,7 @@ use Rattle.spec.specs.Blocks.{covers, is-free, place-for, run-blocks, ea
 use Rattle.spec.specs.BestFit.{BestFitIsPlace}
 use Rattle.spec.specs.Check.{Image}
 use Rattle.spec.specs.Place.{Target, Placed, Move, Grown, target-run, cut, new-run, at-block, with-run, place, by-number, in-number-order, touches, moves, new-number, renumbered, grown, plan-change, packed}
-use Rattle.spec.proofs.ListsLaws.{All, all-append, all-front, all-back, all-both, less-or, filter-all, filter-yes, filter-no, count-cons}
+use Rattle.spec.proofs.ListsLaws.{or-right, All, all-append, all-front, all-back, all-both, less-or, filter-all, filter-yes, filter-no, count-cons}
 use Rattle.spec.proofs.RunLaws.{length-run-bytes}
 use Rattle.spec.proofs.BlocksLaws.{Apart, Laid, laid-inside, covers-inside, free-apart}
 use Rattle.spec.proofs.BestFitLaws.{best-fit-is-place, place-within, place-apart}
@@ -213,11 +213,6 @@ laid-fallen : (g D : ℕ) (ms : List Move) (rs : List Run) → All (λ r. g ≤ 
 unfolding renumbered at-block
 laid-fallen g D ms [] f l = tt
 laid-fallen g D ms (r ∷ rs) (f, fs) (p, i, a, l) = (p, omega arith, apart-fallen g _ _ ms rs f fs a, laid-fallen g D ms rs fs l)
-
--- a test or one that holds, holds
-or-right : (a b : Bool) → b ≡ true → a || b ≡ true
-or-right true b e = refl
-or-right false b e = e
 
 -- a test that holds for a number of a range holds for some
 range-some : (f : ℕ → Bool) (i n b : ℕ) → i ≤ b → b < i + n → f b ≡ true → any f (range-from i n) ≡ true

@@ -36,3 +36,5 @@ pub mod ChangeLaws
 pub mod ChangeBytesLaws
 pub mod AnswerLaws
 pub mod ClaimLaws
+pub mod CallRowsLaws
+pub mod SlicesLaws

@@ -44,6 +44,11 @@ pub or-cases : (a b : Bool) {C : Type 0} → (a ≡ true → C) → (b ≡ true 
 or-cases true b f g h = f refl
 or-cases false b f g h = g h
 
+-- a test or one that holds, holds
+pub or-right : (a b : Bool) → b ≡ true → a || b ≡ true
+or-right true b e = refl
+or-right false b e = e
+
 -- of two tests of which none holds
 pub or-neither : (a b : Bool) → a || b ≡ false → (a ≡ false) × (b ≡ false)
 or-neither true b h = absurd (false≢true (sym h))

@@ -19,6 +19,8 @@ pub mod Listing
 pub mod ImageForm
 pub mod Rows
 pub mod Claim
+pub mod CallRows
+pub mod Slices
 pub mod Play
 pub mod Examples
 pub mod Cases
