@@ -10,23 +10,12 @@ use lib.Dec.{eqb, eqb·suc-suc}
 use borrow.Author.Tests.{eq-eqb, ne-eqb, eqb-true, eqb-false}
 use Rattle.spec.specs.Outcome.{Outcome, refused, ok, _>>=_}
 use Rattle.spec.specs.Lists as Lists
-use Rattle.spec.specs.Bytes.{from-little-endian, bytes-at, is-zero, all-zero}
+use Rattle.spec.specs.Bytes.{from-little-endian, bytes-at, all-zero}
+use Rattle.spec.proofs.BytesLaws.{all-zero-number}
 use Rattle.spec.specs.Blocks.{free-list-end, free-list-from}
 use Rattle.marks.specs.Marks.{marks}
 use Rattle.freelist.specs.FreeList.{has-length, with-marks, Marked}
 use Rattle.freelist.proofs.Laws.{free-end, free-off, free-full, free-next, free-list-none}
-
--- bytes are all zero where the number that they hold is 0
-pub all-zero-number : (l : List ℕ) → all-zero l ≡ eqb (from-little-endian l) 0
-unfolding all-zero Lists.all is-zero from-little-endian
-all-zero-number [] = refl
-all-zero-number (x ∷ l) = go (all-zero-number l) (eqb x 0) refl (eqb (from-little-endian l) 0) refl
-  where
-    go : all-zero l ≡ eqb (from-little-endian l) 0 → (t : Bool) → eqb x 0 ≡ t → (u : Bool) → eqb (from-little-endian l) 0 ≡ u
-        → all-zero (x ∷ l) ≡ eqb (x + 256 * from-little-endian l) 0
-    go ih true e true f = rw (e, ih, f, eq-eqb (x + 256 * from-little-endian l) 0 (omega (arith, eqb-true x 0 e, eqb-true (from-little-endian l) 0 f)))
-    go ih true e false f = rw (e, ih, f, ne-eqb (x + 256 * from-little-endian l) 0 (λ q. eqb-false (from-little-endian l) 0 f (omega arith)))
-    go ih false e u f = rw (e, ne-eqb (x + 256 * from-little-endian l) 0 (λ q. eqb-false x 0 e (omega arith)))
 
 -- one number more in front of a list of l numbers
 more-length : (l b : ℕ) (o : Outcome (List ℕ)) → has-length (suc l) (o >>= (λ bs. ok (b ∷ bs))) ≡ has-length l o

@@ -1,18 +1,22 @@
 -- The fields of a header as code reads them, and what its tests and its frame show.
 use Prim.Native.Nat.{ℕ, _+_, _-_, _*_, _/_, _%_, _<_, _≤_}
 use mathlib.Core.Path.{_≡_, refl, sym, ap, _∙_}
-use mathlib.Core.Bool.{Bool, true, false, not, _&&_, _||_, false≢true}
+use mathlib.Core.Bool.{Bool, true, false, not, _&&_}
 use mathlib.Core.List.{List}
 use native.Mathlib.Omega.{arith}
 use lib.ListN.{length, getD, take, drop, length-drop}
 use lib.Seq.{take-all}
 use lib.Dec.{eqb, ltb, leb}
-use borrow.Author.Tests.{lt-ltb, le-ltb, le-leb, lt-leb, eq-eqb, ne-eqb, ltb-true, ltb-false, eqb-true, not-false}
-use Rattle.spec.specs.Outcome.{refused, ok, accepted, refuse_when_}
+use borrow.Author.Tests.{lt-ltb, le-ltb, le-leb, lt-leb, eq-eqb, ne-eqb, ltb-true, ltb-false}
+use Rattle.spec.specs.Outcome.{refused, ok, accepted}
 use Rattle.spec.specs.Bytes.{from-little-endian, bytes-at}
 use Rattle.spec.specs.Header.{field-at, get, layout4, format4, high-version-of}
 use Rattle.spec.specs.Check.{slice-ok, kind-ok, options-ok, frame-from, data-start, index-area, data-area}
+use Rattle.spec.specs.Rows.{SliceRule}
 use Rattle.spec.proofs.PartLaws.{bytes-at-cons}
+use Rattle.spec.proofs.OutcomeLaws.{accepted-answer, refused-only}
+use Rattle.spec.proofs.StoredHeaderLaws as Stored
+use Rattle.spec.proofs.StoredHeaderLaws.{slice-stored}
 use Rattle.spec.proofs.ReadLaws.{FrameFits, frame-fits}
 use Rattle.header.specs.Framed.{frame4, framed}
 use Rattle.header.specs.declared.Framed.{Framed}
@@ -150,52 +154,31 @@ module _ (s : List ℕ) (k : Bool) (ke : k ≡ kind-ok layout4 s) where
           frame-whole h = rw (← ke, kt, ← oe, ot, got, le-ltb 32767 n nt, le-ltb (length s) (256 + 256 * n) lt, le-ltb 65536 ((length s - (256 + 256 * n)) / 256) h)
 
 -- ---- for callers
--- what row 1 tells of its three tests, and its two outcomes
-row-1 : (a b c : Bool) → accepted (refuse 1 when (a || b || c)) ≡ true → (a ≡ false) × (b ≡ false) × (c ≡ false)
-unfolding accepted
-row-1 true b c h = absurd (false≢true h)
-row-1 false true c h = absurd (false≢true h)
-row-1 false false true h = absurd (false≢true h)
-row-1 false false false h = (refl, refl, refl)
-
-row-1-number : (t : Bool) → accepted (refuse 1 when t) ≡ false → refuse 1 when t ≡ refused 1
-unfolding accepted
-row-1-number true h = refl
-row-1-number false h = absurd (false≢true (sym h))
-
-row-1-ok : (t : Bool) → accepted (refuse 1 when t) ≡ true → refuse 1 when t ≡ ok tt
-unfolding accepted
-row-1-ok true h = absurd (false≢true h)
-row-1-ok false h = refl
-
 -- the first L bytes of a slice
 module _ (s : List ℕ) (L : ℕ) where
   -- where it is no image, row 1 is broken
   pub slice-refused : accepted (slice-ok s L) ≡ false → slice-ok s L ≡ refused 1
-  unfolding slice-ok
-  slice-refused h = row-1-number (ltb L 256 || not (eqb (L % 256) 0) || ltb (length s) L) h
+  slice-refused h = refused-only 1 (slice-ok s L) (Stored.slice-refused s L) h
 
   module _ (h : accepted (slice-ok s L) ≡ true) where
-    tests : (ltb L 256 ≡ false) × (not (eqb (L % 256) 0) ≡ false) × (ltb (length s) L ≡ false)
-    unfolding slice-ok
-    tests = row-1 (ltb L 256) (not (eqb (L % 256) 0)) (ltb (length s) L) h
-
     -- where it may be one, row 1 is kept
     pub slice-accepted : slice-ok s L ≡ ok tt
-    unfolding slice-ok
-    slice-accepted = row-1-ok (ltb L 256 || not (eqb (L % 256) 0) || ltb (length s) L) h
+    slice-accepted = accepted-answer (slice-ok s L) h .is
+
+    rule : SliceRule s L
+    rule = slice-stored s L .0 slice-accepted
 
     -- it has a header,
     pub slice-has-header : 256 ≤ L
-    slice-has-header = ltb-false L 256 (tests .0)
+    slice-has-header = rule .long-enough
 
     -- is whole blocks,
     pub slice-in-blocks : L % 256 ≡ 0
-    slice-in-blocks = eqb-true (L % 256) 0 (not-false (eqb (L % 256) 0) (tests .1))
+    slice-in-blocks = rule .whole-blocks
 
     -- and lies in the slice
     pub slice-holds : L ≤ length s
-    slice-holds = ltb-false (length s) L (tests .2)
+    slice-holds = rule .in-slice
 
 -- what an answer of `frame` tells
 module _ (s : List ℕ) (r : Framed) (e : framed r ≡ frame-from format4 s) where

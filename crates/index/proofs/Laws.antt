@@ -1,15 +1,15 @@
 -- Laws of the index, for the crates above: what reading its elements gives, how they follow one another, and which is the element of the run concerned.
-use Prim.Native.Nat.{ℕ, zero, suc, _+_, _-_, _^_, _<_, _≤_}
+use Prim.Native.Nat.{ℕ, zero, suc, _+_, _-_, _<_, _≤_}
 use mathlib.Core.Path.{_≡_, refl, sym, ap, _∙_}
 use mathlib.Core.Logic.{_⊎_, inl, inr}
 use mathlib.Core.Bool.{Bool, true, false, not}
 use mathlib.Core.List.{List, [], _∷_, _++_}
 use mathlib.Core.Option.{Option, none, some}
 use native.Mathlib.Omega.{arith}
-use lib.ListN.{length, getD, take, drop, length-drop}
+use lib.ListN.{length, take, drop, length-drop}
 use lib.Seq.{drop-drop}
-use lib.Dec.{ltb, eqb}
-use borrow.Author.Tests.{lt-ltb, le-ltb, ltb-true, ltb-false, not-false}
+use lib.Dec.{ltb}
+use borrow.Author.Tests.{lt-ltb, le-ltb, ltb-true, ltb-false}
 use Rattle.spec.specs.Outcome.{Outcome, refused, ok, _>>=_, _>>_, refuse_when_, accepted}
 use Rattle.spec.specs.Bytes as Bytes
 use Rattle.spec.specs.Bytes.{from-little-endian, bytes-at, no-zero, all-zero, split-zero}
@@ -18,10 +18,9 @@ use Rattle.spec.specs.Header.{Format, format4}
 use Rattle.spec.specs.Entry.{headword-ok}
 use Rattle.spec.specs.Index.{Element, elements-from, index-from}
 use Rattle.spec.proofs.ListsLaws.{All}
-use Rattle.spec.proofs.OutcomeLaws.{ok-not-refused, Only, refused-only, only-refused, only-ok, only-when, only-bind, when-ok, bind-ok}
+use Rattle.spec.proofs.OutcomeLaws.{ok-not-refused, refused-only, when-ok, bind-ok}
+use Rattle.spec.proofs.StoredIndexLaws.{index-only}
 use Rattle.spec.proofs.PartLaws.{length-bytes-at}
-use Rattle.spec.proofs.WriteLaws.{from-two}
-use Rattle.spec.proofs.IndexLaws.{ElementsOk}
 use Rattle.scans.specs.Scan.{zero-offset}
 use Rattle.scans.proofs.Laws.{split-zero-some, split-zero-none, zero-offset-le, no-zero-before}
 use Rattle.index.specs.Elements.{element-end, element-headword, element-at, elements-at, Inside, concerned-from}
@@ -55,33 +54,8 @@ elements-suc F n prev s = go (split-zero (drop (F .number-width) s)) refl
     go none e = rw (e, elements-from, elements-behind)
     go (some p) e = rw (e, elements-from, elements-behind)
 
--- ---- the refusals of an index
-then-only : (F : Format) (prev : List ℕ) (e : Element) (rest : Outcome (List Element)) → Only 6 rest → Only 6 (element-then F prev e rest)
-unfolding element-then
-then-only F prev e rest h =
-    only-when 6 (not (headword-ok (e .headword))) (refuse 6 when not (F .below prev (e .headword)) >> (rest >>= λ es. ok (e ∷ es)))
-    (only-when 6 (not (F .below prev (e .headword))) (rest >>= λ es. ok (e ∷ es)) (only-bind 6 rest (λ es. ok (e ∷ es)) h (λ es. only-ok 6 (e ∷ es))))
-
--- elements are refused by 6 only
-pub elements-only : (F : Format) (n : ℕ) (prev s : List ℕ) → Only 6 (elements-from F n prev s)
-unfolding elements-behind
-elements-only F zero prev s =
-    rw elements-none (only-when 6 (ltb (length s) 4) (refuse 6 when not (all-zero s) >> ok []) (only-when 6 (not (all-zero s)) (ok []) (only-ok 6 [])))
-elements-only F (suc n) prev s =
-    rw elements-suc (only-when 6 (ltb (length s) (F .number-width)) (elements-behind F n prev s (split-zero (drop (F .number-width) s)))
-    (go (λ p t. elements-only F n p t) (split-zero (drop (F .number-width) s))))
-  where
-    go : ((p t : List ℕ) → Only 6 (elements-from F n p t)) → (o : Option (List ℕ × List ℕ)) → Only 6 (elements-behind F n prev s o)
-    go ih none = only-refused 6
-    go ih (some p) = then-only F prev (record { block = from-little-endian (take (F .number-width) s); headword = p .0 }) (elements-from F n (p .0) (p .1)) (ih (p .0) (p .1))
-
--- and so is an index
-pub index-only : (F : Format) (b n : ℕ) (area : List ℕ) → Only 6 (index-from F b n area)
-unfolding index-from
-index-only F zero n area = only-when 6 (not (eqb n 0)) (ok []) (only-ok 6 [])
-index-only F (suc b) n area = elements-only F n [] area
-
--- and so is an index that is not accepted
+-- ---- the refusal of an index
+-- an index that is not accepted is refused by 6
 pub index-refused : (F : Format) (b n : ℕ) (area : List ℕ) → accepted (index-from F b n area) ≡ false → index-from F b n area ≡ refused 6
 index-refused F b n area h = refused-only 6 (index-from F b n area) (index-only F b n area) h
 
@@ -141,44 +115,39 @@ module _ (F : Format) (w : F .number-width ≡ 2) (index prev : List ℕ) (at n 
       rw (elements-suc, w, l, drop-drop 2 at index, s, drop-drop (suc z) (at + 2) index, d, f)
 
 -- ---- what is read
--- elements whose headwords are by their rules after prev
-abbrev pub Ascending : Format → List ℕ → List Element → Type 0
-Ascending F prev [] = Unit {0}
-Ascending F prev (e ∷ es) = (headword-ok (e .headword) ≡ true) × (F .below prev (e .headword) ≡ true) × Ascending F (e .headword) es
-
 then-ok : (F : Format) (prev : List ℕ) (e : Element) (rest : Outcome (List Element)) (es : List Element) → element-then F prev e rest ≡ ok es
-    → (headword-ok (e .headword) ≡ true) × (F .below prev (e .headword) ≡ true) × ((ds : List Element) × (rest ≡ ok ds) × (es ≡ e ∷ ds))
+    → (ds : List Element) × (rest ≡ ok ds) × (es ≡ e ∷ ds)
 unfolding element-then
 then-ok F prev e rest es h =
     let a = when-ok 6 (not (headword-ok (e .headword))) (refuse 6 when not (F .below prev (e .headword)) >> (rest >>= λ es. ok (e ∷ es))) es h in
     let b = when-ok 6 (not (F .below prev (e .headword))) (rest >>= λ es. ok (e ∷ es)) es (a .1) in
     let c = bind-ok rest (λ es. ok (e ∷ es)) es (b .1) in
-    (not-false (headword-ok (e .headword)) (a .0), not-false (F .below prev (e .headword)) (b .0), (c .0, c .1, let q : ok (e ∷ c .0) ≡ ok es = c .2 in cc))
+    (c .0, c .1, let q : ok (e ∷ c .0) ≡ ok es = c .2 in cc)
 
--- elements read from `at` on are those that stand there, inside the index and by their rules
+-- elements read from `at` on are those that stand there, inside the index
 pub elements-found-from : (F : Format) → F .number-width ≡ 2 → (index prev : List ℕ) (at n : ℕ) (es : List Element) → elements-from F n prev (drop at index) ≡ ok es
-    → (es ≡ elements-at index at n) × Inside index at n × Ascending F prev es
+    → (es ≡ elements-at index at n) × Inside index at n
 unfolding elements-at element-at
 elements-found-from F w index prev at zero es h =
     let a = when-ok 6 (ltb (length (drop at index)) 4) (refuse 6 when not (all-zero (drop at index)) >> ok []) es (rw elements-none at h) in
     let b = when-ok 6 (not (all-zero (drop at index))) (ok []) es (a .1) in
     let l : 4 ≤ length (drop at index) = ltb-false (length (drop at index)) 4 (a .0) in
     let e : es ≡ [] = let q : ok [] ≡ ok es = b .1 in cc in
-    (e, omega (arith, length-drop at index), rw e tt)
+    (e, omega (arith, length-drop at index))
 elements-found-from F w index prev at (suc n) es h = go (λ p a ds k. elements-found-from F w index p a n ds k) (ltb (length index) (at + 2)) refl
   where
     Found : Type 0
-    Found = (es ≡ elements-at index at (suc n)) × Inside index at (suc n) × Ascending F prev es
+    Found = (es ≡ elements-at index at (suc n)) × Inside index at (suc n)
 
     Rest : Type 0
-    Rest = (p : List ℕ) (a : ℕ) (ds : List Element) → elements-from F n p (drop a index) ≡ ok ds → (ds ≡ elements-at index a n) × Inside index a n × Ascending F p ds
+    Rest = (p : List ℕ) (a : ℕ) (ds : List Element) → elements-from F n p (drop a index) ≡ ok ds → (ds ≡ elements-at index a n) × Inside index a n
 
     found : Rest → at + 2 ≤ length index → element-end index at < length index → Found
     found ih p q =
         let c = then-ok F prev (element-at index at) (elements-from F n (element-headword index at) (drop (element-end index at + 1) index)) es (sym (element-read F w index prev at n p q) ∙ h) in
-        let d = ih (element-headword index at) (element-end index at + 1) (c .2 .0) (c .2 .1) in
-        let e : es ≡ element-at index at ∷ c .2 .0 = c .2 .2 in
-        (rw (e, d .0), (p, q, d .1), rw e (c .0, c .1, d .2))
+        let d = ih (element-headword index at) (element-end index at + 1) (c .0) (c .1) in
+        let e : es ≡ element-at index at ∷ c .0 = c .2 in
+        (rw (e, d .0), (p, q, d .1))
 
     next : Rest → at + 2 ≤ length index → (t : Bool) → ltb (element-end index at) (length index) ≡ t → Found
     next ih p true e = found ih p (ltb-true (element-end index at) (length index) e)
@@ -190,17 +159,8 @@ elements-found-from F w index prev at (suc n) es h = go (λ p a ds k. elements-f
 
 -- the elements of a whole index
 pub elements-found : (F : Format) → F .number-width ≡ 2 → (index : List ℕ) (n : ℕ) (es : List Element) → elements-from F n [] index ≡ ok es
-    → (es ≡ elements-at index 0 n) × Inside index 0 n × Ascending F [] es
+    → (es ≡ elements-at index 0 n) × Inside index 0 n
 elements-found F w index n es h = elements-found-from F w index [] 0 n es h
-
--- of bytes below 256: their block numbers fit two bytes as well
-pub ascending-fits : (F : Format) → F .number-width ≡ 2 → (index : List ℕ) → ((k : ℕ) → getD index k 0 < 256) → (prev : List ℕ) (at n : ℕ)
-    → Inside index at n → Ascending F prev (elements-at index at n) → ElementsOk F prev (elements-at index at n)
-unfolding elements-at element-at
-ascending-fits F w index small prev at zero i a = tt
-ascending-fits F w index small prev at (suc n) i a =
-    let b : from-little-endian (bytes-at at 2 index) < 256 ^ F .number-width = rw w (omega (arith, from-two index at (i .0), small at, small (at + 1))) in
-    (a .0, a .1, b, ascending-fits F w index small (element-headword index at) (element-end index at + 1) n (i .2) (a .2))
 
 -- ---- from one element to the next
 -- the next element has its number

@@ -19,7 +19,9 @@ use Rattle.spec.specs.Header.{layout4, format4, get}
 use Rattle.spec.specs.Run.{Run}
 use Rattle.spec.specs.Index as Index
 use Rattle.spec.specs.Index.{Element, elements-from, index-from}
-use Rattle.spec.specs.Blocks.{covers, run-blocks, free-list-from, each-once, free-marks}
+use Rattle.spec.specs.Blocks.{covers, run-blocks, free-list-from, each-once, free-marks, count-marks}
+use Rattle.spec.specs.Calls as Calls
+use Rattle.spec.specs.Calls.{figures}
 use Rattle.spec.specs.Check as Check
 use Rattle.spec.specs.Check.{Image, index-area, data-area, frame-from, runs-from, counts-ok, image-by, image-from, all-entries, entries-of}
 use Rattle.spec.proofs.ListsLaws.{All, or-false, less-or}
@@ -36,7 +38,7 @@ use Rattle.index.specs.Elements as Elements
 use Rattle.index.specs.Elements.{elements-at, Inside}
 use Rattle.index.proofs.Laws.{width4, elements-found, index-refused}
 use Rattle.freelist.specs.FreeList.{has-length, with-marks, Marked}
-use Rattle.freelist.proofs.Laws.{Read, has-length-read, has-length-not, length-with-marks, get-with-marks, with-no-marks}
+use Rattle.freelist.proofs.Laws.{Read, has-length-read, has-length-not, length-with-marks, get-with-marks, with-no-marks, count-behind}
 use Rattle.tally.specs.Tally as Tally
 use Rattle.tally.specs.Tally.{Tally as TallyRecord, covered, tally, runs-answer}
 use Rattle.tally.specs.declared.Runs.{Runs}
@@ -280,9 +282,7 @@ index-told area zero n es h =
     let (p, q) = when-ok 6 (not (eqb n 0)) (ok []) es h in
     let z : n ≡ 0 = eqb-true n 0 (not-false (eqb n 0) p) in
     rw z (sym (same-value [] es q), omega arith)
-index-told area (suc b) n es h =
-    let (p, q, r) = elements-found format4 width4 area n es h in
-    (p, q)
+index-told area (suc b) n es h = elements-found format4 width4 area n es h
 
 -- the bounds of a frame that is read, by the answer
 module _ (s : List ℕ) (r : Framed) (e : framed r ≡ frame-from format4 s) (n d : ℕ) (h : r ≡ Framed.Blocks n d) where
@@ -375,3 +375,12 @@ module _ (k : ℕ) (ms : List Bool) (o : Outcome Image) where
       go (ok i) e =
           let x = same-value _ _ e in
           record { image = i; is = refl; words = ap (λ (y : Overview). y .words) x; index-blocks = ap (λ (y : Overview). y .index-blocks) x; data-blocks = ap (λ (y : Overview). y .data-blocks) x; free = ap (λ (y : Overview). y .free) x }
+
+-- the four numbers of such an image
+pub sound-figures : (k : ℕ) (ms : List Bool) (o : Outcome Image) (w n d : ℕ) (v : SoundImage k ms o w n d) (c : ℕ) → c ≡ count-marks ms
+    → figures (v .image) ≡ record { headwords = w; index-blocks = n; data-blocks = d; free-blocks = c }
+unfolding Calls.figures
+sound-figures k ms o w n d v c e =
+    let i : Image = v .image in
+    let f : c ≡ count-marks (free-marks (i .frame .data-blocks) (i .free-list)) = e ∙ ap count-marks (v .free) ∙ count-behind (free-marks (i .frame .data-blocks) (i .free-list)) (k - i .frame .data-blocks) in
+    rw (v .words, v .index-blocks, v .data-blocks, f)

@@ -11,9 +11,9 @@ use Rattle.spec.specs.Outcome.{refused, ok, accepted}
 use Rattle.spec.specs.Bytes.{write}
 use Rattle.spec.specs.Header as HeaderSpec
 use Rattle.spec.specs.Header.{layout4, format4, get}
-use Rattle.spec.specs.Blocks.{run-blocks, each-once, free-marks, count-marks}
+use Rattle.spec.specs.Blocks.{run-blocks, each-once, count-marks}
 use Rattle.spec.specs.Check as CheckSpec
-use Rattle.spec.specs.Check.{Image, slice-ok, runs-from, image-from, entries-of}
+use Rattle.spec.specs.Check.{Image, slice-ok, runs-from, image-from}
 use Rattle.spec.specs.Calls as CallsSpec
 use Rattle.spec.specs.Calls.{Figures, figures}
 use Rattle.spec.specs.Listing as ListingSpec
@@ -23,9 +23,8 @@ use Rattle.spec.proofs.CountLaws.{blocks-once}
 use Rattle.spec.proofs.ReadLaws.{free-list-below, image-told, runs-inside}
 use Rattle.index.specs.Elements.{elements-at, Inside}
 use Rattle.header.proofs.Laws.{slice-refused, slice-accepted, slice-has-header, slice-in-blocks}
-use Rattle.freelist.proofs.Laws.{count-behind}
 use Rattle.inspect.specs.Overview.{viewed, overview, AcceptedImage}
-use Rattle.inspect.proofs.Laws.{index-part, data-part, overview-refused, overview-sound}
+use Rattle.inspect.proofs.Laws.{index-part, data-part, overview-refused, overview-sound, sound-figures}
 use Rattle.inspect.proofs.Accepted as Parts
 use Rattle.inspect.specs.declared.Inspected.{Inspected}
 use Rattle.listing.specs.Lines.{numbers, Printable, AllPrinted, Accepted}
@@ -144,19 +143,12 @@ pub list-stored : (x y out out′ : List ℕ) → x ≡ y → out′ ≡ write 0
 list-stored x y out out′ h p = rw h p
 
 -- ---- what inspecting an image tells
--- four numbers one by one
-four : (i : Image) (w n d f : ℕ) → w ≡ length (entries-of i) → n ≡ i .frame .index-blocks → d ≡ i .frame .data-blocks → f ≡ count-marks (free-marks (i .frame .data-blocks) (i .free-list)) → figures i ≡ numbers w n d f
-unfolding CallsSpec.figures
-four i w n d f pw pn pd pf = rw (pw, pn, pd, pf)
-
 module _ (s : List ℕ) (ms : List Bool) (k : ℕ) (r : Inspected) (h : overview r ms ≡ viewed k (image-from s)) where
   -- the four numbers of an accepted image
   pub told-sound : (w n d f : ℕ) → r ≡ Inspected.Sound w n d → f ≡ count-marks ms → Accepted s (numbers w n d f)
   told-sound w n d f q c =
       let v = overview-sound k ms (image-from s) w n d (ap (λ (x : Inspected). overview x ms) (sym q) ∙ h) in
-      let i : Image = v .image in
-      let e : f ≡ count-marks (free-marks (i .frame .data-blocks) (i .free-list)) = c ∙ ap count-marks (v .free) ∙ count-behind (free-marks (i .frame .data-blocks) (i .free-list)) (k - i .frame .data-blocks) in
-      (i, v .is, four i w n d f (v .words) (v .index-blocks) (v .data-blocks) e)
+      (v .image, v .is, sound-figures k ms (image-from s) w n d v f c)
 
   -- the refusal of another
   pub told-refused : (n : ℕ) → r ≡ Inspected.Refused n → image-lines (image-from s) ≡ image-lines (refused n)

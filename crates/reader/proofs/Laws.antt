@@ -7,28 +7,21 @@ use lib.ListN.{length, take}
 use lib.Seq.{length-take-le}
 use borrow.Author.Tests.{not-true, not-false}
 use Rattle.spec.specs.Outcome.{refused, ok, accepted}
-use Rattle.spec.specs.Blocks.{free-marks, count-marks}
+use Rattle.spec.specs.Blocks.{count-marks}
 use Rattle.spec.specs.Check as Check
-use Rattle.spec.specs.Check.{Image, slice-ok, image-from, image-in, entries-of}
+use Rattle.spec.specs.Check.{Image, slice-ok, image-from, image-in}
 use Rattle.spec.specs.Calls as Calls
-use Rattle.spec.specs.Calls.{text-fitted, look-up-in, entry-fitted, start-ok, walk-in, figures, check, look-up-result, look-up, walk-result, walk}
+use Rattle.spec.specs.Calls.{text-fitted, look-up-in, entry-fitted, start-ok, walk-in, check, look-up-result, look-up, walk-result, walk}
 use Rattle.spec.specs.Answers as Answers
 use Rattle.spec.specs.Answers.{check-answer, look-up-answer, walk-answer}
 use Rattle.spec.specs.declared.CheckAnswer.{CheckAnswer}
 use Rattle.spec.specs.declared.LookUpAnswer.{LookUpAnswer}
 use Rattle.spec.specs.declared.WalkAnswer.{WalkAnswer}
 use Rattle.header.proofs.Laws.{slice-refused, slice-accepted, slice-has-header, slice-in-blocks, slice-holds}
-use Rattle.freelist.proofs.Laws.{count-behind}
 use Rattle.inspect.specs.Overview.{overview, viewed, AcceptedImage}
 use Rattle.inspect.proofs.Accepted.{accepted-index}
 use Rattle.inspect.specs.declared.Inspected.{Inspected}
-use Rattle.inspect.proofs.Laws.{SoundImage, overview-refused, overview-sound}
-
--- the four numbers of an image
-figures-are : (i : Image) (w n d c : ℕ) → w ≡ length (entries-of i) → n ≡ i .frame .index-blocks → d ≡ i .frame .data-blocks → c ≡ count-marks (free-marks (i .frame .data-blocks) (i .free-list))
-    → check-answer (CheckAnswer.Counted w n d c) ≡ ok (figures i)
-unfolding Calls.figures Answers.check-answer
-figures-are i w n d c a b e f = rw (a, b, e, f)
+use Rattle.inspect.proofs.Laws.{SoundImage, overview-refused, overview-sound, sound-figures}
 
 module _ (s : List ℕ) (len : ℕ) (t : Bool) (slice : t ≡ accepted (slice-ok s len)) where
   -- row 1
@@ -88,12 +81,10 @@ module _ (s : List ℕ) (len : ℕ) (t : Bool) (slice : t ≡ accepted (slice-ok
 
         -- the four numbers
         pub check-counted : (c : ℕ) → c ≡ count-marks ms → check-answer (CheckAnswer.Counted w n d c) ≡ check s len
-        unfolding Calls.check
+        unfolding Calls.check Answers.check-answer
         check-counted c e =
-            let i : Image = sound .image in
-            let f : c ≡ count-marks (free-marks (i .frame .data-blocks) (i .free-list)) = e ∙ ap count-marks (sound .free) ∙ count-behind (free-marks (i .frame .data-blocks) (i .free-list)) (k - i .frame .data-blocks) in
-            let o : image-in s len ≡ ok i = sliced ∙ sound .is in
-            figures-are i w n d c (sound .words) (sound .index-blocks) (sound .data-blocks) f ∙ sym (rw o)
+            let o : image-in s len ≡ ok (sound .image) = sliced ∙ sound .is in
+            sym (rw o (ap ok (sound-figures k ms (image-from (take len s)) w n d sound c e)))
 
         -- the image is accepted
         pub accepted-image : AcceptedImage (take len s) n d

@@ -10,7 +10,7 @@ use lib.ListN.{length, take, drop}
 use mir.Syntax.{w64}
 use mir.Val.{Fits}
 use mir.Facts.{fits-below}
-use Rattle.spec.specs.Outcome.{refused, ok, _>>=_}
+use Rattle.spec.specs.Outcome.{refused, ok}
 use Rattle.spec.specs.Lists as Lists
 use Rattle.spec.specs.Bytes.{from-little-endian, bytes-at, no-zero}
 use Rattle.spec.specs.Order.{below-of, IsOrder}
@@ -319,10 +319,6 @@ module _ (F : Format) (below : List ℕ → List ℕ → Bool) (above : Bool) (h
       rw y (g (next-headword others) q u)
 
 module _ (index : List ℕ) (at left : ℕ) (i : Inside index at left) (p : 1 ≤ left) where
-  -- the element has its number
-  pub number-at : at + 2 ≤ length index
-  number-at = inside-start index at left i p
-
   -- the next one has its number
   pub number-next : (left ≡ 1 → ⊥) → (end : ℕ) → end ≡ element-end index at → end + 1 + 2 ≤ length index
   number-next z end e = rw e (inside-start index (element-end index at + 1) (left - 1) (inside-next index at left i p) (omega arith))

@@ -1,6 +1,6 @@
 -- What each call of the claim gives on an accepted image: the first row that applies, else its answer and its bytes.
 use Prim.Native.Nat.{ℕ, _+_}
-use mathlib.Core.Path.{_≡_, refl, sym, ap, ap₂, _∙_}
+use mathlib.Core.Path.{_≡_, refl, ap, ap₂, _∙_}
 use mathlib.Core.Bool.{Bool, true, false, not, _&&_, _||_}
 use mathlib.Core.List.{List, [], _∷_}
 use mathlib.Core.Option.{Option, none, some}
@@ -16,10 +16,10 @@ use Rattle.spec.specs.SortedList.{lookup, successor, remove}
 use Rattle.spec.specs.Place.{Plan, plan-full, plan-written}
 use Rattle.spec.specs.Calls.{text-fitted, look-up-in, look-up-entry, look-up-result, look-up, entry-fitted, start-ok, walk-in, walk-entry, walk-result, walk, changeable, fitting, changed, plan-length, insert-plan, insert-result, insert, delete-plan, delete-result, delete, optimise-plan, given-up-zeroed, optimise-result, optimise}
 use Rattle.spec.specs.Claim.{look-up-call, walk-call, insert-call, delete-call, optimise-call, Observed, text-found, entry-found, done, tell-text, tell-entry, tell-removed, Performed, new-length, new-length-or, observed-text, observed-entry, observed-done, observed-removed, perform, Row, _if_, first-row, too-short, short-for-text, short-for-entry, is-there, insert-placing, delete-placing, optimise-placing, rows, expected}
-use Rattle.spec.proofs.OutcomeLaws.{ok-not-refused}
+use Rattle.spec.proofs.OutcomeLaws.{next-ok}
 
 -- a refusal by its number, or an answer
-abbrev pub verdict : {A : Type 0} → Option ℕ → A → Outcome A
+abbrev verdict : {A : Type 0} → Option ℕ → A → Outcome A
 verdict none a = ok a
 verdict (some n) a = refused n
 
@@ -41,11 +41,7 @@ rows-verdict (r ∷ rs) a = go (r .applies) refl (rows-verdict rs a)
 -- an accepted image in the slice: row 1 does not apply, and rows 3 to 10 give it
 pub in-told : (s : List ℕ) (L : ℕ) (i : Image) → image-in s L ≡ ok i → (slice-ok s L ≡ ok tt) × (image-from (take L s) ≡ ok i)
 unfolding image-in
-in-told s L i h = go (slice-ok s L) refl h
-  where
-    go : (o : Outcome (Unit {0})) → slice-ok s L ≡ o → (o >> image-from (take L s)) ≡ ok i → (slice-ok s L ≡ ok tt) × (image-from (take L s) ≡ ok i)
-    go (refused n) e k = absurd (ok-not-refused i n (sym k))
-    go (ok tt) e k = (e, k)
+in-told s L i h = let (u, a, k) = next-ok (slice-ok s L) (image-from (take L s)) i h in (a, k)
 
 -- bytes written at the front of a slice, read again
 written-front : (x out : List ℕ) → take (length x) (write 0 x out) ≡ x
@@ -79,7 +75,8 @@ module _ (s : List ℕ) (L : ℕ) (i : Image) (got : image-in s L ≡ ok i) wher
   short-entry out-headword out-text (some e) = refl
 
   walk-verdict : (above : Bool) (h out-headword out-text : List ℕ)
-      → walk-entry s L above h out-headword out-text ≡ verdict (first-row (rows s i (entries-of i) (walk-call above h out-headword out-text))) (successor (i .frame .format .below) above h (entries-of i))
+      → walk-entry s L above h out-headword out-text
+      ≡ verdict (first-row (rows s i (entries-of i) (walk-call above h out-headword out-text))) (successor (i .frame .format .below) above h (entries-of i))
   unfolding walk-entry walk-in entry-fitted start-ok rows _if_
   walk-verdict above h out-headword out-text =
       let found : Option Entry = successor (i .frame .format .below) above h (entries-of i) in
@@ -102,7 +99,8 @@ module _ (s : List ℕ) (L : ℕ) (i : Image) (got : image-in s L ≡ ok i) wher
           ap₂ (λ (x y : List ℕ). ok (entry-found x y (attribute e) (length (e .headword)) (length (text e)))) (written-front (e .headword) out-headword) (written-front (text e) out-text)
 
   -- rows 2 and 11 of a changing call, then what follows
-  changes : {A : Type 0} (work : List ℕ) (k : Image → Outcome A) → (changeable s L work >>= k) ≡ (refuse 2 when ltb (length work) (length s) >> (refuse 11 when not (writable (i .frame .format .layout) s) >> k i))
+  changes : {A : Type 0} (work : List ℕ) (k : Image → Outcome A)
+      → (changeable s L work >>= k) ≡ (refuse 2 when ltb (length work) (length s) >> (refuse 11 when not (writable (i .frame .format .layout) s) >> k i))
   unfolding changeable work-ok
   changes work k =
       let (a, b) = in-told s L i got in
@@ -185,11 +183,12 @@ module _ (s : List ℕ) (L : ℕ) (i : Image) (got : image-in s L ≡ ok i) wher
   unfolding delete-plan rows too-short delete-placing removes removal-rows
   delete-verdict work h = changes work _ ∙ removes-verdict work h (lookup h (entries-of i))
 
-  -- the slice and the length after a deletion that is not refused, by the entry looked up
+  -- the slice after a deletion that is not refused, by the entry looked up
   abbrev pub slice-without : List ℕ → Option Entry → List ℕ
   slice-without h none = s
   slice-without h (some e) = plan-written (delete-placing i h) s
 
+  -- and its L
   abbrev pub length-without : List ℕ → Option Entry → ℕ
   length-without h none = L
   length-without h (some e) = plan-length (delete-placing i h)

@@ -33,7 +33,7 @@ unfolding covers
 covers-true b r e = (leb-true (r .block) b (and-left (leb (r .block) b) (ltb b (r .block + r .size)) e), ltb-true b (r .block + r .size) (and-right (leb (r .block) b) (ltb b (r .block + r .size)) e))
 
 -- a block that a run does not cover lies in front of it or behind it
-pub covers-false : (b : ℕ) (r : Run) → covers b r ≡ false → (b < r .block) ⊎ (r .block + r .size ≤ b)
+covers-false : (b : ℕ) (r : Run) → covers b r ≡ false → (b < r .block) ⊎ (r .block + r .size ≤ b)
 unfolding covers
 covers-false b r e = go (leb (r .block) b) refl
   where
@@ -61,7 +61,7 @@ unfolding is-free any
 free-no b r rs e = rw e
 
 -- a block that one run covers is not free
-pub free-yes : (b : ℕ) (r : Run) (rs : List Run) → covers b r ≡ true → is-free (r ∷ rs) b ≡ false
+free-yes : (b : ℕ) (r : Run) (rs : List Run) → covers b r ≡ true → is-free (r ∷ rs) b ≡ false
 unfolding is-free any
 free-yes b r rs e = rw e
 
@@ -72,7 +72,7 @@ apart-free b c n [] h k a = refl
 apart-free b c n (r ∷ rs) h k (o, a) = free-no b r rs (covers-outside r b (⊎-elim (λ p. inl (omega arith)) (λ p. inr (omega arith)) o)) ∙ apart-free b c n rs h k a
 
 -- a free block is covered by no run
-pub free-cons : (b : ℕ) (r : Run) (rs : List Run) → is-free (r ∷ rs) b ≡ true → (covers b r ≡ false) × (is-free rs b ≡ true)
+free-cons : (b : ℕ) (r : Run) (rs : List Run) → is-free (r ∷ rs) b ≡ true → (covers b r ≡ false) × (is-free rs b ≡ true)
 free-cons b r rs h = go (covers b r) refl
   where
     go : (t : Bool) → covers b r ≡ t → (covers b r ≡ false) × (is-free rs b ≡ true)

@@ -440,7 +440,7 @@ module _ (s : List ℕ) (L : ℕ) (work : List ℕ) where
   optimise-rows small =
       record {
         change-rows = change-rows s L work small (optimise s L work .answer) (λ i. fitting s (optimise-placing i)) optimise-answered (λ i n p. omega (arith, fitting-number (optimise-placing i) n p .0));
-        no-other = λ n p. ⊎-elim (λ e. low (change-told s L work small n e)) (λ (i, q, r). absurd (false≢true (sym (packed-room s L i (may-told s L work i q .image)) ∙ fitting-number (optimise-placing i) n r .1))) (bind-refused (changeable s L work) _ n (optimise-answered n .0 p));
+        no-other = λ n p. ⊎-elim (λ e. low (change-told s L work small n e)) (λ (i, q, r). absurd (false≢true (sym (packed-room s L i (may-told s L work i q .image) small) ∙ fitting-number (optimise-placing i) n r .1))) (bind-refused (changeable s L work) _ n (optimise-answered n .0 p));
       }
     where
       low : {n : ℕ} → ChangeCase s L work n → n ≤ 11

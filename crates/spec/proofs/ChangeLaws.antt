@@ -1,42 +1,36 @@
 -- A change of an accepted image gives a plan that is read back, and its entries are the old ones changed as told. For any lawful format.
-use Prim.Native.Nat.{ℕ, zero, suc, _+_, _-_, _*_, _%_, _^_, _<_, _≤_, max}
+use Prim.Native.Nat.{ℕ, _+_, _-_, _*_, _≤_, max}
 use mathlib.Core.Path.{_≡_, refl, sym, ap, ap₂, _∙_}
 use mathlib.Core.Logic.{_⊎_, inl, inr}
-use mathlib.Core.Bool.{true, false, not, _||_}
 use mathlib.Core.List.{List, [], _∷_, _++_, map, map-append}
-use mathlib.Core.Option.{Option, none, some}
 use native.Mathlib.Omega.{arith}
 use native.Mathlib.Nat.{zero-add}
-use lib.ListN.{length, take, drop, length-append, length-take, length-drop}
-use lib.Dec.{ltb, eqb}
-use borrow.Author.Tests.{ltb-false}
-use Rattle.spec.specs.Outcome.{refused, ok, _>>=_, _>>_, refuse_when_}
+use lib.ListN.{length, take, length-append, length-drop}
+use Rattle.spec.specs.Outcome.{ok}
 use Rattle.spec.specs.Lists.{all}
-use Rattle.spec.specs.Bytes.{from-little-endian, blocks-for, bytes-at, all-zero, split-zero}
-use Rattle.spec.specs.Header.{Format, Lawful, get, lies-in, written-fields}
-use Rattle.spec.specs.Entry.{Entry, headword-ok}
+use Rattle.spec.specs.Bytes.{blocks-for}
+use Rattle.spec.specs.Header.{Format, Lawful}
+use Rattle.spec.specs.Entry.{Entry}
 use Rattle.spec.specs.Run.{Run}
-use Rattle.spec.specs.Index.{Element, element-bytes, elements-bytes, elements-from, index-need, index-from}
-use Rattle.spec.specs.Blocks.{place-for, free-blocks}
-use Rattle.spec.specs.Check.{Image, runs-from, data-start, index-area, data-area, frame-length, all-entries, entries-of, kind-ok, options-ok, image-by}
+use Rattle.spec.specs.Index.{element-bytes, elements-bytes, index-need}
+use Rattle.spec.specs.Blocks.{place-for}
+use Rattle.spec.specs.Check.{Image, data-start, data-area, all-entries, entries-of, image-by}
 use Rattle.spec.specs.SortedList.{replace, remove}
-use Rattle.spec.specs.Place.{Plan, Target, Placed, Grown, Move, target-run, cut, new-run, at-block, with-run, place, element-of, renumbered, grown, plan-change, packed, plan-packed, plan-full, plan-written}
+use Rattle.spec.specs.Place.{Target, Placed, Grown, Move, target-run, cut, new-run, at-block, with-run, place, element-of, renumbered, grown, plan-change, packed, plan-packed}
 use Rattle.spec.specs.CutForm.{IsCut, joined-parts, CutIsCut}
-use Rattle.spec.proofs.ListsLaws.{All, all-map, all-both, all-append, all-front, all-back, or-neither}
-use Rattle.spec.proofs.BytesLaws.{length-to-little-endian, split-zero-told}
-use Rattle.spec.proofs.OutcomeLaws.{ok-not-refused, same-value, when-ok, bind-ok}
+use Rattle.spec.proofs.ListsLaws.{All, all-map, all-append, all-front, all-back}
+use Rattle.spec.proofs.BytesLaws.{length-to-little-endian}
 use Rattle.spec.proofs.RunLaws.{EntriesOk}
-use Rattle.spec.proofs.IndexLaws.{ElementsOk}
-use Rattle.spec.proofs.BlocksLaws.{Laid, laid-inside}
+use Rattle.spec.proofs.BlocksLaws.{Laid}
 use Rattle.spec.proofs.CutLaws.{cut-is-cut, cut-joined, first-part, other-parts}
-use Rattle.spec.proofs.PlaceLaws.{entries-append, new-entries, place-entries, renumbered-entries, packed-entries}
+use Rattle.spec.proofs.PlaceLaws.{place-all, grown-all, packed-all, entries-append, new-entries, place-entries, renumbered-entries, packed-entries}
 use Rattle.spec.proofs.LaidLaws.{Sized, once-laid, laid-without, plan-laid, packed-laid}
-use Rattle.spec.proofs.PlanLaws.{RunsOk, plan-back, written-length, written-past, written-header, written-count}
-use Rattle.spec.proofs.ReadLaws.{RunsAscend, no-runs, runs-told, FrameFits, frame-fits, image-told, runs-ascend, runs-inside}
+use Rattle.spec.proofs.PlanLaws.{SoundPlan}
+use Rattle.spec.proofs.ReadLaws.{RunsAscend, FrameFits, frame-fits, image-told, runs-ascend, runs-inside}
 use Rattle.spec.proofs.SearchLaws.{entries-ascend}
 use Rattle.spec.proofs.SortedLaws.{ok-front, ok-back, replace-ok, remove-ok, replace-between, remove-between}
 use Rattle.spec.proofs.TargetLaws.{Concerned, target-concerned}
-use Rattle.spec.proofs.HoldsLaws.{Holds, holds-moved, runs-hold, hold-runs-ok, hold-elements-ok, new-holds}
+use Rattle.spec.proofs.HoldsLaws.{Holds, holds-moved, runs-hold, new-holds}
 
 -- what is known of an accepted image
 pub record Sound (F : Format) (s : List ℕ) (i : Image) : Type 0 where
@@ -46,7 +40,7 @@ pub record Sound (F : Format) (s : List ℕ) (i : Image) : Type 0 where
   pub laid : Laid (i .frame .data-blocks) (i .runs)
 
 -- a run that holds its entries has blocks and their bytes
-pub holds-sized : (F : Format) (rs : List Run) → All (Holds F) rs → All Sized rs
+holds-sized : (F : Format) (rs : List Run) → All (Holds F) rs → All Sized rs
 holds-sized F rs k = all-map (Holds F) Sized (λ r h. (h .some-blocks, h .whole)) rs k
 
 -- an accepted image is such an image
@@ -64,65 +58,6 @@ image-sound F s i h =
       ascend = runs-ascend F (i .frame .data-blocks) (data-area (i .frame) s) (t .elements) (i .runs) (t .runs);
       laid = once-laid (i .frame .data-blocks) (i .runs) (i .free-list) (t .once) (runs-inside F (i .frame .data-blocks) (data-area (i .frame) s) (t .elements) (i .runs) (t .runs)) (holds-sized F (i .runs) k);
     }
-
--- elements that were read and four bytes more fit their bytes
-elements-room : (F : Format) (n : ℕ) (prev s : List ℕ) (es : List Element) → elements-from F n prev s ≡ ok es → length (elements-bytes F es) + 4 ≤ length s
-unfolding elements-from elements-bytes element-bytes
-elements-room F zero prev s es h =
-    let (a, h₁) = when-ok 6 (ltb (length s) 4) _ es h in
-    let (b, h₂) = when-ok 6 (not (all-zero s)) _ es h₁ in
-    rw (← same-value [] es h₂) (omega (arith, ltb-false (length s) 4 a))
-elements-room F (suc n) prev s es h =
-    let (a, h₁) = when-ok 6 (ltb (length s) (F .number-width)) _ es h in
-    go (λ p q ds. elements-room F n p q ds) (ltb-false (length s) (F .number-width) a) (split-zero (drop (F .number-width) s)) refl h₁
-  where
-    go : ((p q : List ℕ) (ds : List Element) → elements-from F n p q ≡ ok ds → length (elements-bytes F ds) + 4 ≤ length q) → F .number-width ≤ length s → (o : Option (List ℕ × List ℕ)) → split-zero (drop (F .number-width) s) ≡ o
-        → elim o [ none ↦ refused 6 | some p ↦ (refuse 6 when not (headword-ok (p .0)) >> (refuse 6 when not (F .below prev (p .0)) >> (elements-from F n (p .0) (p .1) >>= λ ds. ok (record { block = from-little-endian (take (F .number-width) s); headword = p .0 } ∷ ds)))) ] ≡ ok es
-        → length (elements-bytes F es) + 4 ≤ length s
-    go ih w none z k = absurd (ok-not-refused es 6 (sym k))
-    go ih w (some p) z k =
-        let (a, k₁) = when-ok 6 (not (headword-ok (p .0))) _ es k in
-        let (b, k₂) = when-ok 6 (not (F .below prev (p .0))) _ es k₁ in
-        let (ds, u, v) = bind-ok (elements-from F n (p .0) (p .1)) _ es k₂ in
-        let here : length s - F .number-width ≡ length (p .0) + (length (p .1) + 1) = sym (length-drop (F .number-width) s) ∙ ap length (split-zero-told (drop (F .number-width) s) p z) ∙ simp length-append (omega arith) in
-        rw (← same-value _ es v) (simp (length-append, length-to-little-endian) (omega (arith, ih (p .0) (p .1) ds u)))
-
--- an index that was read has the blocks that its elements need
-index-room : (F : Format) (n k : ℕ) (area : List ℕ) (es : List Element) → length area ≤ 256 * n → index-from F n k area ≡ ok es → index-need F es ≤ n
-unfolding index-from index-need blocks-for
-index-room F zero k area es l h =
-    let (a, h₁) = when-ok 6 (not (eqb k 0)) _ es h in
-    rw (← same-value [] es h₁) (omega arith)
-index-room F (suc n) k area es l h = go es (elements-room F k [] area es h)
-  where
-    go : (es : List Element) → length (elements-bytes F es) + 4 ≤ length area → index-need F es ≤ suc n
-    go [] m = omega arith
-    go (e ∷ es) m = omega arith
-
--- runs have their elements' numbers and headwords
-runs-elements : (F : Format) (D : ℕ) (area : List ℕ) (es : List Element) (rs : List Run) → runs-from F D area es ≡ ok rs → map element-of rs ≡ es
-unfolding element-of
-runs-elements F D area [] rs h = ap (map element-of) (no-runs F D area rs h)
-runs-elements F D area (e ∷ es) rs h =
-    let (r, qs, p, t, k) = runs-told F D area e es rs h in
-    let same : element-of r ≡ e = ap₂ (λ (b : ℕ) (w : List ℕ). record { block = b; headword = w }) (t .block) (t .headword) in
-    ap (map element-of) p ∙ ap₂ (λ (x : Element) (l : List Element). x ∷ l) same (runs-elements F D area es qs k)
-
--- an accepted image has the index blocks that its elements need
-pub image-need : (F : Format) (s : List ℕ) (i : Image) → image-by F s ≡ ok i → index-need F (map element-of (i .runs)) ≤ i .frame .index-blocks
-unfolding index-area bytes-at
-image-need F s i h =
-    let t = image-told F s i h in
-    let short : length (index-area (i .frame) s) ≤ 256 * i .frame .index-blocks = rw length-take (omega arith) in
-    rw (runs-elements F (i .frame .data-blocks) (data-area (i .frame) s) (t .elements) (i .runs) (t .runs))
-    (index-room F (i .frame .index-blocks) (get (F .layout .nindex2) s) (index-area (i .frame) s) (t .elements) short (t .index))
-
--- what a plan needs to be read back: its runs hold their entries, lie apart inside its blocks, and its index has room
-pub record PlanSound (F : Format) (n D : ℕ) (rs : List Run) : Type 0 where
-  pub holds : All (Holds F) rs
-  pub entries-ok : EntriesOk F [] (all-entries rs)
-  pub laid : Laid D rs
-  pub need : index-need F (map element-of rs) ≤ n
 
 -- the headwords of runs
 abbrev heads : List Run → List (List ℕ)
@@ -160,33 +95,6 @@ renumbered-heads : (g : ℕ) (ms : List Move) (rs : List Run) → heads (map (re
 unfolding renumbered at-block
 renumbered-heads g ms [] = refl
 renumbered-heads g ms (r ∷ rs) = ap (λ (l : List (List ℕ)). r .headword ∷ l) (renumbered-heads g ms rs)
-
--- A fact of runs that does not depend on their places.
-module _ (P : Run → Type 0) (moved : (b : ℕ) (r : Run) → P r → P (at-block b r)) where
-  -- it holds of placed runs
-  place-all : (g D : ℕ) (there rs : List Run) → All P rs → All P (place g D there rs .runs)
-  unfolding place with-run
-  place-all g D there [] k = tt
-  place-all g D there (r ∷ rs) (k, ks) =
-      let b : ℕ = place-for g D there (r .size) in
-      (moved b r k, place-all g (max D (b + r .size)) (at-block b r ∷ there) rs ks)
-
-  -- of renumbered ones
-  renumbered-all : (g : ℕ) (ms : List Move) (rs : List Run) → All P rs → All P (map (renumbered g ms) rs)
-  unfolding renumbered
-  renumbered-all g ms [] k = tt
-  renumbered-all g ms (r ∷ rs) (k, ks) = (moved _ r k, renumbered-all g ms rs ks)
-
-  -- of those before and after the run concerned under a longer index
-  grown-all : (g D : ℕ) (before after : List Run) → All P (before ++ after) → All P (grown g D before after .before) × All P (grown g D before after .after)
-  unfolding grown
-  grown-all g D before after k = (renumbered-all g _ before (all-front P before after k), renumbered-all g _ after (all-back P before after k))
-
-  -- and of packed ones
-  pub packed-all : (b : ℕ) (rs : List Run) → All P rs → All P (packed b rs)
-  unfolding packed
-  packed-all b [] k = tt
-  packed-all b (r ∷ rs) (k, ks) = (moved b r k, packed-all (b + r .size) rs ks)
 
 -- packed runs keep their headwords
 packed-heads : (b : ℕ) (rs : List Run) → heads (packed b rs) ≡ heads rs
@@ -253,7 +161,7 @@ module _ (F : Format) (law : Lawful F) (s : List ℕ) (i : Image) (sound : Sound
   new-hold = parts-hold F law new-parts (cut-is-cut (F .run-limit) (change (target-run F h (i .runs) .entries)) .1) (rw parts-joined parts-ok)
 
   -- its entries are those
-  pub change-entries : all-entries (plan-change F i h change .runs) ≡ whole
+  change-entries : all-entries (plan-change F i h change .runs) ≡ whole
   unfolding plan-change grown new-parts
   change-entries =
       entries-append _ _
@@ -275,7 +183,8 @@ module _ (F : Format) (law : Lawful F) (s : List ℕ) (i : Image) (sound : Sound
   change-runs = refl
 
   -- a fact of runs wherever they stand holds of those of the plan, if it holds of the image's and of the parts
-  pub change-all : (P : Run → Type 0) → ((b : ℕ) (r : Run) → P r → P (at-block b r)) → All P (i .runs) → All P (map new-run (cut (F .run-limit) (change (target-run F h (i .runs) .entries)))) → All P (plan-change F i h change .runs)
+  pub change-all : (P : Run → Type 0) → ((b : ℕ) (r : Run) → P r → P (at-block b r)) → All P (i .runs)
+      → All P (map new-run (cut (F .run-limit) (change (target-run F h (i .runs) .entries)))) → All P (plan-change F i h change .runs)
   unfolding rest added new-parts
   change-all P moved old new =
       let k = grown-all P moved growth (i .frame .data-blocks) (target-run F h (i .runs) .before) (target-run F h (i .runs) .after) (others P old) in
@@ -296,7 +205,7 @@ module _ (F : Format) (law : Lawful F) (s : List ℕ) (i : Image) (sound : Sound
   change-need = omega (arith, same-need F (plan-change F i h change .runs) (target-run F h (i .runs) .before ++ map new-run new-parts ++ target-run F h (i .runs) .after) change-heads)
 
   -- what the plan needs to be read back
-  pub change-sound : PlanSound F (plan-change F i h change .frame .index-blocks) (plan-change F i h change .frame .data-blocks) (plan-change F i h change .runs)
+  change-sound : SoundPlan F (plan-change F i h change)
   change-sound =
       record {
         holds = change-holds;
@@ -322,10 +231,12 @@ module _ (F : Format) (law : Lawful F) (s : List ℕ) (i : Image) (sound : Sound
         let k : Concerned F (a .headword) (i .runs) c = target-concerned F (law .ordered) (a .headword) (i .runs) (sound .ascend) in
         sym (ap (replace (F .below) a) (k .entries) ∙ replace-between F (law .ordered) a (all-entries (c .before)) (c .entries) (all-entries (c .after)) (k .lower) (k .upper))
 
+    -- its plan has the list with the entry put in
     pub insert-entries : all-entries (plan-change F i (a .headword) (replace (F .below) a) .runs) ≡ replace (F .below) a (entries-of i)
     insert-entries = change-entries F law s i sound (a .headword) (replace (F .below) a) (replace (F .below) a (entries-of i)) whole-replaced (replace-ok F (law .ordered) a (entries-of i) image-ascends ok)
 
-    pub insert-sound : PlanSound F (plan-change F i (a .headword) (replace (F .below) a) .frame .index-blocks) (plan-change F i (a .headword) (replace (F .below) a) .frame .data-blocks) (plan-change F i (a .headword) (replace (F .below) a) .runs)
+    -- and what it needs to be read back
+    pub insert-sound : SoundPlan F (plan-change F i (a .headword) (replace (F .below) a))
     insert-sound = change-sound F law s i sound (a .headword) (replace (F .below) a) (replace (F .below) a (entries-of i)) whole-replaced (replace-ok F (law .ordered) a (entries-of i) image-ascends ok)
 
   -- Delete: a headword removed from the run concerned is removed from the whole list
@@ -338,10 +249,12 @@ module _ (F : Format) (law : Lawful F) (s : List ℕ) (i : Image) (sound : Sound
         let k : Concerned F h (i .runs) c = target-concerned F (law .ordered) h (i .runs) (sound .ascend) in
         sym (ap (remove h) (k .entries) ∙ remove-between F (law .ordered) h (all-entries (c .before)) (c .entries) (all-entries (c .after)) (k .lower) (k .upper))
 
+    -- its plan has the list with the headword removed
     pub delete-entries : all-entries (plan-change F i h (remove h) .runs) ≡ remove h (entries-of i)
     delete-entries = change-entries F law s i sound h (remove h) (remove h (entries-of i)) whole-removed (remove-ok F (law .ordered) h (entries-of i) image-ascends)
 
-    pub delete-sound : PlanSound F (plan-change F i h (remove h) .frame .index-blocks) (plan-change F i h (remove h) .frame .data-blocks) (plan-change F i h (remove h) .runs)
+    -- and what it needs to be read back
+    pub delete-sound : SoundPlan F (plan-change F i h (remove h))
     delete-sound = change-sound F law s i sound h (remove h) (remove h (entries-of i)) whole-removed (remove-ok F (law .ordered) h (entries-of i) image-ascends)
 
   -- Optimise: the entries stay
@@ -349,7 +262,8 @@ module _ (F : Format) (law : Lawful F) (s : List ℕ) (i : Image) (sound : Sound
   unfolding plan-packed entries-of
   optimise-entries = packed-entries 0 (i .runs)
 
-  pub optimise-sound : PlanSound F (plan-packed F (i .runs) .frame .index-blocks) (plan-packed F (i .runs) .frame .data-blocks) (plan-packed F (i .runs) .runs)
+  -- its plan has what it needs to be read back
+  pub optimise-sound : SoundPlan F (plan-packed F (i .runs))
   unfolding plan-packed
   optimise-sound =
       record {
@@ -358,50 +272,3 @@ module _ (F : Format) (law : Lawful F) (s : List ℕ) (i : Image) (sound : Sound
         laid = rw zero-add at (packed-laid 0 (i .runs) (holds-sized F (i .runs) (sound .holds)));
         need = omega (arith, same-need F (packed 0 (i .runs)) (i .runs) (packed-heads 0 (i .runs)));
       }
-
--- A plan whose runs hold their entries and lie apart, and which is not full, is written as an image that is read back, and the rest of the slice is kept.
-module _ (F : Format) (law : Lawful F) (n D : ℕ) (rs : List Run) (s : List ℕ) (sound : PlanSound F n D rs) (kind : kind-ok (F .layout) s ≡ true) (options : options-ok (F .layout) s ≡ true) where
-  -- the plan
-  abbrev pub sound-plan : Plan
-  sound-plan = record { frame = record { format = F; index-blocks = n; data-blocks = D }; runs = rs }
-
-  module _ (room : plan-full s (record { frame = record { format = F; index-blocks = n; data-blocks = D }; runs = rs }) ≡ false) where
-    limits : (F .header-bytes + 256 * n + 256 * D ≤ length s) × (D ≤ F .most-blocks) × (n ≤ 32_767)
-    unfolding plan-full frame-length data-start
-    limits =
-        let (a, c) = or-neither (ltb (length s) (F .header-bytes + 256 * n + 256 * D) || ltb (F .most-blocks) D) (ltb 32_767 n) room in
-        let (x, y) = or-neither (ltb (length s) (F .header-bytes + 256 * n + 256 * D)) (ltb (F .most-blocks) D) a in
-        (ltb-false _ _ x, ltb-false _ _ y, ltb-false _ _ c)
-
-    runs-ok : RunsOk F rs
-    runs-ok = hold-runs-ok F (law .ordered) [] rs (sound .holds) (sound .entries-ok)
-
-    numbers : All (λ r. r .block < 256 ^ F .number-width) rs
-    numbers = all-both _ _ _ (λ r (l : r .block + r .size ≤ D) (k : Holds F r). omega (arith, k .some-blocks, limits .1, law .numbers-fit)) rs (laid-inside D rs (sound .laid)) (sound .holds)
-
-    elements-ok : ElementsOk F [] (map element-of rs)
-    elements-ok = hold-elements-ok F (law .ordered) [] rs (sound .holds) (sound .entries-ok) numbers
-
-    -- L is inside the slice
-    pub sound-inside : F .header-bytes + 256 * n + 256 * D ≤ length s
-    sound-inside = limits .0
-
-    -- the image is read back: the plan's frame and runs, and the free blocks as its free list
-    pub sound-back : image-by F (take (F .header-bytes + 256 * n + 256 * D) (plan-written sound-plan s)) ≡ ok (record { frame = record { format = F; index-blocks = n; data-blocks = D }; runs = rs; free-list = free-blocks rs D })
-    sound-back = plan-back F law n D rs s (limits .0) (limits .2) (limits .1) elements-ok (sound .need) runs-ok (sound .laid) kind options
-
-    -- the slice keeps its size
-    pub sound-length : length (plan-written sound-plan s) ≡ length s
-    sound-length = written-length F law n D rs s (limits .0) (limits .2) (limits .1) elements-ok (sound .need) runs-ok (sound .laid) kind options
-
-    -- and all that stands past the new L
-    pub sound-past : (k : ℕ) → F .header-bytes + 256 * n + 256 * D ≤ k → drop k (plan-written sound-plan s) ≡ drop k s
-    sound-past = written-past F law n D rs s (limits .0) (limits .2) (limits .1) elements-ok (sound .need) runs-ok (sound .laid) kind options
-
-    -- "No other header byte changes."
-    pub sound-header : (j : ℕ) → j < F .header-bytes → all (λ f. not (lies-in j f)) (written-fields (F .layout)) ≡ true → bytes-at j 1 (plan-written sound-plan s) ≡ bytes-at j 1 s
-    sound-header = written-header F law n D rs s (limits .0) (limits .2) (limits .1) elements-ok (sound .need) runs-ok (sound .laid) kind options
-
-    -- "adds one to update_count"
-    pub sound-count : get (F .layout .update-count) (plan-written sound-plan s) ≡ (get (F .layout .update-count) s + 1) % 4_294_967_296
-    sound-count = written-count F law n D rs s (limits .0) (limits .2) (limits .1) elements-ok (sound .need) runs-ok (sound .laid) kind options

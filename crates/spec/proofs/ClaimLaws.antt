@@ -9,11 +9,11 @@ use lib.ListN.{length, take, drop}
 use lib.Seq.{length-take-le}
 use lib.Dec.{T, leb, ltb, eqb, leb→le}
 use lib.Pow.{areBytes}
-use borrow.Author.Tests.{leb-true, le-ltb, not-false}
+use borrow.Author.Tests.{le-ltb, not-false}
 use Rattle.spec.specs.Outcome.{Outcome, refused, ok}
 use Rattle.spec.specs.Lists.{all, count}
 use Rattle.spec.specs.Bytes.{from-little-endian, bytes-at, zeros}
-use Rattle.spec.specs.Header.{Format, Layout, LawfulLayout, Lawful, format4, format-of, get, high-version-of, writable, tested-fields, written-fields, lies-in}
+use Rattle.spec.specs.Header.{Format, Lawful, format4, format-of, get, writable, tested-fields, written-fields, lies-in}
 use Rattle.spec.specs.Entry.{Entry, headword-ok, text-ok, attribute-ok, body-ok, entry-of}
 use Rattle.spec.specs.Run.{Run}
 use Rattle.spec.specs.Index.{index-need}
@@ -22,45 +22,27 @@ use Rattle.spec.specs.Check.{Frame, Image, image-in, image-by, image-fro
 use Rattle.spec.specs.SortedList.{lookup}
 use Rattle.spec.specs.Place.{Plan, element-of, plan-change, plan-packed, plan-full, plan-written}
 use Rattle.spec.specs.Calls.{figures, check, plan-length, given-up-zeroed}
-use Rattle.spec.specs.ImageForm.{Accepted}
+use Rattle.spec.specs.ImageForm.{IsImage, Accepted}
 use Rattle.spec.specs.Rows.{SliceRule}
 use Rattle.spec.specs.Claim.{Call, look-up-call, walk-call, insert-call, delete-call, optimise-call, Observed, done, removed, absent, too-short, tell-removed, is-there, Row, _if_, Performed, perform, is-refused, first-row, rows, expected, insert-placing, delete-placing, optimise-placing, slice-after, slice-kept, list-answer, list-after, list-step, is-change, next-count, Zeroed, Matches, AnswersAs, History, call-bytes, SortedListClaim, good-change, InsertRefused, DeleteRefused, OptimiseDone}
-use Rattle.spec.proofs.ListsLaws.{All, all-true, and-left, and-right, both-hold, hold-both, holds-true}
-use Rattle.spec.proofs.WriteLaws.{bytes-at-take}
-use Rattle.spec.proofs.HeaderLaws.{lawful4}
-use Rattle.spec.proofs.RunLaws.{EntriesOk, head-bounds}
+use Rattle.spec.proofs.ListsLaws.{All, and-left, and-right, both-hold, hold-both, holds-true}
+use Rattle.spec.proofs.HeaderLaws.{get-take, fields-inside, fields-same, kind-same, options-same, lawful4}
+use Rattle.spec.proofs.RunLaws.{EntriesOk}
 use Rattle.spec.proofs.CountLaws.{block-once, blocks-once, marks-once}
 use Rattle.spec.proofs.ReadLaws.{frame-fits, ImageTold, image-told, runs-inside, free-list-below}
 use Rattle.spec.proofs.SortedLaws.{ok-sorted, absent-stays}
 use Rattle.spec.proofs.StoredHeaderLaws.{slice-stored}
+use Rattle.spec.proofs.StoredIndexLaws.{empty-below, index-enough}
 use Rattle.spec.proofs.AcceptedLaws.{accepted}
-use Rattle.spec.proofs.ChangeLaws.{Sound, PlanSound, image-sound, image-need, image-ascends, insert-entries, insert-sound, delete-entries, delete-sound, optimise-entries, optimise-sound, sound-inside, sound-back, sound-length, sound-past, sound-header, sound-count}
+use Rattle.spec.proofs.ChangeLaws.{Sound, image-sound, image-ascends, insert-entries, insert-sound, delete-entries, delete-sound, optimise-entries, optimise-sound}
+use Rattle.spec.proofs.PlanLaws.{frame-of, plan-of, PlanSound, written-inside, plan-back, written-length, written-past, written-header, written-count}
 use Rattle.spec.proofs.WrittenLaws.{zeroed-length, zeroed-image, zeroed-past, zeroed-given-up, zeroed-front}
 use Rattle.spec.proofs.StillBytesLaws.{EntryBytes, written-bytes, zeroed-bytes}
 use Rattle.spec.proofs.ChangeBytesLaws.{insert-bytes, delete-bytes, optimise-bytes}
 use Rattle.spec.proofs.AnswerLaws.{in-told, look-up-observed, walk-observed, left, insert-performed, delete-performed, optimise-performed, slice-without, length-without}
 
--- the tested fields lie in the first 256 bytes
-tested-front : (o : Layout) → LawfulLayout o → (L : ℕ) (s : List ℕ) → 256 ≤ L → All (λ g. get g (take L s) ≡ get g s) (tested-fields o)
-unfolding get
-tested-front o law L s h =
-    all-true _ (λ g. leb (g .offset + g .bytes) 256) (λ g e. ap from-little-endian (bytes-at-take (g .offset) (g .bytes) L s (omega (arith, leb-true (g .offset + g .bytes) 256 e)))) (tested-fields o) (law .tested-inside)
-
--- so rows 3 and 4 say the same of the image and of the slice
-kind-front : (o : Layout) → LawfulLayout o → (L : ℕ) (s : List ℕ) → 256 ≤ L → kind-ok o (take L s) ≡ kind-ok o s
-unfolding kind-ok high-version-of tested-fields
-kind-front o law L s h =
-    let q = tested-front o law L s h in
-    rw (q .0, q .1 .0, q .1 .1 .0, q .1 .1 .1 .0)
-
-options-front : (o : Layout) → LawfulLayout o → (L : ℕ) (s : List ℕ) → 256 ≤ L → options-ok o (take L s) ≡ options-ok o s
-unfolding options-ok tested-fields
-options-front o law L s h =
-    let q = tested-front o law L s h .1 .1 .1 .1 in
-    rw (q .0, q .1 .0, q .1 .1 .0, q .1 .1 .1 .0, q .1 .1 .1 .1 .0)
-
--- An accepted image in a slice.
-module _ (s : List ℕ) (L : ℕ) (i : Image) (got : image-in s L ≡ ok i) where
+-- An accepted image in a slice of bytes.
+module _ (s : List ℕ) (L : ℕ) (i : Image) (got : image-in s L ≡ ok i) (small : T (areBytes s)) where
   slice : SliceRule s L
   slice = slice-stored s L .0 (in-told s L i got .0)
 
@@ -69,7 +51,7 @@ module _ (s : List ℕ) (L : ℕ) (i : Image) (got : image-in s L ≡ ok i) wher
   read4 = in-told s L i got .1
 
   -- it has the format of document 01
-  pub format-is : i .frame .format ≡ format4
+  format-is : i .frame .format ≡ format4
   format-is = ap (λ (f : Frame). f .format) (frame-fits format4 (take L s) (i .frame) (image-told format4 (take L s) i read4 .frame) .is)
 
   law : Lawful (i .frame .format)
@@ -92,11 +74,15 @@ module _ (s : List ℕ) (L : ℕ) (i : Image) (got : image-in s L ≡ ok i) wher
   frame-whole : L ≡ i .frame .format .header-bytes + 256 * i .frame .index-blocks + 256 * i .frame .data-blocks
   frame-whole = omega (arith, whole, sound .fits .index-inside, sound .fits .data-are, slice .whole-blocks, law .front-in-blocks)
 
+  -- the tested fields lie in the image, so rows 3 and 4 say the same of it and of the slice
+  tested : All (λ g. get g (take L s) ≡ get g s) (tested-fields (i .frame .format .layout))
+  tested = fields-same (take L s) s _ (λ g h. get-take g L s (omega (arith, slice .long-enough))) (law .layout-lawful .tested-inside)
+
   kind : kind-ok (i .frame .format .layout) s ≡ true
-  kind = sym (kind-front (i .frame .format .layout) (law .layout-lawful) L s (slice .long-enough)) ∙ sound .fits .kind
+  kind = sym (kind-same (i .frame .format .layout) (take L s) s tested) ∙ sound .fits .kind
 
   options : options-ok (i .frame .format .layout) s ≡ true
-  options = sym (options-front (i .frame .format .layout) (law .layout-lawful) L s (slice .long-enough)) ∙ sound .fits .options
+  options = sym (options-same (i .frame .format .layout) (take L s) s tested) ∙ sound .fits .options
 
   below-D : All (λ a. a < i .frame .data-blocks) (i .free-list)
   below-D = free-list-below _ (i .frame .data-blocks) _ _ (i .free-list) (told .free-list)
@@ -105,22 +91,27 @@ module _ (s : List ℕ) (L : ℕ) (i : Image) (got : image-in s L ≡ ok i) wher
   blocks = blocks-once (i .frame .data-blocks) (i .runs) (i .free-list) (told .once) (runs-inside (i .frame .format) (i .frame .data-blocks) _ (told .elements) (i .runs) (told .runs)) below-D
 
   -- "A check then answers as many headwords as the sorted list has entries, and data blocks = blocks in runs + free blocks"
-  checked : check s L ≡ ok (record { headwords = length (entries-of i); index-blocks = i .frame .index-blocks; data-blocks = run-blocks (i .runs) + length (i .free-list); free-blocks = length (i .free-list) })
+  checked : check s L
+      ≡ ok (record { headwords = length (entries-of i); index-blocks = i .frame .index-blocks; data-blocks = run-blocks (i .runs) + length (i .free-list); free-blocks = length (i .free-list) })
   unfolding check figures
   checked = rw (got, marks-once (i .frame .data-blocks) (i .runs) (i .free-list) (told .once) below-D, ← blocks) refl
 
   once : (b : ℕ) → b < run-blocks (i .runs) + length (i .free-list) → count (covers b) (i .runs) + count (eqb b) (i .free-list) ≡ 1
   once b h = block-once (i .frame .data-blocks) (i .runs) (i .free-list) (told .once) b (omega (arith, blocks))
 
-  -- what holds between two calls
-  matches : T (areBytes s) → Matches (i .frame .format .below) s L (entries-of i)
+  -- its bytes are made up as the format says
+  described : IsImage (take L s) i
   unfolding Accepted
-  matches small =
+  described = accepted s L i small .0 got .1
+
+  -- what holds between two calls
+  matches : Matches (i .frame .format .below) s L (entries-of i)
+  matches =
       record {
         image = i;
         accepted = got;
         bytes = small;
-        made-up = accepted s L i small .0 got .1;
+        made-up = described;
         same-order = refl;
         entries = refl;
         sorted = ok-sorted (i .frame .format) (law .ordered) [] (entries-of i) (image-ascends (i .frame .format) law (take L s) i sound);
@@ -134,7 +125,7 @@ module _ (s : List ℕ) (L : ℕ) (i : Image) (got : image-in s L ≡ ok i) wher
     image : Image
     accepted : image-in (r .image) (r .length-after) ≡ ok image
     entries : entries-of image ≡ list-step (i .frame .format .below) (is-refused (r .observed)) c (entries-of i)
-    bytes : T (areBytes s) → T (call-bytes c) → T (areBytes (r .image))
+    bytes : T (call-bytes c) → T (areBytes (r .image))
 
   -- no byte of the slice changes
   slice-same : (t : Bool) → s ≡ slice-kept t s s
@@ -157,8 +148,10 @@ module _ (s : List ℕ) (L : ℕ) (i : Image) (got : image-in s L ≡ ok i) wher
   never false = refl
 
   -- a call that leaves everything, and the sorted list too
-  idle : (c : Call) (o : Outcome Observed) → o ≡ expected (first-row (rows s i (entries-of i) c)) (list-answer (i .frame .format .below) c (entries-of i)) → s ≡ slice-kept (is-refused o) s (slice-after s L i c)
-      → entries-of i ≡ list-step (i .frame .format .below) (is-refused o) c (entries-of i) → not (is-refused o) && is-change c (entries-of i) ≡ false → Next c (record { observed = o; image = s; length-after = L })
+  idle : (c : Call) (o : Outcome Observed) → o ≡ expected (first-row (rows s i (entries-of i) c)) (list-answer (i .frame .format .below) c (entries-of i))
+      → s ≡ slice-kept (is-refused o) s (slice-after s L i c)
+      → entries-of i ≡ list-step (i .frame .format .below) (is-refused o) c (entries-of i) → not (is-refused o) && is-change c (entries-of i) ≡ false
+      → Next c (record { observed = o; image = s; length-after = L })
   unfolding next-count
   idle c o e b l n =
       record {
@@ -166,7 +159,7 @@ module _ (s : List ℕ) (L : ℕ) (i : Image) (got : image-in s L ≡ ok i) wher
         image = i;
         accepted = got;
         entries = l;
-        bytes = λ b k. b;
+        bytes = λ k. small;
       }
 
   -- a refusal
@@ -193,17 +186,17 @@ module _ (s : List ℕ) (L : ℕ) (i : Image) (got : image-in s L ≡ ok i) wher
       go false = refl
 
   -- A change that is placed: the plan of n index blocks, D data blocks and the runs rs, and the slice t afterwards.
-  module _ (n D : ℕ) (rs : List Run) (plan-sound : PlanSound (i .frame .format) n D rs) (room : plan-full s (record { frame = record { format = i .frame .format; index-blocks = n; data-blocks = D }; runs = rs }) ≡ false) where
+  module _ (n D : ℕ) (rs : List Run) (plan-sound : PlanSound (i .frame .format) n D rs) (room : plan-full s (plan-of (i .frame .format) n D rs) ≡ false) where
     -- the plan
     abbrev plan : Plan
-    plan = record { frame = record { format = i .frame .format; index-blocks = n; data-blocks = D }; runs = rs }
+    plan = plan-of (i .frame .format) n D rs
 
     -- and its L
     abbrev new : ℕ
     new = i .frame .format .header-bytes + 256 * n + 256 * D
 
     new-inside : new ≤ length s
-    new-inside = sound-inside (i .frame .format) law n D rs s plan-sound kind options room
+    new-inside = written-inside (i .frame .format) law n D rs s plan-sound kind options room
 
     -- it is an accepted image of the slice
     module _ (t : List ℕ) (size : length t ≡ length s) (front : take new t ≡ take new (plan-written plan s)) where
@@ -211,17 +204,18 @@ module _ (s : List ℕ) (L : ℕ) (i : Image) (got : image-in s L ≡ ok i) wher
       new-slice = slice-stored t new .1 (record { long-enough = omega (arith, law .header-inside); whole-blocks = omega (arith, law .front-in-blocks); in-slice = omega (arith, new-inside) })
 
       abbrev new-image : Image
-      new-image = record { frame = record { format = i .frame .format; index-blocks = n; data-blocks = D }; runs = rs; free-list = free-blocks rs D }
+      new-image = record { frame = frame-of (i .frame .format) n D; runs = rs; free-list = free-blocks rs D }
 
       new-read : image-in t new ≡ ok new-image
       unfolding image-in image-from format-of
-      new-read = rw (new-slice, front) (subst (λ (F : Format). image-by F (take new (plan-written plan s)) ≡ ok new-image) format-is (sound-back (i .frame .format) law n D rs s plan-sound kind options room))
+      new-read = rw (new-slice, front) (subst (λ (F : Format). image-by F (take new (plan-written plan s)) ≡ ok new-image) format-is (plan-back (i .frame .format) law n D rs s plan-sound kind options room))
 
       -- a change that is done
       placed : (c : Call) (x : Observed) → first-row (rows s i (entries-of i) c) ≡ none → list-answer (i .frame .format .below) c (entries-of i) ≡ x → slice-after s L i c ≡ t
           → all-entries rs ≡ list-after (i .frame .format .below) c (entries-of i) → drop (max L new) t ≡ drop (max L new) s
           → ((j : ℕ) → j < i .frame .format .header-bytes → all (λ f. not (lies-in j f)) (written-fields (i .frame .format .layout)) ≡ true → bytes-at j 1 t ≡ bytes-at j 1 s)
-          → Zeroed c t new L → get (i .frame .format .layout .update-count) t ≡ (get (i .frame .format .layout .update-count) s + 1) % 4_294_967_296 → is-change c (entries-of i) ≡ true → (T (areBytes s) → T (call-bytes c) → T (areBytes t)) → Next c (record { observed = ok x; image = t; length-after = new })
+          → Zeroed c t new L → get (i .frame .format .layout .update-count) t ≡ (get (i .frame .format .layout .update-count) s + 1) % 4_294_967_296
+          → is-change c (entries-of i) ≡ true → (T (call-bytes c) → T (areBytes t)) → Next c (record { observed = ok x; image = t; length-after = new })
       unfolding expected is-refused slice-kept list-step entries-of next-count
       placed c x e a b l past header zeroed up ch still =
           record {
@@ -244,15 +238,12 @@ module _ (s : List ℕ) (L : ℕ) (i : Image) (got : image-in s L ≡ ok i) wher
   -- arguments by their rules make an entry that may stand alone
   entry-good : (h : List ℕ) (a : ℕ) (t : List ℕ) → headword-ok h ≡ true → text-ok t && attribute-ok a ≡ true → EntriesOk (i .frame .format) [] (entry-of h a t ∷ [])
   unfolding entry-of body-ok
-  entry-good h a t p q = (p, rw (and-right (text-ok t) (attribute-ok a) q, and-left (text-ok t) (attribute-ok a) q), start h p, tt)
-    where
-      start : (h : List ℕ) → headword-ok h ≡ true → i .frame .format .below [] h ≡ true
-      start [] p = absurd (omega (arith, head-bounds [] p))
-      start (x ∷ h) p = law .ordered .empty-least x h
+  entry-good h a t p q = (p, rw (and-right (text-ok t) (attribute-ok a) q, and-left (text-ok t) (attribute-ok a) q), empty-below (i .frame .format .below) (law .ordered) h p, tt)
 
   -- an insertion
   module _ (work h : List ℕ) (a : ℕ) (t : List ℕ) where
-    insert-rows-none : first-row (rows s i (entries-of i) (insert-call work h a t)) ≡ none → (headword-ok h ≡ true) × (text-ok t && attribute-ok a ≡ true) × (plan-full s (insert-placing i h a t) ≡ false)
+    insert-rows-none : first-row (rows s i (entries-of i) (insert-call work h a t)) ≡ none
+        → (headword-ok h ≡ true) × (text-ok t && attribute-ok a ≡ true) × (plan-full s (insert-placing i h a t) ≡ false)
     unfolding rows _if_
     insert-rows-none e =
         let (x₁, e₁) = first-none _ _ e in
@@ -279,19 +270,20 @@ module _ (s : List ℕ) (L : ℕ) (i : Image) (got : image-in s L ≡ ok i) wher
         let good : EntriesOk F [] (entry-of h a t ∷ []) = entry-good h a t p q in
         let plan : Plan = insert-placing i h a t in
         let k = insert-sound F law (take L s) i sound (entry-of h a t) good in
-        placed (plan .frame .index-blocks) (plan .frame .data-blocks) (plan .runs) k room (plan-written plan s) (sound-length F law _ _ _ s k kind options room) refl (insert-call work h a t) done e refl refl
+        placed (plan .frame .index-blocks) (plan .frame .data-blocks) (plan .runs) k room (plan-written plan s) (written-length F law _ _ _ s k kind options room) refl (insert-call work h a t) done e refl refl
         (insert-entries F law (take L s) i sound (entry-of h a t) good)
-        (sound-past F law _ _ _ s k kind options room (max L (plan-length plan)) (omega arith))
-        (sound-header F law _ _ _ s k kind options room)
+        (written-past F law _ _ _ s k kind options room (max L (plan-length plan)) (omega arith))
+        (written-header F law _ _ _ s k kind options room)
         tt
-        (sound-count F law _ _ _ s k kind options room)
+        (written-count F law _ _ _ s k kind options room)
         refl
-        (λ b c. written-bytes plan s b (insert-bytes F law L s i read sound b (entry-of h a t) good (insert-argument c)))
+        (λ c. written-bytes plan s small (insert-bytes F law L s i read sound small (entry-of h a t) good (insert-argument c)))
 
     insert-next : Next (insert-call work h a t) (perform s L (insert-call work h a t))
     insert-next = rw (insert-performed s L i got work h a t) (go (first-row (rows s i (entries-of i) (insert-call work h a t))) refl)
       where
-        go : (o : Option ℕ) → first-row (rows s i (entries-of i) (insert-call work h a t)) ≡ o → Next (insert-call work h a t) (left s L i got done o (plan-written (insert-placing i h a t) s) (plan-length (insert-placing i h a t)))
+        go : (o : Option ℕ) → first-row (rows s i (entries-of i) (insert-call work h a t)) ≡ o
+            → Next (insert-call work h a t) (left s L i got done o (plan-written (insert-placing i h a t) s) (plan-length (insert-placing i h a t)))
         go (some n) e = refusal (insert-call work h a t) n e
         go none e = insert-placed e
 
@@ -307,7 +299,8 @@ module _ (s : List ℕ) (L : ℕ) (i : Image) (got : image-in s L ≡ ok i) wher
         x₄
 
     -- an absent one changes nothing
-    delete-absent : lookup h (entries-of i) ≡ none → first-row (rows s i (entries-of i) (delete-call work h)) ≡ none → Next (delete-call work h) (record { observed = ok absent; image = s; length-after = L })
+    delete-absent : lookup h (entries-of i) ≡ none → first-row (rows s i (entries-of i) (delete-call work h)) ≡ none
+        → Next (delete-call work h) (record { observed = ok absent; image = s; length-after = L })
     unfolding expected list-answer tell-removed is-refused slice-kept slice-after list-step list-after is-change is-there
     delete-absent l e = idle (delete-call work h) (ok absent) (rw (e, l)) (rw (l, slice-after)) (sym (absent-stays h (entries-of i) l)) (rw l)
 
@@ -319,14 +312,14 @@ module _ (s : List ℕ) (L : ℕ) (i : Image) (got : image-in s L ≡ ok i) wher
         let F : Format = i .frame .format in
         let plan : Plan = delete-placing i h in
         let k = delete-sound F law (take L s) i sound h in
-        placed (plan .frame .index-blocks) (plan .frame .data-blocks) (plan .runs) k room (plan-written plan s) (sound-length F law _ _ _ s k kind options room) refl (delete-call work h) removed e (rw l) (rw (l, slice-after))
+        placed (plan .frame .index-blocks) (plan .frame .data-blocks) (plan .runs) k room (plan-written plan s) (written-length F law _ _ _ s k kind options room) refl (delete-call work h) removed e (rw l) (rw (l, slice-after))
         (delete-entries F law (take L s) i sound h)
-        (sound-past F law _ _ _ s k kind options room (max L (plan-length plan)) (omega arith))
-        (sound-header F law _ _ _ s k kind options room)
+        (written-past F law _ _ _ s k kind options room (max L (plan-length plan)) (omega arith))
+        (written-header F law _ _ _ s k kind options room)
         tt
-        (sound-count F law _ _ _ s k kind options room)
+        (written-count F law _ _ _ s k kind options room)
         (rw l)
-        (λ b c. written-bytes plan s b (delete-bytes F law L s i read sound b h))
+        (λ c. written-bytes plan s small (delete-bytes F law L s i read sound small h))
 
     delete-next : Next (delete-call work h) (perform s L (delete-call work h))
     unfolding tell-removed
@@ -340,12 +333,16 @@ module _ (s : List ℕ) (L : ℕ) (i : Image) (got : image-in s L ≡ ok i) wher
 
   count-inside : i .frame .format .layout .update-count .offset + i .frame .format .layout .update-count .bytes ≤ 256
   unfolding written-fields
-  count-inside = all-true (λ g. g .offset + g .bytes ≤ 256) (λ g. leb (g .offset + g .bytes) 256) (λ g e. leb-true (g .offset + g .bytes) 256 e) (written-fields (i .frame .format .layout)) (law .layout-lawful .written-inside) .1 .1 .1 .1 .1 .0
+  count-inside = fields-inside (written-fields (i .frame .format .layout)) (law .layout-lawful .written-inside) .1 .1 .1 .1 .1 .0
+
+  -- the index has the blocks that its elements need
+  index-room : index-need (i .frame .format) (map element-of (i .runs)) ≤ i .frame .index-blocks
+  index-room = index-enough (i .frame .format) _ (described .index) _ (described .index-length) (described .index-stored)
 
   -- an optimising needs no more than there is
   packed-shorter : plan-length (optimise-placing i) ≤ L
   unfolding optimise-placing plan-packed plan-length frame-length data-start
-  packed-shorter = omega (arith, frame-whole, blocks, image-need (i .frame .format) (take L s) i read)
+  packed-shorter = omega (arith, frame-whole, blocks, index-room)
 
   -- so it is never too long for the slice
   pub packed-room : plan-full s (optimise-placing i) ≡ false
@@ -353,7 +350,7 @@ module _ (s : List ℕ) (L : ℕ) (i : Image) (got : image-in s L ≡ ok i) wher
   packed-room =
       let p : frame-length (optimise-placing i .frame) ≤ length s = omega (arith, packed-shorter, slice .in-slice) in
       let q : run-blocks (i .runs) ≤ i .frame .format .most-blocks = omega (arith, blocks, sound .fits .data-few) in
-      let r : index-need (i .frame .format) (map element-of (i .runs)) ≤ 32_767 = omega (arith, image-need (i .frame .format) (take L s) i read, sound .fits .index-few) in
+      let r : index-need (i .frame .format) (map element-of (i .runs)) ≤ 32_767 = omega (arith, index-room, sound .fits .index-few) in
       rw (le-ltb (length s) (frame-length (optimise-placing i .frame)) p, le-ltb (i .frame .format .most-blocks) (run-blocks (i .runs)) q, le-ltb 32_767 (index-need (i .frame .format) (map element-of (i .runs))) r)
 
   module _ (work : List ℕ) where
@@ -365,16 +362,16 @@ module _ (s : List ℕ) (L : ℕ) (i : Image) (got : image-in s L ≡ ok i) wher
         let plan : Plan = optimise-placing i in
         let k = optimise-sound F law (take L s) i sound in
         let t : List ℕ = plan-written plan s in
-        let size : length t ≡ length s = sound-length F law _ _ _ s k kind options packed-room in
+        let size : length t ≡ length s = written-length F law _ _ _ s k kind options packed-room in
         let inside : L ≤ length t = omega (arith, slice .in-slice) in
         placed (plan .frame .index-blocks) (plan .frame .data-blocks) (plan .runs) k packed-room (given-up-zeroed L plan t) (zeroed-length (plan-length plan) L t packed-shorter inside ∙ size) (zeroed-image (plan-length plan) L t packed-shorter inside) (optimise-call work) done e refl refl
         (optimise-entries F law (take L s) i sound)
-        (zeroed-past (plan-length plan) L t packed-shorter inside (max L (plan-length plan)) (omega arith) ∙ sound-past F law _ _ _ s k kind options packed-room (max L (plan-length plan)) (omega arith))
-        (λ j h a. zeroed-front (plan-length plan) L t packed-shorter inside j 1 (omega arith) ∙ sound-header F law _ _ _ s k kind options packed-room j h a)
+        (zeroed-past (plan-length plan) L t packed-shorter inside (max L (plan-length plan)) (omega arith) ∙ written-past F law _ _ _ s k kind options packed-room (max L (plan-length plan)) (omega arith))
+        (λ j h a. zeroed-front (plan-length plan) L t packed-shorter inside j 1 (omega arith) ∙ written-header F law _ _ _ s k kind options packed-room j h a)
         (packed-shorter, zeroed-given-up (plan-length plan) L t packed-shorter inside)
-        (ap from-little-endian (zeroed-front (plan-length plan) L t packed-shorter inside (F .layout .update-count .offset) (F .layout .update-count .bytes) (omega (arith, count-inside, law .header-inside))) ∙ sound-count F law _ _ _ s k kind options packed-room)
+        (ap from-little-endian (zeroed-front (plan-length plan) L t packed-shorter inside (F .layout .update-count .offset) (F .layout .update-count .bytes) (omega (arith, count-inside, law .header-inside))) ∙ written-count F law _ _ _ s k kind options packed-room)
         refl
-        (λ b c. zeroed-bytes L plan t (written-bytes plan s b (optimise-bytes F law L s i read sound b)))
+        (λ c. zeroed-bytes L plan t (written-bytes plan s small (optimise-bytes F law L s i read sound small)))
 
     optimise-next : Next (optimise-call work) (perform s L (optimise-call work))
     optimise-next = rw (optimise-performed s L i got work) (go (first-row (rows s i (entries-of i) (optimise-call work))) refl)
@@ -397,11 +394,11 @@ history : (cs : List Call) (s : List ℕ) (L : ℕ) (i : Image) → image-in s L
 unfolding History all matches
 history [] s L i got small k = matches s L i got small
 history (c ∷ cs) s L i got small k =
-    let n = next s L i got c in
+    let n = next s L i got small c in
     let r : Performed = perform s L c in
     let (a, b) = both-hold (call-bytes c) (all call-bytes cs) k in
-    let after = history cs (r .image) (r .length-after) (n .image) (n .accepted) (n .bytes small a) b in
-    let same : n .image .frame .format .below ≡ i .frame .format .below = ap (λ (F : Format). F .below) (format-is (r .image) (r .length-after) (n .image) (n .accepted) ∙ sym (format-is s L i got)) in
+    let after = history cs (r .image) (r .length-after) (n .image) (n .accepted) (n .bytes a) b in
+    let same : n .image .frame .format .below ≡ i .frame .format .below = ap (λ (F : Format). F .below) (format-is (r .image) (r .length-after) (n .image) (n .accepted) (n .bytes a) ∙ sym (format-is s L i got small)) in
     (matches s L i got small, n .answers, subst (λ (es : List Entry). History (i .frame .format .below) (r .image) (r .length-after) es cs) (n .entries) (subst (λ (below : List ℕ → List ℕ → Bool). History below (r .image) (r .length-after) (entries-of (n .image)) cs) same after))
 
 -- THE CLAIM
@@ -417,9 +414,9 @@ is-row none = false
 is-row (some n) = true
 
 -- a call is refused exactly when one of its rows applies
-refused-by : (s : List ℕ) (L : ℕ) (i : Image) → image-in s L ≡ ok i → (c : Call) → is-refused (perform s L c .observed) ≡ is-row (first-row (rows s i (entries-of i) c))
+refused-by : (s : List ℕ) (L : ℕ) (i : Image) → image-in s L ≡ ok i → T (areBytes s) → (c : Call) → is-refused (perform s L c .observed) ≡ is-row (first-row (rows s i (entries-of i) c))
 unfolding is-refused expected
-refused-by s L i got c = rw (next s L i got c .answers .observed) (go (first-row (rows s i (entries-of i) c)))
+refused-by s L i got small c = rw (next s L i got small c .answers .observed) (go (first-row (rows s i (entries-of i) c)))
   where
     go : (o : Option ℕ) → is-refused (expected o (list-answer (i .frame .format .below) c (entries-of i))) ≡ is-row o
     go none = refl
@@ -449,18 +446,18 @@ pub insert-refused : InsertRefused
 unfolding InsertRefused rows
 insert-refused s L i small got work h a t good arguments =
     let (x, y, z) = good-rows s i work h good in
-    refused-by s L i got (insert-call work h a t) ∙ row-passed 2 _ _ x ∙ row-passed 11 _ _ y ∙ row-passed 12 _ _ z ∙ row-passed 13 _ _ (ap not (holds-true (text-ok t && attribute-ok a) arguments)) ∙ row-last 15 _
+    refused-by s L i got small (insert-call work h a t) ∙ row-passed 2 _ _ x ∙ row-passed 11 _ _ y ∙ row-passed 12 _ _ z ∙ row-passed 13 _ _ (ap not (holds-true (text-ok t && attribute-ok a) arguments)) ∙ row-last 15 _
 
 -- the same of a deletion of a stored headword
 pub delete-refused : DeleteRefused
 unfolding DeleteRefused rows is-there
 delete-refused s L i small got work h e good found =
     let (x, y, z) = good-rows s i work h good in
-    refused-by s L i got (delete-call work h) ∙ row-passed 2 _ _ x ∙ row-passed 11 _ _ y ∙ row-passed 12 _ _ z ∙ row-last 15 _ ∙ rw (found, is-there)
+    refused-by s L i got small (delete-call work h) ∙ row-passed 2 _ _ x ∙ row-passed 11 _ _ y ∙ row-passed 12 _ _ z ∙ row-last 15 _ ∙ rw (found, is-there)
 
 -- an optimising is not refused for want of space
 pub optimise-done : OptimiseDone
 unfolding OptimiseDone rows too-short
 optimise-done s L i small got work good =
     let (y, z) = both-hold (leb (length s) (length work)) (writable (i .frame .format .layout) s) good in
-    refused-by s L i got (optimise-call work) ∙ row-passed 2 _ _ (le-ltb (length work) (length s) (leb→le (length s) (length work) y)) ∙ row-passed 11 _ _ (ap not (holds-true (writable (i .frame .format .layout) s) z)) ∙ row-last 15 _ ∙ packed-room s L i got
+    refused-by s L i got small (optimise-call work) ∙ row-passed 2 _ _ (le-ltb (length work) (length s) (leb→le (length s) (length work) y)) ∙ row-passed 11 _ _ (ap not (holds-true (writable (i .frame .format .layout) s) z)) ∙ row-last 15 _ ∙ packed-room s L i got small

@@ -21,13 +21,13 @@ total f i zero = 0
 total f i (suc n) = f i + total f (suc i) n
 
 -- the sum of equal values
-pub total-const : (f : ℕ → ℕ) (c i n : ℕ) → ((b : ℕ) → i ≤ b → b < i + n → f b ≡ c) → total f i n ≡ n * c
+total-const : (f : ℕ → ℕ) (c i n : ℕ) → ((b : ℕ) → i ≤ b → b < i + n → f b ≡ c) → total f i n ≡ n * c
 unfolding total
 total-const f c i zero h = omega arith
 total-const f c i (suc n) h = omega (arith, h i (omega arith) (omega arith), total-const f c (suc i) n (λ b p q. h b (omega arith) (omega arith)))
 
 -- the sum of two functions
-pub total-add : (f g : ℕ → ℕ) (i n : ℕ) → total (λ b. f b + g b) i n ≡ total f i n + total g i n
+total-add : (f g : ℕ → ℕ) (i n : ℕ) → total (λ b. f b + g b) i n ≡ total f i n + total g i n
 unfolding total
 total-add f g i zero = refl
 total-add f g i (suc n) = omega (arith, total-add f g (suc i) n)
@@ -45,13 +45,13 @@ total-join f i (suc m) n =
     rw (p, q) (omega (arith, total-join f (suc i) m n))
 
 -- the sums of functions that agree
-pub total-same : (f g : ℕ → ℕ) (i n : ℕ) → ((b : ℕ) → i ≤ b → b < i + n → f b ≡ g b) → total f i n ≡ total g i n
+total-same : (f g : ℕ → ℕ) (i n : ℕ) → ((b : ℕ) → i ≤ b → b < i + n → f b ≡ g b) → total f i n ≡ total g i n
 unfolding total
 total-same f g i zero h = refl
 total-same f g i (suc n) h = omega (arith, h i (omega arith) (omega arith), total-same f g (suc i) n (λ b p q. h b (omega arith) (omega arith)))
 
 -- a test that holds for m numbers from a up and no others, over a range that has these
-pub total-span : (f : ℕ → Bool) (i n a m : ℕ) → i ≤ a → a + m ≤ i + n → ((b : ℕ) → a ≤ b → b < a + m → f b ≡ true) → ((b : ℕ) → (b < a) ⊎ (a + m ≤ b) → f b ≡ false)
+total-span : (f : ℕ → Bool) (i n a m : ℕ) → i ≤ a → a + m ≤ i + n → ((b : ℕ) → a ≤ b → b < a + m → f b ≡ true) → ((b : ℕ) → (b < a) ⊎ (a + m ≤ b) → f b ≡ false)
     → total (λ b. one (f b)) i n ≡ m
 total-span f i n a m h k inside outside =
     let e : n ≡ (a - i) + (m + (i + n - (a + m))) = omega arith in
@@ -63,7 +63,7 @@ total-span f i n a m h k inside outside =
     ap (total t i) e ∙ total-join t i (a - i) (m + (i + n - (a + m))) ∙ rw (z, total-join t a m (i + n - (a + m)), p, q, r) (omega arith)
 
 -- a test over a range counts as its sum
-pub count-range : (f : ℕ → Bool) (i n : ℕ) → count f (range-from i n) ≡ total (λ b. one (f b)) i n
+count-range : (f : ℕ → Bool) (i n : ℕ) → count f (range-from i n) ≡ total (λ b. one (f b)) i n
 unfolding count range-from total filter
 count-range f i zero = refl
 count-range f i (suc n) = count-cons f i (range-from (suc i) n) ∙ ap (λ (k : ℕ). one (f i) + k) (count-range f (suc i) n)
@@ -99,7 +99,7 @@ total-cons : {A : Type 0} (t : ℕ → A → Bool) (a : A) (l : List A) (i n : �
 total-cons t a l i n = total-same _ (λ b. one (t b a) + count (t b) l) i n (λ b p q. count-cons (t b) a l) ∙ total-add (λ b. one (t b a)) (λ b. count (t b) l) i n
 
 -- each number below D as often as it stands in a list: the list's length
-pub count-numbers : (D : ℕ) (fl : List ℕ) → All (λ a. a < D) fl → total (λ b. count (eqb b) fl) 0 D ≡ length fl
+count-numbers : (D : ℕ) (fl : List ℕ) → All (λ a. a < D) fl → total (λ b. count (eqb b) fl) 0 D ≡ length fl
 unfolding count filter
 count-numbers D [] h = total-const (λ b. 0) 0 0 D (λ b p q. refl) ∙ omega arith
 count-numbers D (a ∷ fl) (h, hs) =
@@ -110,14 +110,21 @@ count-numbers D (a ∷ fl) (h, hs) =
     ) (omega arith)
 
 -- each block below D as often as runs cover it: the blocks in runs
-pub count-covered : (D : ℕ) (rs : List Run) → All (λ r. r .block + r .size ≤ D) rs → total (λ b. count (covers b) rs) 0 D ≡ run-blocks rs
+count-covered : (D : ℕ) (rs : List Run) → All (λ r. r .block + r .size ≤ D) rs → total (λ b. count (covers b) rs) 0 D ≡ run-blocks rs
 unfolding count filter run-blocks
 count-covered D [] h = total-const (λ b. 0) 0 0 D (λ b p q. refl) ∙ omega arith
 count-covered D (r ∷ rs) (h, hs) =
     total-cons covers r rs 0 D ∙ rw (total-span (λ b. covers b r) 0 D (r .block) (r .size) (omega arith) (omega arith) (covers-inside r) (covers-outside r), count-covered D rs hs)
 
+-- where each block below D is counted once, in runs or on a list of such numbers, the counts in runs and the list's length make D
+pub once-sum : (D : ℕ) (rs : List Run) (fl : List ℕ) → All (λ a. a < D) fl → ((b : ℕ) → b < D → count (covers b) rs + count (eqb b) fl ≡ 1)
+    → total (λ b. count (covers b) rs) 0 D + length fl ≡ D
+once-sum D rs fl below once =
+    let e : total (λ b. count (covers b) rs + count (eqb b) fl) 0 D ≡ D * 1 = total-const _ 1 0 D (λ b p q. once b (omega arith)) in
+    omega (arith, e, total-add (λ b. count (covers b) rs) (λ b. count (eqb b) fl) 0 D, count-numbers D fl below)
+
 -- the marks by a list of numbers below D, none of which stands twice in it, are as many as its numbers
-pub count-free-marks : (D : ℕ) (fl : List ℕ) → All (λ a. a < D) fl → ((b : ℕ) → b < D → count (eqb b) fl ≤ 1) → count-marks (free-marks D fl) ≡ length fl
+count-free-marks : (D : ℕ) (fl : List ℕ) → All (λ a. a < D) fl → ((b : ℕ) → b < D → count (eqb b) fl ≤ 1) → count-marks (free-marks D fl) ≡ length fl
 unfolding count-marks free-marks
 count-free-marks D fl h k = count-map (λ b. any (eqb b) fl) (range-from 0 D) ∙ count-range _ 0 D ∙ total-same _ _ 0 D (λ b p q. count-once (eqb b) fl (k b (omega arith))) ∙ count-numbers D fl h
 
@@ -132,7 +139,7 @@ module _ (D : ℕ) (rs : List Run) (fl : List ℕ) (once : each-once D rs fl ≡
   marks-once below = count-free-marks D fl below (λ b h. omega (arith, block-once b h))
 
   -- the free list's marks are those of the blocks that no run covers
-  pub marks-free : free-marks D fl ≡ map (is-free rs) (range-from 0 D)
+  marks-free : free-marks D fl ≡ map (is-free rs) (range-from 0 D)
   unfolding free-marks is-free
   marks-free = map-range _ _ 0 D (λ b p q. other (any (covers b) rs) (any (eqb b) fl) (ones b (omega arith)))
     where
@@ -154,9 +161,7 @@ module _ (D : ℕ) (rs : List Run) (fl : List ℕ) (once : each-once D rs fl ≡
 
   -- the blocks in runs and the free blocks are all data blocks
   pub blocks-once : All (λ r. r .block + r .size ≤ D) rs → All (λ a. a < D) fl → run-blocks rs + length fl ≡ D
-  blocks-once inside below =
-      let e : total (λ b. count (covers b) rs + count (eqb b) fl) 0 D ≡ D * 1 = total-const _ 1 0 D (λ b p q. block-once b (omega arith)) in
-      omega (arith, e, total-add (λ b. count (covers b) rs) (λ b. count (eqb b) fl) 0 D, count-covered D rs inside, count-numbers D fl below)
+  blocks-once inside below = omega (arith, once-sum D rs fl below block-once, count-covered D rs inside)
 
 -- numbers that are each at least 1 sum to at least as many as they are
 total-least : (f : ℕ → ℕ) (i n : ℕ) → ((b : ℕ) → i ≤ b → b < i + n → 1 ≤ f b) → n ≤ total f i n
@@ -165,7 +170,7 @@ total-least f i zero h = omega arith
 total-least f i (suc n) h = omega (arith, h i (omega arith) (omega arith), total-least f (suc i) n (λ b p q. h b (omega arith) (omega arith)))
 
 -- and are each 1 where they sum to just that
-pub total-ones : (f : ℕ → ℕ) (i n : ℕ) → ((b : ℕ) → i ≤ b → b < i + n → 1 ≤ f b) → total f i n ≡ n → (b : ℕ) → i ≤ b → b < i + n → f b ≡ 1
+total-ones : (f : ℕ → ℕ) (i n : ℕ) → ((b : ℕ) → i ≤ b → b < i + n → 1 ≤ f b) → total f i n ≡ n → (b : ℕ) → i ≤ b → b < i + n → f b ≡ 1
 unfolding total
 total-ones f i zero h e b p q = absurd (omega arith)
 total-ones f i (suc n) h e b p q =
@@ -179,7 +184,8 @@ count-some f l h = ⊎-elim (λ (k : count f l < 1). absurd (omega (arith, rw h 
 
 module _ (D : ℕ) (rs : List Run) (fl : List ℕ) where
   -- where each data block lies in a run or on the free list, and these are no more blocks than D, each lies in one run, or once on the list
-  pub once-by-cover : All (λ r. r .block + r .size ≤ D) rs → All (λ a. a < D) fl → run-blocks rs + length fl ≡ D → ((b : ℕ) → b < D → (any (covers b) rs || any (eqb b) fl) ≡ true) → each-once D rs fl ≡ true
+  pub once-by-cover : All (λ r. r .block + r .size ≤ D) rs → All (λ a. a < D) fl → run-blocks rs + length fl ≡ D → ((b : ℕ) → b < D → (any (covers b) rs || any (eqb b) fl) ≡ true)
+      → each-once D rs fl ≡ true
   unfolding each-once
   once-by-cover inside below e h = all-range _ 0 D (λ b p q. eq-eqb (times b) 1 (total-ones times 0 D (λ c r t. some c (omega arith)) sum b p q))
     where

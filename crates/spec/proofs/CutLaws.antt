@@ -72,7 +72,8 @@ onto-first pre e [] = refl
 onto-first pre e (p ∷ ps) = rw (append-assoc pre (e ∷ []) p)
 
 -- a full part in front of a cut whose first part begins with the entry that would pass the limit
-full-first : (limit : ℕ) (pre : List Entry) (e : Entry) (ps : List (List Entry)) → IsPart limit pre → limit < encoded-size (pre ++ e ∷ []) → IsCut limit (into-first e ps) → IsCut limit (pre ∷ into-first e ps)
+full-first : (limit : ℕ) (pre : List Entry) (e : Entry) (ps : List (List Entry)) → IsPart limit pre → limit < encoded-size (pre ++ e ∷ []) → IsCut limit (into-first e ps)
+    → IsCut limit (pre ∷ into-first e ps)
 unfolding IsCut into-first
 full-first limit pre e [] a b c = (a, record { next = e; others = []; begins = refl; passes = b }, c)
 full-first limit pre e (p ∷ ps) a b c = (a, record { next = e; others = p; begins = refl; passes = b }, c)

@@ -31,7 +31,7 @@ ascending-below i D [] up = tt
 ascending-below i D (b ∷ bs) (p, q, up) = (q, ascending-below (suc b) D bs up)
 
 -- the numbers of a range for which a test holds ascend
-pub filter-ascending : (f : ℕ → Bool) (D i n : ℕ) → i + n ≤ D → Ascending i D (filter f (range-from i n))
+filter-ascending : (f : ℕ → Bool) (D i n : ℕ) → i + n ≤ D → Ascending i D (filter f (range-from i n))
 unfolding filter range-from
 filter-ascending f D i zero h = tt
 filter-ascending f D i (suc n) h = go (f i) (filter-ascending f D (suc i) n (omega arith))
@@ -40,7 +40,8 @@ filter-ascending f D i (suc n) h = go (f i) (filter-ascending f D (suc i) n (ome
     lower [] a = tt
     lower (b ∷ l) (p, q, a) = (omega arith, q, a)
 
-    go : (t : Bool) → Ascending (suc i) D (filter f (range-from (suc i) n)) → Ascending i D (elim t as (λ x. List ℕ) [ true ↦ i ∷ filter f (range-from (suc i) n) | false ↦ filter f (range-from (suc i) n) ])
+    go : (t : Bool) → Ascending (suc i) D (filter f (range-from (suc i) n))
+        → Ascending i D (elim t as (λ x. List ℕ) [ true ↦ i ∷ filter f (range-from (suc i) n) | false ↦ filter f (range-from (suc i) n) ])
     go true a = (omega arith, omega arith, a)
     go false a = lower (filter f (range-from (suc i) n)) a
 
@@ -50,7 +51,7 @@ unfolding free-blocks
 free-ascending rs D = filter-ascending (is-free rs) D 0 D (omega arith)
 
 -- the free ones of D blocks are no more than D
-pub free-few : (rs : List Run) (D : ℕ) → length (free-blocks rs D) ≤ D
+free-few : (rs : List Run) (D : ℕ) → length (free-blocks rs D) ≤ D
 unfolding free-blocks
 free-few rs D = omega (arith, filter-few (is-free rs) (range-from 0 D), length-range 0 D)
 
@@ -64,7 +65,7 @@ link-pieces [] = []
 link-pieces (b ∷ bs) = record { offset = 256 * b; bytes = link-bytes (free-list-start bs) } ∷ link-pieces bs
 
 -- a free list written is its links written
-pub free-list-pieces : (bs area : List ℕ) → free-list-written bs area ≡ write-all (link-pieces bs) area
+free-list-pieces : (bs area : List ℕ) → free-list-written bs area ≡ write-all (link-pieces bs) area
 unfolding free-list-written write-all
 free-list-pieces [] area = refl
 free-list-pieces (b ∷ bs) area = ap (write (256 * b) (link-bytes (free-list-start bs))) (free-list-pieces bs area)
@@ -75,13 +76,13 @@ unfolding link-bytes
 length-link n = ap (λ (k : ℕ). suc (suc k)) (length-to-little-endian 4 n)
 
 -- bytes inside n blocks that lie apart from runs are clear of these
-pub apart-clear : (D b n i k : ℕ) (rs : List Run) → Laid D rs → Apart b n rs → 256 * b ≤ i → i + k ≤ 256 * (b + n) → All (Clear i k) (map run-piece rs)
+apart-clear : (D b n i k : ℕ) (rs : List Run) → Laid D rs → Apart b n rs → 256 * b ≤ i → i + k ≤ 256 * (b + n) → All (Clear i k) (map run-piece rs)
 apart-clear D b n i k [] l a p q = tt
 apart-clear D b n i k (r ∷ rs) (e, h, ar, l) (x, a) p q = (⊎-elim (λ y. inl (omega arith)) (λ y. inr (omega arith)) x, apart-clear D b n i k rs l a p q)
 
 module _ (D L : ℕ) (fits : 256 * D ≤ L) where
   -- runs that lie apart are written apart
-  pub runs-disjoint : (rs : List Run) → Laid D rs → Disjoint L (map run-piece rs)
+  runs-disjoint : (rs : List Run) → Laid D rs → Disjoint L (map run-piece rs)
   runs-disjoint [] l = tt
   runs-disjoint (r ∷ rs) (e, h, a, l) = (omega arith, apart-clear D (r .block) (r .size) (256 * r .block) (length (r .bytes)) rs l a (omega arith) (omega arith), runs-disjoint rs l)
 
@@ -90,7 +91,7 @@ module _ (D L : ℕ) (fits : 256 * D ≤ L) where
   links-clear b i x (c ∷ bs) h e (p, q, up) = (inl (omega arith), links-clear b (suc c) x bs (omega arith) e up)
 
   -- links of ascending blocks are written apart
-  pub links-disjoint : (i : ℕ) (bs : List ℕ) → Ascending i D bs → Disjoint L (link-pieces bs)
+  links-disjoint : (i : ℕ) (bs : List ℕ) → Ascending i D bs → Disjoint L (link-pieces bs)
   links-disjoint i [] up = tt
   links-disjoint i (b ∷ bs) (p, q, up) =
       let e : length (link-bytes (free-list-start bs)) ≡ 6 = length-link (free-list-start bs) in
@@ -103,7 +104,7 @@ module _ (D L : ℕ) (fits : 256 * D ≤ L) where
       (apart-clear D b 1 (256 * b) (length (link-bytes (free-list-start bs))) rs l (free-one-apart b rs e) (omega arith) (omega (arith, length-link (free-list-start bs))), links-free rs bs l f)
 
   -- the free list's links and the runs are written apart
-  pub area-disjoint : (i : ℕ) (rs : List Run) (bs : List ℕ) → Laid D rs → Ascending i D bs → All (λ b. is-free rs b ≡ true) bs → Disjoint L (link-pieces bs ++ map run-piece rs)
+  area-disjoint : (i : ℕ) (rs : List Run) (bs : List ℕ) → Laid D rs → Ascending i D bs → All (λ b. is-free rs b ≡ true) bs → Disjoint L (link-pieces bs ++ map run-piece rs)
   area-disjoint i rs bs l up f = disjoint-append L (link-pieces bs) (map run-piece rs) (links-disjoint i bs up) (runs-disjoint rs l) (links-free rs bs l f)
 
 -- the pieces of the data blocks: the runs, and the links of their free blocks
@@ -120,7 +121,7 @@ abbrev pub Stands : List ℕ → List Run → Type 0
 Stands s rs = All (λ r. bytes-at (256 * r .block) (256 * r .size) s ≡ r .bytes) rs
 
 -- the same from the runs as pieces
-pub stands-at : (D : ℕ) (s : List ℕ) (rs : List Run) → Laid D rs → Standing s (map run-piece rs) → Stands s rs
+stands-at : (D : ℕ) (s : List ℕ) (rs : List Run) → Laid D rs → Standing s (map run-piece rs) → Stands s rs
 stands-at D s [] l t = tt
 stands-at D s (r ∷ rs) (e, h, a, l) (t, ts) = (rw e at t, stands-at D s rs l ts)
 
@@ -131,7 +132,7 @@ start-small D [] h up = lit< tt
 start-small D (b ∷ bs) h (k, up) = let small : b < 4_294_967_295 = omega arith in omega arith
 
 -- a link that stands is read: two zero bytes and the next number
-pub link-read : (s : List ℕ) (b n : ℕ) → n < 256 ^ 4 → bytes-at (256 * b) (length (link-bytes n)) s ≡ link-bytes n
+link-read : (s : List ℕ) (b n : ℕ) → n < 256 ^ 4 → bytes-at (256 * b) (length (link-bytes n)) s ≡ link-bytes n
     → (bytes-at (256 * b) 2 s ≡ 0 ∷ 0 ∷ []) × (from-little-endian (bytes-at (256 * b + 2) 4 s) ≡ n)
 unfolding link-bytes to-little-endian bytes-at
 link-read s b n h t = (
@@ -143,7 +144,8 @@ link-read s b n h t = (
     piece j k h = sym (bytes-at-within (256 * b) (length (link-bytes n)) j k s (omega (arith, length-link n))) ∙ ap (bytes-at j k) t
 
 -- a free list whose links stand is read back, in any order
-pub free-list-back : (D : ℕ) (s : List ℕ) (n : ℕ) (bs : List ℕ) → D ≤ free-list-end → length bs ≤ n → All (λ b. b < D) bs → Standing s (link-pieces bs) → free-list-from n D (free-list-start bs) s ≡ ok bs
+pub free-list-back : (D : ℕ) (s : List ℕ) (n : ℕ) (bs : List ℕ) → D ≤ free-list-end → length bs ≤ n → All (λ b. b < D) bs → Standing s (link-pieces bs)
+    → free-list-from n D (free-list-start bs) s ≡ ok bs
 unfolding free-list-from free-list-start free-list-end all-zero all is-zero
 free-list-back D s zero [] few h up t = refl
 free-list-back D s (suc n) [] few h up t = refl
@@ -163,7 +165,7 @@ module _ (D : ℕ) (rs : List Run) (area : List ℕ) (fits : 256 * D ≤ length 
   data-length = length-write-all area (data-pieces D rs) (data-disjoint D (length area) rs fits laid)
 
   -- the pieces stand in the D blocks
-  pub data-standing : Standing (take (256 * D) (write-all (data-pieces D rs) area)) (data-pieces D rs)
+  data-standing : Standing (take (256 * D) (write-all (data-pieces D rs) area)) (data-pieces D rs)
   data-standing =
       standing-take (256 * D) (data-pieces D rs) (write-all (data-pieces D rs) area) (data-disjoint D (256 * D) rs (omega arith) laid)
       (write-all-stands area (data-pieces D rs) (data-disjoint D (length area) rs fits laid))

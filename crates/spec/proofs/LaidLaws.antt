@@ -23,6 +23,7 @@ use Rattle.spec.proofs.RunLaws.{length-run-bytes}
 use Rattle.spec.proofs.BlocksLaws.{Apart, Laid, laid-inside, covers-inside, free-apart}
 use Rattle.spec.proofs.BestFitLaws.{best-fit-is-place, place-within, place-apart}
 use Rattle.spec.proofs.CountLaws.{count-some, block-once}
+use Rattle.spec.proofs.PlaceLaws.{grown-all}
 
 -- a run of at least one block, with the bytes of its blocks
 abbrev pub Sized : Run → Type 0
@@ -111,7 +112,7 @@ unfolding at-block
 at-sized b r s = s
 
 -- placed runs lie apart from one another and from those there
-pub placed-beside : (g D : ℕ) (there rs : List Run) → Laid D there → All Sized there → All Sized rs → Laid (place g D there rs .data-blocks) (place g D there rs .runs ++ there)
+placed-beside : (g D : ℕ) (there rs : List Run) → Laid D there → All Sized there → All Sized rs → Laid (place g D there rs .data-blocks) (place g D there rs .runs ++ there)
 unfolding place with-run
 placed-beside g D there [] l s t = l
 placed-beside g D there (r ∷ rs) l s (n, t) =
@@ -122,13 +123,13 @@ placed-beside g D there (r ∷ rs) l s (n, t) =
     (placed-beside g E (q ∷ there) rs (put-laid g D r there l s n) (at-sized b r n, s) t)
 
 -- and have numbers from g up
-pub placed-from : (g D : ℕ) (there rs : List Run) → g ≤ D → All (λ r. g ≤ r .block) (place g D there rs .runs)
+placed-from : (g D : ℕ) (there rs : List Run) → g ≤ D → All (λ r. g ≤ r .block) (place g D there rs .runs)
 unfolding place with-run at-block
 placed-from g D there [] h = tt
 placed-from g D there (r ∷ rs) h = (place-from g D (r .size) there h, placed-from g _ _ rs (omega arith))
 
 -- step 5: with runs placed between those before and after them all lie apart
-pub placed-laid : (D : ℕ) (before after rs : List Run) → Laid D (before ++ after) → All Sized (before ++ after) → All Sized rs
+placed-laid : (D : ℕ) (before after rs : List Run) → Laid D (before ++ after) → All Sized (before ++ after) → All Sized rs
     → Laid (place 0 D (before ++ after) rs .data-blocks) (before ++ place 0 D (before ++ after) rs .runs ++ after)
 placed-laid D before after rs l s t =
     rw (append-assoc before (place 0 D (before ++ after) rs .runs) after)
@@ -290,27 +291,16 @@ pub grown-laid : (g D : ℕ) (before after : List Run) → Laid D (before ++ aft
 unfolding grown staying moving grown-place grown-moves
 grown-laid g D before after l s = rw (sym (map-append (renumbered g (grown-moves g D (before ++ after))) before after)) (renumbered-laid g D (before ++ after) l s)
 
--- renumbered runs keep their sizes and bytes
-renumbered-sized : (g : ℕ) (ms : List Move) (rs : List Run) → All Sized rs → All Sized (map (renumbered g ms) rs)
-unfolding renumbered at-block
-renumbered-sized g ms [] s = tt
-renumbered-sized g ms (r ∷ rs) (n, s) = (n, renumbered-sized g ms rs s)
-
--- step 4 keeps their sizes and bytes
-pub grown-sized : (g D : ℕ) (before after : List Run) → All Sized (before ++ after) → All Sized (grown g D before after .before ++ grown g D before after .after)
-unfolding grown grown-moves grown-place moving staying
-grown-sized g D before after s =
-    rw (sym (map-append (renumbered g (grown-moves g D (before ++ after))) before after)) (renumbered-sized g (grown-moves g D (before ++ after)) (before ++ after) s)
-
 -- steps 4 and 5: after a change all runs lie apart
-pub change-laid : (g D : ℕ) (c : Target) (parts : List Run) → Laid D (c .before ++ c .after) → All Sized (c .before ++ c .after) → All Sized parts
+change-laid : (g D : ℕ) (c : Target) (parts : List Run) → Laid D (c .before ++ c .after) → All Sized (c .before ++ c .after) → All Sized parts
     → let m : Grown = grown g D (c .before) (c .after) in let p : Placed = place 0 (m .data-blocks) (m .before ++ m .after) parts in Laid (p .data-blocks) (m .before ++ p .runs ++ m .after)
 change-laid g D c parts l s t =
     let m : Grown = grown g D (c .before) (c .after) in
-    placed-laid (m .data-blocks) (m .before) (m .after) parts (grown-laid g D (c .before) (c .after) l s) (grown-sized g D (c .before) (c .after) s) t
+    let (a, b) = grown-all Sized at-sized g D (c .before) (c .after) s in
+    placed-laid (m .data-blocks) (m .before) (m .after) parts (grown-laid g D (c .before) (c .after) l s) (all-append Sized (m .before) (m .after) a b) t
 
 -- the runs of parts have the bytes of their blocks, at least one
-pub new-sized : (ps : List (List Entry)) → All Sized (map new-run ps)
+new-sized : (ps : List (List Entry)) → All Sized (map new-run ps)
 unfolding new-run run-size encoded-size blocks-for
 new-sized [] = tt
 new-sized (p ∷ ps) = ((omega arith, length-run-bytes p), new-sized ps)

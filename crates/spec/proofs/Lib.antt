@@ -17,7 +17,6 @@ pub mod CutLaws
 pub mod PlaceLaws
 pub mod LaidLaws
 pub mod WrittenLaws
-pub mod PlanLaws
 pub mod ExamplesProof
 pub mod OutcomeLaws
 pub mod ReadLaws
@@ -25,6 +24,7 @@ pub mod SearchLaws
 pub mod SortedLaws
 pub mod TargetLaws
 pub mod HoldsLaws
+pub mod PlanLaws
 pub mod StoredHeaderLaws
 pub mod StoredIndexLaws
 pub mod StoredRunLaws

@@ -29,7 +29,12 @@ pub holds-true : (a : Bool) → T a → a ≡ true
 holds-true true h = refl
 holds-true false h = absurd h
 
--- the same of tests as types
+-- and back
+pub true-holds : (a : Bool) → a ≡ true → T a
+true-holds true h = tt
+true-holds false h = absurd (false≢true h)
+
+-- of two tests that both hold as types each holds
 pub both-hold : (a b : Bool) → T (a && b) → T a × T b
 both-hold true b h = (tt, h)
 both-hold false b h = absurd h
@@ -114,7 +119,7 @@ one true = 1
 one false = 0
 
 -- which is at most one
-pub one-most : (t : Bool) → one t ≤ 1
+one-most : (t : Bool) → one t ≤ 1
 one-most true = omega arith
 one-most false = omega arith
 

@@ -8,6 +8,8 @@ use native.Mathlib.Omega.{arith}
 use lib.ListN.{length, take}
 use lib.Dec.{eqb}
 use borrow.Author.Tests.{eqb-true, eqb-false, ltb-true, ltb-false, eq-eqb, ne-eqb, lt-ltb}
+use Rattle.spec.specs.Lists.{all}
+use Rattle.spec.proofs.ListsLaws.{and-left}
 use Rattle.spec.specs.Order.{byte-below, below-of, common-prefix, IsOrder}
 
 -- a smaller first byte decides
@@ -80,6 +82,17 @@ one-way below order a b h = go (below b a) refl
     go : (t : Bool) → below b a ≡ t → below b a ≡ false
     go false e = e
     go true e = absurd (false≢true (sym (order .irreflexive a) ∙ order .transitive a b a h e))
+
+-- the first of headwords, if there is one, is above prev
+abbrev pub Begins : (List ℕ → List ℕ → Bool) → List ℕ → List (List ℕ) → Type 0
+Begins below prev [] = Unit {0}
+Begins below prev (h ∷ hs) = below prev h ≡ true
+
+-- so it is where all are
+pub begins : (below : List ℕ → List ℕ → Bool) (prev : List ℕ) (hs : List (List ℕ)) → all (below prev) hs ≡ true → Begins below prev hs
+unfolding all
+begins below prev [] p = tt
+begins below prev (h ∷ hs) p = and-left (below prev h) (all (below prev) hs) p
 
 -- a common front does not count
 pub byte-below-front : (p a b : List ℕ) → byte-below (p ++ a) (p ++ b) ≡ byte-below a b

@@ -17,6 +17,7 @@ use Rattle.spec.specs.Index.{Element, index-from}
 use Rattle.spec.specs.Blocks.{free-list-end, free-list-from, each-once}
 use Rattle.spec.specs.Check.{Frame, Image, kind-ok, options-ok, index-area, data-area, frame-from, first-entry, ends-below, run-from, next-headword, runs-from, counts-ok, image-by}
 use Rattle.spec.proofs.ListsLaws.{All, or-neither}
+use Rattle.spec.proofs.BytesLaws.{split-zero-told}
 use Rattle.spec.proofs.OutcomeLaws.{ok-not-refused, same-value, Only, only-ok, only-when, only-bind, when-ok, bind-ok}
 use Rattle.spec.proofs.RunLaws.{EntriesOk}
 
@@ -24,24 +25,39 @@ use Rattle.spec.proofs.RunLaws.{EntriesOk}
 abbrev pub EntryOk : Format → List ℕ → Entry → Type 0
 EntryOk F prev e = (headword-ok (e .headword) ≡ true) × (body-ok (e .body) ≡ true) × (F .below prev (e .headword) ≡ true)
 
-entry-by-told : (F : Format) (prev : List ℕ) (front : ℕ) (h b : List ℕ) (e : Entry) → entry-by F prev front h b ≡ ok e → EntryOk F prev e
+-- what an entry's field and the length of its shared front tell of an entry that was read from them
+pub record FieldTold (F : Format) (prev : List ℕ) (front : ℕ) (field : List ℕ) (e : Entry) : Type 0 where
+  pub suffix : List ℕ
+  pub made-up : field ≡ suffix ++ 0 ∷ e .body
+  pub front-shared : front ≤ length prev
+  pub joined : e .headword ≡ take front prev ++ suffix
+  pub rules : EntryOk F prev e
+
+entry-by-told : (F : Format) (prev : List ℕ) (front : ℕ) (field x y : List ℕ) (e : Entry) → field ≡ x ++ 0 ∷ y → entry-by F prev front (take front prev ++ x) y ≡ ok e → FieldTold F prev front field e
 unfolding entry-by
-entry-by-told F prev front h b e p =
+entry-by-told F prev front field x y e j p =
+    let h : List ℕ = take front prev ++ x in
     let (p₁, p₂) = when-ok 8 (ltb (length prev) front) _ e p in
     let (q₁, q₂) = when-ok 8 (not (headword-ok h)) _ e p₂ in
-    let (r₁, r₂) = when-ok 8 (not (body-ok b)) _ e q₂ in
+    let (r₁, r₂) = when-ok 8 (not (body-ok y)) _ e q₂ in
     let (s₁, s₂) = when-ok 8 (not (F .below prev h)) _ e r₂ in
-    let v : record { headword = h; body = b } ≡ e = same-value _ e s₂ in
-    rw (← v) (not-false (headword-ok h) q₁, not-false (body-ok b) r₁, not-false (F .below prev h) s₁)
+    rw (← same-value (record { headword = h; body = y }) e s₂) (
+    record {
+      suffix = x;
+      made-up = j;
+      front-shared = ltb-false (length prev) front p₁;
+      joined = refl;
+      rules = (not-false (headword-ok h) q₁, not-false (body-ok y) r₁, not-false (F .below prev h) s₁);
+    }
+    )
 
--- the same of an entry's field
-pub entry-from-told : (F : Format) (prev : List ℕ) (front : ℕ) (field : List ℕ) (e : Entry) → entry-from F prev front field ≡ ok e → EntryOk F prev e
+entry-from-told : (F : Format) (prev : List ℕ) (front : ℕ) (field : List ℕ) (e : Entry) → entry-from F prev front field ≡ ok e → FieldTold F prev front field e
 unfolding entry-from
-entry-from-told F prev front field e p = go (split-zero field) p
+entry-from-told F prev front field e p = go (split-zero field) refl p
   where
-    go : (o : Option (List ℕ × List ℕ)) → elim o [ none ↦ refused 8 | some q ↦ entry-by F prev front (take front prev ++ q .0) (q .1) ] ≡ ok e → EntryOk F prev e
-    go none h = absurd (ok-not-refused e 8 (sym h))
-    go (some q) h = entry-by-told F prev front (take front prev ++ q .0) (q .1) e h
+    go : (o : Option (List ℕ × List ℕ)) → split-zero field ≡ o → elim o [ none ↦ refused 8 | some q ↦ entry-by F prev front (take front prev ++ q .0) (q .1) ] ≡ ok e → FieldTold F prev front field e
+    go none z h = absurd (ok-not-refused e 8 (sym h))
+    go (some q) z h = entry-by-told F prev front field (q .0) (q .1) e (split-zero-told field q z) h
 
 -- an entry by its field length and whether that is zero
 abbrev pub behind : Format → List ℕ → List ℕ → ℕ → Bool → Outcome (Option (Entry × List ℕ))
@@ -53,26 +69,38 @@ behind F prev s len t = elim t [
     ok (some (e, drop (3 + len) s))
 ]
 
--- an entry at the front of bytes keeps its rules, and bytes are taken
-pub entry-told : (F : Format) (prev s : List ℕ) (e : Entry) (rest : List ℕ) → read-entry F prev s ≡ ok (some (e, rest)) → EntryOk F prev e × (length rest < length s)
-unfolding read-entry
-entry-told F prev s e rest p =
-    let (p₁, p₂) = when-ok 8 (ltb (length s) 2) _ (some (e, rest)) p in
-    go (from-little-endian (take 2 s)) (eqb (from-little-endian (take 2 s)) 0) p₂
-  where
-    taken : (len : ℕ) → ltb (length s) (3 + len) ≡ false → length (drop (3 + len) s) < length s
-    taken len h = rw length-drop (omega (arith, ltb-false (length s) (3 + len) h))
+-- an entry at the front of bytes: its field lies inside them, and what is behind it
+pub record EntryTold (F : Format) (prev s : List ℕ) (e : Entry) (rest : List ℕ) : Type 0 where
+  pub inside : 3 + from-little-endian (take 2 s) ≤ length s
+  pub others : drop (3 + from-little-endian (take 2 s)) s ≡ rest
+  pub field : FieldTold F prev (from-little-endian (bytes-at 2 1 s)) (bytes-at 3 (from-little-endian (take 2 s)) s) e
 
-    go : (len : ℕ) (t : Bool) → behind F prev s len t ≡ ok (some (e, rest)) → EntryOk F prev e × (length rest < length s)
-    go len true h = absurd (Option·none-ne-some _ (same-value none (some (e, rest)) h))
-    go len false h =
+-- what is known of it
+pub step-told : (F : Format) (prev s : List ℕ) (e : Entry) (rest : List ℕ) → read-entry F prev s ≡ ok (some (e, rest)) → EntryTold F prev s e rest
+unfolding read-entry
+step-told F prev s e rest p =
+    let (p₁, p₂) = when-ok 8 (ltb (length s) 2) _ (some (e, rest)) p in
+    go (eqb (from-little-endian (take 2 s)) 0) p₂
+  where
+    go : (t : Bool) → behind F prev s (from-little-endian (take 2 s)) t ≡ ok (some (e, rest)) → EntryTold F prev s e rest
+    go true h = absurd (Option·none-ne-some _ (same-value none (some (e, rest)) h))
+    go false h =
+        let len : ℕ = from-little-endian (take 2 s) in
         let (q₁, q₂) = when-ok 8 (ltb (length s) (3 + len)) _ (some (e, rest)) h in
         let (d, r₁, r₂) = bind-ok (entry-from F prev (from-little-endian (bytes-at 2 1 s)) (bytes-at 3 len s)) _ (some (e, rest)) q₂ in
         let x : Entry × List ℕ = (d, drop (3 + len) s) in
-        let y : Entry × List ℕ = (e, rest) in
-        let v : x ≡ y = Option·some-injective x y (same-value (some x) (some y) r₂) in
-        let u : drop (3 + len) s ≡ rest = ap (λ (z : Entry × List ℕ). z .1) v in
-        (entry-from-told F prev _ _ e (r₁ ∙ ap (λ (z : Entry × List ℕ). ok (z .0)) v), rw (← u) (taken len q₁))
+        let v : x ≡ (e, rest) = Option·some-injective x (e, rest) (same-value (some x) (some (e, rest)) r₂) in
+        record {
+          inside = ltb-false (length s) (3 + len) q₁;
+          others = ap (λ (z : Entry × List ℕ). z .1) v;
+          field = entry-from-told F prev _ _ e (r₁ ∙ ap (λ (z : Entry × List ℕ). ok (z .0)) v);
+        }
+
+-- it keeps its rules, and bytes are taken
+pub entry-told : (F : Format) (prev s : List ℕ) (e : Entry) (rest : List ℕ) → read-entry F prev s ≡ ok (some (e, rest)) → EntryOk F prev e × (length rest < length s)
+entry-told F prev s e rest p =
+    let t = step-told F prev s e rest p in
+    (t .field .rules, rw (← t .others, length-drop) (omega (arith, t .inside)))
 
 -- a run's other entries, by the first step
 abbrev pub after-step : Format → ℕ → Option (Entry × List ℕ) → Outcome (List Entry)
@@ -91,7 +119,8 @@ entries-told F (suc n) prev s es h =
     let (r, p, q) = bind-ok (read-entry F prev s) (after-step F n) es h in
     go (λ w t ds. entries-told F n w t ds) r p q
   where
-    go : ((w t : List ℕ) (ds : List Entry) → entries-from F n w t ≡ ok ds → EntriesOk F w ds) → (r : Option (Entry × List ℕ)) → read-entry F prev s ≡ ok r → after-step F n r ≡ ok es → EntriesOk F prev es
+    go : ((w t : List ℕ) (ds : List Entry) → entries-from F n w t ≡ ok ds → EntriesOk F w ds) → (r : Option (Entry × List ℕ)) → read-entry F prev s ≡ ok r
+        → after-step F n r ≡ ok es → EntriesOk F prev es
     go ih none p q = rw (← same-value [] es q) tt
     go ih (some x) p q =
         let (ds, u, v) = bind-ok (entries-from F n (x .0 .headword) (x .1)) (λ ds. ok (x .0 ∷ ds)) es q in
@@ -180,6 +209,13 @@ unfolding ends-below
 ends-none F [] = refl
 ends-none F (e ∷ []) = refl
 ends-none F (e ∷ d ∷ es) = ends-none F (d ∷ es)
+
+-- those of any other run do if the last is below the next headword
+pub ends-last : (F : Format) (h : List ℕ) (front : List Entry) (last : Entry) → ends-below F (some h) (front ++ last ∷ []) ≡ F .below (last .headword) h
+unfolding ends-below
+ends-last F h [] last = refl
+ends-last F h (e ∷ []) last = refl
+ends-last F h (e ∷ d ∷ front) last = ends-last F h (d ∷ front) last
 
 -- a first entry and those behind it are all
 whole : (F : Format) (s : List ℕ) (p : Entry × List ℕ) (es : List Entry) → read-entry F [] (drop 2 s) ≡ ok (some p) → entries-from F (length s) (p .0 .headword) (p .1) ≡ ok es

@@ -1,24 +1,24 @@
--- A run is read back as it was written, for headwords in any order. Of the shared front only `front-fits` and `front-joins` are used.
+-- Entries are read as they are stored, and so as they were written, for headwords in any order. Of the shared front only `front-fits` and `front-joins` are used.
 use Prim.Native.Nat.{ℕ, zero, suc, _+_, _-_, _*_, _^_, _<_, _≤_}
-use mathlib.Core.Path.{_≡_, refl}
+use mathlib.Core.Path.{_≡_, refl, sym, ap, _∙_}
 use mathlib.Core.Bool.{true, _&&_}
 use mathlib.Core.List.{List, [], _∷_, _++_, append-assoc}
 use mathlib.Core.Option.{none, some}
 use native.Mathlib.Omega.{arith}
-use lib.ListN.{length, take, drop, length-append, length-drop, take-append-drop}
+use lib.ListN.{length, take, drop, length-append, take-append-drop}
 use lib.Seq.{take-at, drop-at}
 use lib.Dec.{leb}
 use borrow.Author.Tests.{le-ltb, ne-eqb, leb-true}
 use Rattle.spec.specs.Outcome.{ok}
-use Rattle.spec.specs.Lists.{all}
-use Rattle.spec.specs.Bytes.{from-little-endian, to-little-endian, bytes-at, not-zero, no-zero, blocks-for}
+use Rattle.spec.specs.Bytes.{from-little-endian, to-little-endian, bytes-at, no-zero, blocks-for}
 use Rattle.spec.specs.Order.{common-prefix}
-use Rattle.spec.proofs.BytesLaws.{length-to-little-endian, length-zeros, from-to-little-endian, split-zero-at}
-use Rattle.spec.proofs.ListsLaws.{and-left, and-right}
+use Rattle.spec.proofs.BytesLaws.{length-to-little-endian, length-zeros, from-to-little-endian, split-zero-at, no-zero-append}
+use Rattle.spec.proofs.ListsLaws.{and-left, and-right, holds-true, true-holds}
 use Rattle.spec.proofs.OrderLaws.{prefix-common}
 use Rattle.spec.specs.Header.{Format}
 use Rattle.spec.specs.Entry.{Entry, headword-ok, attribute-ok, body-ok, text-ok, shared-front, headword-suffix, field-bytes, entry-bytes, entry-by, entry-from}
 use Rattle.spec.proofs.IndexLaws.{headword-no-zero}
+use Rattle.spec.specs.ImageForm.{StoredEntry, StoredEntries}
 use Rattle.spec.specs.Run.{entries-bytes, encoded-size, run-size, run-bytes, read-entry, entries-from}
 
 -- the shared front is at most the previous headword's length
@@ -36,21 +36,6 @@ abbrev pub EntriesOk : Format → List ℕ → List Entry → Type 0
 EntriesOk F prev [] = Unit {0}
 EntriesOk F prev (e ∷ es) = (headword-ok (e .headword) ≡ true) × (body-ok (e .body) ≡ true) × (F .below prev (e .headword) ≡ true) × EntriesOk F (e .headword) es
 
-no-zero-drop : (n : ℕ) (l : List ℕ) → no-zero l ≡ true → no-zero (drop n l) ≡ true
-unfolding no-zero all
-no-zero-drop zero l e = e
-no-zero-drop (suc n) [] e = e
-no-zero-drop (suc n) (x ∷ l) e = no-zero-drop n l (and-right (not-zero x) (no-zero l) e)
-
--- an entry's field is read back
-entry-back : (F : Format) (prev : List ℕ) (e : Entry) → headword-ok (e .headword) ≡ true → body-ok (e .body) ≡ true → F .below prev (e .headword) ≡ true
-    → entry-from F prev (shared-front prev (e .headword)) (field-bytes prev e) ≡ ok e
-unfolding entry-from field-bytes entry-by headword-suffix
-entry-back F prev e hok bok up =
-    let nz : no-zero (headword-suffix prev (e .headword)) ≡ true = no-zero-drop (shared-front prev (e .headword)) (e .headword) (headword-no-zero (e .headword) hok) in
-    rw (split-zero-at (headword-suffix prev (e .headword)) (e .body) nz, entry-from, front-joins prev (e .headword), le-ltb (length prev) (shared-front prev (e .headword)) (front-fits prev (e .headword)), hok, bok, up)
-
--- a field is never empty, and its length fits two bytes
 -- a body's rule holds of no more than 3,001 bytes
 pub body-short : (b : List ℕ) → body-ok b ≡ true → length b ≤ 3_001
 unfolding body-ok text-ok
@@ -66,12 +51,8 @@ head-bounds h p =
     let k = and-left (leb 1 (length h) && leb (length h) 248) (no-zero h) p in
     (leb-true 1 (length h) (and-left (leb 1 (length h)) (leb (length h) 248) k), leb-true (length h) 248 (and-right (leb 1 (length h)) (leb (length h) 248) k))
 
-field-length : (prev : List ℕ) (e : Entry) → length (field-bytes prev e) ≡ (length (e .headword) - shared-front prev (e .headword)) + suc (length (e .body))
-unfolding field-bytes headword-suffix
-field-length prev e = simp (length-append, length-drop)
-
 -- one entry, from facts about the bytes at its offsets: the form in which code knows them
-pub read-entry-by : (F : Format) (prev s : List ℕ) (e : Entry) (len f : ℕ) (field rest : List ℕ)
+read-entry-by : (F : Format) (prev s : List ℕ) (e : Entry) (len f : ℕ) (field rest : List ℕ)
     → from-little-endian (take 2 s) ≡ len → 0 < len → 3 + len ≤ length s → from-little-endian (bytes-at 2 1 s) ≡ f → bytes-at 3 len s ≡ field → drop (3 + len) s ≡ rest
     → entry-from F prev f field ≡ ok e → read-entry F prev s ≡ ok (some (e, rest))
 unfolding read-entry
@@ -79,31 +60,91 @@ read-entry-by F prev s e len f field rest n pos long pf pd pr q =
     rw (le-ltb (length s) 2 (omega arith), n, ne-eqb len 0 (λ z. omega arith), n, le-ltb (length s) (3 + len) long, pf, pd, q, pr)
 
 -- the end of a run
-pub read-end : (F : Format) (prev tail : List ℕ) → read-entry F prev (0 ∷ 0 ∷ tail) ≡ ok none
+read-end : (F : Format) (prev tail : List ℕ) → read-entry F prev (0 ∷ 0 ∷ tail) ≡ ok none
 unfolding read-entry from-little-endian
 read-end F prev tail = rw (le-ltb (suc (suc (length tail))) 2 (omega arith))
+
+-- a stored entry is read again
+module _ (F : Format) (prev : List ℕ) (e : Entry) (s rest : List ℕ) (t : StoredEntry prev e s rest) where
+  head-kept : headword-ok (e .headword) ≡ true
+  head-kept = holds-true _ (t .headword-rule)
+
+  suffix-no-zero : no-zero (t .suffix) ≡ true
+  suffix-no-zero =
+      let p : no-zero (take (t .front) prev ++ t .suffix) ≡ true = rw (t .joined) at (headword-no-zero (e .headword) head-kept) in
+      and-right (no-zero (take (t .front) prev)) (no-zero (t .suffix)) (sym (no-zero-append (take (t .front) prev) (t .suffix)) ∙ p)
+
+  field-read : F .below prev (e .headword) ≡ true → entry-from F prev (t .front) (t .suffix ++ 0 ∷ e .body) ≡ ok e
+  unfolding entry-from entry-by
+  field-read up = rw (split-zero-at (t .suffix) (e .body) suffix-no-zero, entry-from, sym (t .joined), le-ltb (length prev) (t .front) (t .front-shared), head-kept, holds-true (body-ok (e .body)) (t .body-rule), up)
+
+  field-short : length (t .suffix ++ 0 ∷ e .body) < 256 ^ 2
+  field-short =
+      let k : length (e .headword) ≡ length (take (t .front) prev) + length (t .suffix) = ap length (t .joined) ∙ length-append (take (t .front) prev) (t .suffix) in
+      rw length-append (omega (arith, k, body-short (e .body) (holds-true _ (t .body-rule)), head-bounds (e .headword) head-kept))
+
+  entry-read : F .below prev (e .headword) ≡ true → read-entry F prev s ≡ ok (some (e, rest))
+  unfolding to-little-endian bytes-at from-little-endian
+  entry-read up =
+      let x : List ℕ = t .suffix ++ 0 ∷ e .body in
+      let w : List ℕ = to-little-endian 2 (length x) ++ t .front ∷ x ++ rest in
+      let three : 3 + length x ≡ suc (suc (suc (length x))) = omega arith in
+      let m : s ≡ w = t .made-up in
+      rw m (
+      read-entry-by F prev w e (length x) (t .front) x rest (from-to-little-endian 2 (length x) field-short) (rw length-append (omega arith))
+      (simp length-append (omega arith)) (omega arith) (take-at x rest (length x) refl) (rw three (drop-at x rest (length x) refl)) (field-read up)
+      )
+
+-- stored entries are read again
+pub entries-read : (F : Format) (es : List Entry) (prev s : List ℕ) (n : ℕ) → StoredEntries prev es s → EntriesOk F prev es → length es < n → entries-from F n prev s ≡ ok es
+unfolding entries-from StoredEntries
+entries-read F [] prev s zero t o h = absurd (omega arith)
+entries-read F [] prev s (suc n) (rest, m) o h = rw (m, read-end F prev rest)
+entries-read F (e ∷ es) prev s zero t o h = absurd (omega arith)
+entries-read F (e ∷ es) prev s (suc n) (rest, t, ts) (a, b, up, o) h = rw (entry-read F prev e s rest t up, entries-read F es (e .headword) rest n ts o (omega arith))
+
+-- what follows a stored entry is shorter
+rest-short : (prev : List ℕ) (e : Entry) (s rest : List ℕ) → StoredEntry prev e s rest → length rest < length s
+unfolding to-little-endian
+rest-short prev e s rest t = rw (t .made-up) (simp length-append (omega arith))
+
+-- stored entries are fewer than their bytes
+pub entries-short : (es : List Entry) (prev s : List ℕ) → StoredEntries prev es s → length es < length s
+unfolding StoredEntries
+entries-short [] prev s (rest, m) = rw m (omega arith)
+entries-short (e ∷ es) prev s (rest, t, ts) = omega (arith, entries-short es (e .headword) rest ts, rest-short prev e s rest t)
+
+-- an entry as it is written is one as it is stored
+entry-written : (prev rest : List ℕ) (e : Entry) → headword-ok (e .headword) ≡ true → body-ok (e .body) ≡ true → StoredEntry prev e (entry-bytes prev e ++ rest) rest
+unfolding entry-bytes field-bytes to-little-endian
+entry-written prev rest e h b =
+    record {
+      front = shared-front prev (e .headword);
+      suffix = headword-suffix prev (e .headword);
+      made-up = refl;
+      front-shared = front-fits prev (e .headword);
+      joined = sym (front-joins prev (e .headword));
+      headword-rule = true-holds _ h;
+      body-rule = true-holds _ b;
+    }
+
+-- and so are entries in front of two zero bytes
+pub entries-written : (F : Format) (es : List Entry) (prev tail : List ℕ) → EntriesOk F prev es → StoredEntries prev es (entries-bytes prev es ++ 0 ∷ 0 ∷ tail)
+unfolding StoredEntries entries-bytes
+entries-written F [] prev tail g = (tail, refl)
+entries-written F (e ∷ es) prev tail (h, b, up, g) =
+    let rest : List ℕ = entries-bytes (e .headword) es ++ 0 ∷ 0 ∷ tail in
+    (rest, rw append-assoc (entry-written prev rest e h b), entries-written F es (e .headword) tail g)
 
 -- one entry as it was written
 pub read-entry-back : (F : Format) (prev rest : List ℕ) (e : Entry) → headword-ok (e .headword) ≡ true → body-ok (e .body) ≡ true → F .below prev (e .headword) ≡ true
     → read-entry F prev (entry-bytes prev e ++ rest) ≡ ok (some (e, rest))
-unfolding entry-bytes to-little-endian bytes-at from-little-endian
-read-entry-back F prev rest e hok bok up =
-    let x : List ℕ = field-bytes prev e in
-    let f : ℕ = shared-front prev (e .headword) in
-    let short : length x < 256 ^ 2 = omega (arith, field-length prev e, body-short (e .body) bok, head-bounds (e .headword) hok) in
-    let three : 3 + length x ≡ suc (suc (suc (length x))) = omega arith in
-    read-entry-by F prev (entry-bytes prev e ++ rest) e (length x) f x rest (from-to-little-endian 2 (length x) short) (omega (arith, field-length prev e))
-    (simp length-append (omega arith)) (omega arith) (take-at x rest (length x) refl) (rw three (drop-at x rest (length x) refl)) (entry-back F prev e hok bok up)
+read-entry-back F prev rest e h b up = entry-read F prev e (entry-bytes prev e ++ rest) rest (entry-written prev rest e h b) up
 
 -- The entries that are written are those that are read, whatever follows the two zero bytes.
 pub entries-back : (F : Format) (es : List Entry) (prev tail : List ℕ) (n : ℕ) → EntriesOk F prev es → length es < n
     → entries-from F n prev (entries-bytes prev es ++ 0 ∷ 0 ∷ tail) ≡ ok es
-unfolding entries-from entries-bytes
-entries-back F [] prev tail zero g h = absurd (omega arith)
-entries-back F [] prev tail (suc n) g h = rw read-end
-entries-back F (e ∷ es) prev tail zero g h = absurd (omega arith)
-entries-back F (e ∷ es) prev tail (suc n) (hok, bok, up, g) h =
-    rw (append-assoc, read-entry-back F prev (entries-bytes (e .headword) es ++ 0 ∷ 0 ∷ tail) e hok bok up, entries-back F es (e .headword) tail n g (omega arith))
+entries-back F es prev tail n g h = entries-read F es prev (entries-bytes prev es ++ 0 ∷ 0 ∷ tail) n (entries-written F es prev tail g) g h
 
 -- a run that is written fills its blocks
 pub length-run-bytes : (es : List Entry) → length (run-bytes es) ≡ 256 * run-size es

@@ -12,7 +12,7 @@ use Rattle.spec.specs.Entry.{Entry}
 use Rattle.spec.specs.Run.{Run}
 use Rattle.spec.specs.Check.{ends-below, all-entries}
 use Rattle.spec.specs.SortedList.{has-headword, lookup, walk-takes, successor}
-use Rattle.spec.proofs.ListsLaws.{All, filter-yes, filter-no}
+use Rattle.spec.proofs.ListsLaws.{All, all-map, filter-yes, filter-no}
 use Rattle.spec.proofs.OrderLaws.{one-way}
 use Rattle.spec.proofs.RunLaws.{EntriesOk}
 use Rattle.spec.proofs.ReadLaws.{RunsAscend, same-bytes, bytes-self}
@@ -24,7 +24,7 @@ or-else (some a) o = some a
 
 module _ (below : List ℕ → List ℕ → Bool) (order : IsOrder below) where
   -- nothing is below the empty headword
-  pub not-below-empty : (a : List ℕ) → below a [] ≡ false
+  not-below-empty : (a : List ℕ) → below a [] ≡ false
   not-below-empty [] = order .irreflexive []
   not-below-empty (x ∷ a) = one-way below order [] (x ∷ a) (order .empty-least x a)
 
@@ -38,7 +38,7 @@ module _ (below : List ℕ → List ℕ → Bool) (order : IsOrder below) where
 
   module _ (above : Bool) (h : List ℕ) where
     -- a walk passes an entry below the given headword
-    pub walk-passes : (e : Entry) → below (e .headword) h ≡ true → walk-takes below above h e ≡ false
+    walk-passes : (e : Entry) → below (e .headword) h ≡ true → walk-takes below above h e ≡ false
     unfolding walk-takes
     walk-passes e p = go above h p
       where
@@ -68,7 +68,7 @@ module _ (below : List ℕ → List ℕ → Bool) (order : IsOrder below) where
     successor-later e es p = rw (filter-no (walk-takes below above h) e es p)
 
     -- a walk through one list and then another
-    pub successor-join : (es ds : List Entry) → successor below above h (es ++ ds) ≡ or-else (successor below above h es) (successor below above h ds)
+    successor-join : (es ds : List Entry) → successor below above h (es ++ ds) ≡ or-else (successor below above h es) (successor below above h ds)
     unfolding successor first filter
     successor-join [] ds = refl
     successor-join (e ∷ es) ds = go (successor-join es ds) (walk-takes below above h e) refl
@@ -79,13 +79,13 @@ module _ (below : List ℕ → List ℕ → Bool) (order : IsOrder below) where
         go ih false p = rw (successor-later e (es ++ ds) p, successor-later e es p) ih
 
     -- entries below the given headword are all passed
-    pub successor-passes : (es ds : List Entry) → All (λ e. below (e .headword) h ≡ true) es → successor below above h (es ++ ds) ≡ successor below above h ds
+    successor-passes : (es ds : List Entry) → All (λ e. below (e .headword) h ≡ true) es → successor below above h (es ++ ds) ≡ successor below above h ds
     successor-passes [] ds p = refl
     successor-passes (e ∷ es) ds p = successor-later e (es ++ ds) (walk-passes e (p .0)) ∙ successor-passes es ds (p .1)
 
 module _ (F : Format) (order : IsOrder (F .below)) where
   -- entries that end below a headword are all below it
-  pub all-below : (k prev : List ℕ) (es : List Entry) → EntriesOk F prev es → ends-below F (some k) es ≡ true → All (λ e. F .below (e .headword) k ≡ true) es
+  all-below : (k prev : List ℕ) (es : List Entry) → EntriesOk F prev es → ends-below F (some k) es ≡ true → All (λ e. F .below (e .headword) k ≡ true) es
   unfolding ends-below
   all-below k prev [] p q = tt
   all-below k prev (e ∷ []) p q = (q, tt)
@@ -96,11 +96,7 @@ module _ (F : Format) (order : IsOrder (F .below)) where
   -- entries that ascend from a headword are all above it
   pub all-above : (prev : List ℕ) (es : List Entry) → EntriesOk F prev es → All (λ e. F .below prev (e .headword) ≡ true) es
   all-above prev [] p = tt
-  all-above prev (e ∷ es) (hok, bok, up, p) = (up, later es (all-above (e .headword) es p))
-    where
-      later : (ds : List Entry) → All (λ d. F .below (e .headword) (d .headword) ≡ true) ds → All (λ d. F .below prev (d .headword) ≡ true) ds
-      later [] q = tt
-      later (d ∷ ds) (q, qs) = (order .transitive prev (e .headword) (d .headword) up q, later ds qs)
+  all-above prev (e ∷ es) (hok, bok, up, p) = (up, all-map _ _ (λ d q. order .transitive prev (e .headword) (d .headword) up q) es (all-above (e .headword) es p))
 
   -- entries that ascend, and then others above the last of them
   chain-join : (prev k : List ℕ) (es : List Entry) (d : Entry) (ds : List Entry) → EntriesOk F prev es → (es ≡ [] → ⊥) → ends-below F (some k) es ≡ true → d .headword ≡ k → EntriesOk F [] (d ∷ ds)
@@ -130,11 +126,8 @@ module _ (F : Format) (order : IsOrder (F .below)) where
     pub run-passed : (r q : Run) (rs : List Run) → RunsAscend F (r ∷ q ∷ rs) → F .below h (q .headword) ≡ false
         → successor (F .below) above h (all-entries (r ∷ q ∷ rs)) ≡ successor (F .below) above h (all-entries (q ∷ rs))
     unfolding all-entries
-    run-passed r q rs (s, t, e, p) n = successor-passes (F .below) order above h (r .entries) (all-entries (q ∷ rs)) (lower (r .entries) (all-below (q .headword) [] (r .entries) t e))
-      where
-        lower : (es : List Entry) → All (λ x. F .below (x .headword) (q .headword) ≡ true) es → All (λ x. F .below (x .headword) h ≡ true) es
-        lower [] a = tt
-        lower (x ∷ es) (a, ps) = (below-through (F .below) order (x .headword) (q .headword) h a n, lower es ps)
+    run-passed r q rs (s, t, e, p) n = successor-passes (F .below) order above h (r .entries) (all-entries (q ∷ rs))
+        (all-map _ _ (λ x a. below-through (F .below) order (x .headword) (q .headword) h a n) (r .entries) (all-below (q .headword) [] (r .entries) t e))
 
     -- the last run has the answer
     pub run-last : (r : Run) → successor (F .below) above h (all-entries (r ∷ [])) ≡ successor (F .below) above h (r .entries)
@@ -182,7 +175,7 @@ module _ (F : Format) (order : IsOrder (F .below)) where
       go true e = absurd (true≢false (sym p ∙ ap (λ (z : List ℕ). F .below x z) (same-bytes y x e) ∙ order .irreflexive x))
 
   -- nothing is found among entries above the headword
-  pub none-above : (h : List ℕ) (es : List Entry) → All (λ e. F .below h (e .headword) ≡ true) es → lookup h es ≡ none
+  none-above : (h : List ℕ) (es : List Entry) → All (λ e. F .below h (e .headword) ≡ true) es → lookup h es ≡ none
   unfolding lookup first filter
   none-above h [] p = refl
   none-above h (e ∷ es) (p, ps) = lookup-later h e es (other-way h (e .headword) p) ∙ none-above h es ps
@@ -196,13 +189,9 @@ module _ (F : Format) (order : IsOrder (F .below)) where
       k : List ℕ
       k = b ∷ h
 
-      lift : (ds : List Entry) → F .below k (e .headword) ≡ true → All (λ d. F .below (e .headword) (d .headword) ≡ true) ds → All (λ d. F .below k (d .headword) ≡ true) ds
-      lift [] q r = tt
-      lift (d ∷ ds) q (r, rs) = (order .transitive k (e .headword) (d .headword) q r, lift ds q rs)
-
       here : F .below (e .headword) k ≡ false → (t : Bool) → bytes-equal (e .headword) k ≡ t → lookup k (e ∷ es) ≡ exactly k (some e)
       here q true x = lookup-here k e es x ∙ rw (x, exactly)
-      here q false x = lookup-later k e es x ∙ none-above k es (lift es (greater (F .below k (e .headword)) refl) (all-above F order (e .headword) es p)) ∙ rw (x, exactly)
+      here q false x = lookup-later k e es x ∙ none-above k es (all-map _ _ (λ d r. order .transitive k (e .headword) (d .headword) (greater (F .below k (e .headword)) refl) r) es (all-above F order (e .headword) es p)) ∙ rw (x, exactly)
         where
           greater : (t : Bool) → F .below k (e .headword) ≡ t → F .below k (e .headword) ≡ true
           greater true y = y

@@ -32,12 +32,12 @@ module _ (F : Format) (order : IsOrder (F .below)) where
   ok-lower prev k (e ∷ es) p (h, b, up, g) = (h, b, order .transitive prev k (e .headword) p up, g)
 
   -- and from any that all of them are above
-  pub ok-above : (prev k : List ℕ) (es : List Entry) → EntriesOk F prev es → All (λ e. F .below k (e .headword) ≡ true) es → EntriesOk F k es
+  ok-above : (prev k : List ℕ) (es : List Entry) → EntriesOk F prev es → All (λ e. F .below k (e .headword) ≡ true) es → EntriesOk F k es
   ok-above prev k [] g a = tt
   ok-above prev k (e ∷ es) (h, b, up, g) (a, _) = (h, b, a, g)
 
   -- some of the entries ascend as they did
-  pub ok-filter : (f : Entry → Bool) (prev : List ℕ) (es : List Entry) → EntriesOk F prev es → EntriesOk F prev (filter f es)
+  ok-filter : (f : Entry → Bool) (prev : List ℕ) (es : List Entry) → EntriesOk F prev es → EntriesOk F prev (filter f es)
   unfolding filter
   ok-filter f prev [] g = tt
   ok-filter f prev (e ∷ es) (h, b, up, g) = go (ok-filter f (e .headword) es g) (f e) refl
@@ -47,7 +47,8 @@ module _ (F : Format) (order : IsOrder (F .below)) where
       go ih false q = rw (filter-no f e es q) (ok-lower prev (e .headword) (filter f es) up ih)
 
   -- entries that are all below one that ascends with those behind it
-  pub ok-join : (prev : List ℕ) (es : List Entry) (a : Entry) (ds : List Entry) → EntriesOk F prev es → All (λ e. F .below (e .headword) (a .headword) ≡ true) es → EntriesOk F prev (a ∷ []) → EntriesOk F (a .headword) ds
+  ok-join : (prev : List ℕ) (es : List Entry) (a : Entry) (ds : List Entry) → EntriesOk F prev es → All (λ e. F .below (e .headword) (a .headword) ≡ true) es
+      → EntriesOk F prev (a ∷ []) → EntriesOk F (a .headword) ds
       → EntriesOk F prev (es ++ a ∷ ds)
   ok-join prev [] a ds g l (h, b, up, _) k = (h, b, up, k)
   ok-join prev (e ∷ es) a ds (h, b, up, g) (l, ls) (ah, ab, aup, _) k = (h, b, up, ok-join (e .headword) es a ds g ls (ah, ab, l, tt) k)

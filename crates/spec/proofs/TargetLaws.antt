@@ -22,11 +22,11 @@ use Rattle.spec.proofs.PlaceLaws.{entries-append}
 
 -- a list taken apart at the last element for which a test holds: the test holds for none behind it
 module _ {A : Type 0} (f : A → Bool) where
-  abbrev pub At : List A → Option (Split A) → Type 0
+  abbrev At : List A → Option (Split A) → Type 0
   At l none = All (λ a. f a ≡ false) l
   At l (some p) = (l ≡ p .before ++ p .element ∷ p .after) × (f (p .element) ≡ true) × All (λ a. f a ≡ false) (p .after)
 
-  pub split-last-at : (l : List A) → At l (split-last f l)
+  split-last-at : (l : List A) → At l (split-last f l)
   unfolding split-last later-or-here split-later split-first
   split-last-at [] = tt
   split-last-at (a ∷ l) = go (split-last f l) (split-last-at l) (f a) refl

@@ -62,16 +62,27 @@ module _ (i : ℕ) (x l : List ℕ) (fits : i + length x ≤ length l) where
       ∙ sym (bytes-at-front j n (take i l) (drop i l) (omega (arith, front-length)))
       ∙ ap (bytes-at j n) (take-append-drop i l)
 
+  -- all in front of them
+  pub take-write : take i (write i x l) ≡ take i l
+  unfolding bytes-at
+  take-write = bytes-at-before 0 i (omega arith)
+
+  -- all from their end on
+  pub drop-past-write : (k : ℕ) → i + length x ≤ k → drop k (write i x l) ≡ drop k l
+  unfolding write
+  drop-past-write k h =
+      let m : ℕ = i + length x in
+      let e : m + (k - m) ≡ k = omega arith in
+      ap (λ (q : ℕ). drop q (write i x l)) (sym e)
+      ∙ sym (drop-drop (k - m) m (write i x l))
+      ∙ ap (drop (k - m)) (drop-at (take i l ++ x) (drop m l) m head-length)
+      ∙ drop-drop (k - m) m l
+      ∙ ap (λ (q : ℕ). drop q l) e
+
   -- bytes behind them
   pub bytes-at-after : (j n : ℕ) → i + length x ≤ j → bytes-at j n (write i x l) ≡ bytes-at j n l
-  unfolding write
-  bytes-at-after j n h =
-      let k : ℕ = i + length x in
-      let whole : length (take k l) ≡ k = length-take-le k l fits in
-      bytes-at-back j n (take i l ++ x) (drop k l) (omega (arith, head-length))
-      ∙ ap (λ (q : ℕ). bytes-at (j - q) n (drop k l)) (head-length ∙ sym whole)
-      ∙ sym (bytes-at-back j n (take k l) (drop k l) (omega (arith, whole)))
-      ∙ ap (bytes-at j n) (take-append-drop k l)
+  unfolding bytes-at
+  bytes-at-after j n h = ap (take n) (drop-past-write j h)
 
   -- a write inside the slice keeps its length
   pub length-write : length (write i x l) ≡ length l

@@ -21,7 +21,8 @@ use Rattle.spec.specs.Entry.{Entry}
 use Rattle.spec.proofs.PartLaws.{length-bytes-at}
 use Rattle.spec.proofs.IndexLaws.{headword-no-zero}
 use Rattle.spec.proofs.RunLaws.{head-bounds}
-use Rattle.spec.proofs.ReadLaws.{entry-told, first-told, same-bytes}
+use Rattle.spec.proofs.ReadLaws as Read
+use Rattle.spec.proofs.ReadLaws.{entry-told, first-told, same-bytes, ends-last}
 use Rattle.spec.specs.Run as RunSpec
 use Rattle.spec.specs.Run.{Run, read-entry, entries-from}
 use Rattle.spec.specs.Index.{Element}
@@ -50,11 +51,9 @@ finished F e next n bytes before o = do
 module _ (F : Format) where
   -- whether entries end below the next headword is told by the last
   ends-by-last : (next : Option (List ℕ)) (es : List Entry) (e : Entry) → ends-below F next (es ++ e ∷ []) ≡ last-below F (e .headword) next
-  unfolding CheckSpec.ends-below last-below
-  ends-by-last none [] e = refl
-  ends-by-last (some k) [] e = refl
-  ends-by-last next (a ∷ []) e = ends-by-last next [] e
-  ends-by-last next (a ∷ b ∷ es) e = ends-by-last next (b ∷ es) e
+  unfolding last-below
+  ends-by-last none es e = Read.ends-none F (es ++ e ∷ [])
+  ends-by-last (some k) es e = ends-last F k es e
 
   module _ (D : ℕ) (area : List ℕ) (e : Element) (next : Option (List ℕ)) where
     -- row 7: number not below D

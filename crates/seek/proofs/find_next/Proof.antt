@@ -1,5 +1,6 @@
 use Rattle.seek.proofs.Laws.{absent-inside}
-use Rattle.seek.proofs.Returns.{number-at, number-next, next-none, next-found}
+use Rattle.seek.proofs.Returns.{number-next, next-none, next-found}
+use Rattle.index.proofs.Laws.{inside-start}
 use borrow.Author.Needs.{needs}
 use Rattle.seek.proofs.find_next.Statement.{statement}
 use Rattle.seek.proofs.find_next.Tie as tie
@@ -8,7 +9,7 @@ returns : tie.Need-returns
 returns c = (search next-none, (search absent-inside, search needs))
 
 element-end-requires : tie.Need-element-end-requires
-element-end-requires c κs = search number-at
+element-end-requires c κs = search inside-start
 
 add-find-at : tie.Need-add-find-at
 add-find-at c = search needs

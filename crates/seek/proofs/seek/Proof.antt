@@ -1,5 +1,6 @@
 use Rattle.seek.proofs.Laws.{absent-inside, spot-inside}
-use Rattle.seek.proofs.Returns.{number-at, seek-none, seek-here, seek-next}
+use Rattle.seek.proofs.Returns.{seek-none, seek-here, seek-next}
+use Rattle.index.proofs.Laws.{inside-start}
 use borrow.Author.Needs.{needs}
 use Rattle.seek.proofs.seek.Statement.{statement}
 use Rattle.seek.proofs.seek.Tie as tie
@@ -11,7 +12,7 @@ concerned-requires : tie.Need-concerned-requires
 concerned-requires c κs = search needs
 
 find-at-requires : tie.Need-find-at-requires
-find-at-requires c κs = (search number-at, search needs, search needs, search needs)
+find-at-requires c κs = (search inside-start, search needs, search needs, search needs)
 
 enum-known-found : tie.Need-enum-known-found
 enum-known-found c = search needs
