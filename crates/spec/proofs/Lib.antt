@@ -38,3 +38,4 @@ pub mod AnswerLaws
 pub mod ClaimLaws
 pub mod CallRowsLaws
 pub mod SlicesLaws
+pub mod ListFormLaws

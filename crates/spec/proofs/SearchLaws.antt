@@ -2,7 +2,7 @@
 use Prim.Native.Nat.{ℕ}
 use mathlib.Core.Path.{_≡_, refl, sym, ap, _∙_}
 use mathlib.Core.Bool.{Bool, true, false, not, true≢false}
-use mathlib.Core.List.{List, [], _∷_, _++_, append-nil}
+use mathlib.Core.List.{List, [], _∷_, _++_, append-nil, cons-ne-nil}
 use mathlib.Core.Option.{Option, none, some}
 use Rattle.spec.specs.Lists.{filter, first}
 use Rattle.spec.specs.Bytes.{bytes-equal}
@@ -104,10 +104,7 @@ module _ (F : Format) (order : IsOrder (F .below)) where
   unfolding ends-below
   chain-join prev k [] d ds p n q e r = absurd (n refl)
   chain-join prev k (a ∷ []) d ds (hok, bok, up, p) n q e r = (hok, bok, up, (r .0, r .1, rw e q, r .3))
-  chain-join prev k (a ∷ b ∷ es) d ds (hok, bok, up, p) n q e r = (hok, bok, up, chain-join (a .headword) k (b ∷ es) d ds p (λ z. cons-not-nil z) q e r)
-    where
-      cons-not-nil : _≡_ {A = List Entry} (b ∷ es) [] → ⊥
-      cons-not-nil z = true≢false (ap (λ (l : List Entry). elim l [ [] ↦ false | x ∷ y ↦ true ]) z)
+  chain-join prev k (a ∷ b ∷ es) d ds (hok, bok, up, p) n q e r = (hok, bok, up, chain-join (a .headword) k (b ∷ es) d ds p (cons-ne-nil b es) q e r)
 
   -- all entries of runs that ascend are one list that ascends
   pub entries-ascend : (rs : List Run) → RunsAscend F rs → EntriesOk F [] (all-entries rs)
@@ -116,10 +113,7 @@ module _ (F : Format) (order : IsOrder (F .below)) where
   entries-ascend (r ∷ []) (s, t, e, p) = rw append-nil t
   entries-ascend (r ∷ q ∷ rs) ((f, o, s, b), t, e, ((g, u, v, w), x, y, p)) =
       let ih : EntriesOk F [] (q .entries ++ all-entries rs) = entries-ascend (q ∷ rs) ((g, u, v, w), x, y, p) in
-      rw v (chain-join [] (q .headword) (r .entries) g (u ++ all-entries rs) t (λ z. nonempty z s) e w (rw v at ih))
-    where
-      nonempty : r .entries ≡ [] → r .entries ≡ f ∷ o → ⊥
-      nonempty z y = true≢false (ap (λ (l : List Entry). elim l [ [] ↦ false | x ∷ k ↦ true ]) (sym y ∙ z))
+      rw v (chain-join [] (q .headword) (r .entries) g (u ++ all-entries rs) t (λ z. cons-ne-nil f o (sym s ∙ z)) e w (rw v at ih))
 
   module _ (above : Bool) (h : List ℕ) where
     -- a run is passed where the next starts with no headword above the given one

@@ -20,6 +20,7 @@ pub mod ImageForm
 pub mod Rows
 pub mod Claim
 pub mod CallRows
+pub mod ListForm
 pub mod Slices
 pub mod Play
 pub mod Examples
