@@ -268,10 +268,8 @@ refusal-probes =
 -- the bytes of P3's image: the fields that a change writes, the index, the run; and what the program prints of it with a fault
 unfoldable pub bytes-probes : List Probe
 bytes-probes =
-    stores 148 (1 ∷ 0 ∷ [])
-    ∷ stores 160 (2 ∷ 0 ∷ 0 ∷ 0 ∷ [])
-    ∷ stores 186 (0xFF ∷ 0xFF ∷ 0xFF ∷ 0xFF ∷ 1 ∷ 0 ∷ 0 ∷ 0 ∷ 1 ∷ 0 ∷ 0 ∷ 0 ∷ [])
-    ∷ stores 208 (2 ∷ 0 ∷ 0 ∷ 0 ∷ [])
+    -- the whole header: create's fields, and those that two insertions wrote
+    stores 0 (zeros 141 ++ (4 ∷ 248 ∷ 0 ∷ 0xB8 ∷ 0x0B ∷ 0 ∷ 1 ∷ 1 ∷ 0 ∷ 0 ∷ 1 ∷ 0 ∷ 0 ∷ 0xFF ∷ 0xFF ∷ []) ++ zeros 4 ++ (2 ∷ []) ++ zeros 5 ++ (1 ∷ []) ++ zeros 19 ++ (0xFF ∷ 0xFF ∷ 0xFF ∷ 0xFF ∷ 1 ∷ 0 ∷ 0 ∷ 0 ∷ 1 ∷ []) ++ zeros 13 ++ (2 ∷ []) ++ zeros 47)
     ∷ stores 256 (0 ∷ 0 ∷ ascii "ABC" ++ zeros 251)
     ∷ stores 512 (1 ∷ 0 ∷ 8 ∷ 0 ∷ 0 ∷ ascii "ABC" ++ 0 ∷ 128 ∷ ascii "one" ++ 8 ∷ 0 ∷ 2 ∷ ascii "DEF" ++ 0 ∷ 0xE5 ∷ ascii "two" ++ zeros 232)
     ∷ patched 514 (0 ∷ []) (prints (ascii "refused   8\n"))
@@ -325,6 +323,8 @@ cases =
     ∷ after 1_792 two-free free-probes
     -- optimise: zeros from the new L, 1,280, to the old, 1,792; what stands past the old is kept
     ∷ after 1_794 (two-free ++ store 1_792 (7 ∷ 8 ∷ []) ∷ opt ∷ []) (stores 1_278 (0 ∷ 0 ∷ zeros 512 ++ 7 ∷ 8 ∷ []) ∷ [])
+    -- a growth by one: the run at block 0 is moved, the one at block 1 stays
+    ∷ after 3_328 (ins (ascii "c") (t 100) ∷ ins (ascii "b") (t 1_000) ∷ ins (t 248) [] ∷ ins (replicate 248 98) [] ∷ []) (lays-out (3_328 ∷ []) 3 (0 ∷ 3 ∷ 7 ∷ 2 ∷ []) [] ∷ [])
     -- the lowest of three free extents of one length
     ∷ after 4_352 equal-extents (lays-out (4_352 ∷ []) 1 (3 ∷ 9 ∷ 0 ∷ []) (6 ∷ 7 ∷ 8 ∷ 12 ∷ 13 ∷ 14 ∷ []) ∷ [])
     -- a growth by two with two moved runs: the runs, empty_block2 to nblock2, and a link of the free list
