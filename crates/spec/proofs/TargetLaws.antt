@@ -6,12 +6,13 @@ use mathlib.Core.Bool.{Bool, true, false, not}
 use mathlib.Core.List.{List, [], _∷_, _++_, append-assoc}
 use mathlib.Core.Option.{Option, none, some}
 use borrow.Author.Tests.{not-true, not-false}
-use Rattle.spec.specs.Lists.{Split, split-later, split-first, later-or-here, split-last}
+use Rattle.spec.specs.Lists.{all, Split, split-later, split-first, later-or-here, split-last}
 use Rattle.spec.specs.Order.{IsOrder}
 use Rattle.spec.specs.Header.{Format}
 use Rattle.spec.specs.Entry.{Entry}
 use Rattle.spec.specs.Run.{Run}
 use Rattle.spec.specs.Check.{all-entries}
+use Rattle.spec.specs.TargetForm.{IsConcerned, NoRun, TargetIsConcerned}
 use Rattle.spec.specs.Place.{Target, target-split, target-of, target-run}
 use Rattle.spec.proofs.ListsLaws.{All, all-map, all-append}
 use Rattle.spec.proofs.RunLaws.{EntriesOk}
@@ -104,3 +105,23 @@ module _ (F : Format) (order : IsOrder (F .below)) (h : List ℕ) where
             lower = runs-below (q .before) (q .element) (q .after) k (not-true (F .below h (q .element .headword)) t);
             upper = runs-above (q .after) (ascend-back (q .before) (q .element ∷ q .after) k .3) (all-map _ _ (λ r d. not-false (F .below h (r .headword)) d) (q .after) a);
           }
+
+-- a test that holds for all elements, from a fact of each
+true-all : {A : Type 0} (f : A → Bool) (l : List A) → All (λ a. not (f a) ≡ false) l → all f l ≡ true
+unfolding all
+true-all f [] h = refl
+true-all f (a ∷ l) (h, hs) = rw (not-false (f a) h) (true-all f l hs)
+
+-- step 1 as document 01 words it
+pub target-is-concerned : TargetIsConcerned
+unfolding TargetIsConcerned target-run target-split target-of split-first
+target-is-concerned F h rs = go (split-last (λ r. not (F .below h (r .headword))) rs) (split-last-at (λ r. not (F .below h (r .headword))) rs)
+  where
+    start : (qs : List Run) → All (λ r. not (F .below h (r .headword)) ≡ false) qs → NoRun qs (target-of (split-first qs)) ⊎ ((r : Run) × IsConcerned (F .below) h qs (target-of (split-first qs)) r)
+    start [] a = inl (record { no-runs = refl; none-before = refl; no-entries = refl; none-after = refl })
+    start (r ∷ qs) (a, b) = inr (r, record { stands = refl; its-entries = refl; others-above = true-all (λ q. F .below h (q .headword)) qs b; not-above-or-first = inr refl })
+
+    go : (o : Option (Split Run)) → At (λ r. not (F .below h (r .headword))) rs o → NoRun rs (target-of (target-split o rs)) ⊎ ((r : Run) × IsConcerned (F .below) h rs (target-of (target-split o rs)) r)
+    go none a = start rs a
+    go (some q) (e, t, a) =
+        inr (q .element, record { stands = e; its-entries = refl; others-above = true-all (λ r. F .below h (r .headword)) (q .after) a; not-above-or-first = inl (not-true (F .below h (q .element .headword)) t) })

@@ -4,14 +4,20 @@ use mathlib.Core.Bool.{Bool, true, false, _&&_}
 use mathlib.Core.List.{List, [], _∷_, _++_}
 use lib.ListN.{length, take, replicate}
 use lib.Dec.{T, eqb}
+use Rattle.spec.specs.declared.LengthAnswer.{LengthAnswer}
+use Rattle.spec.specs.declared.CheckAnswer.{CheckAnswer}
+use Rattle.spec.specs.declared.LookUpAnswer.{LookUpAnswer}
+use Rattle.spec.specs.declared.WalkAnswer.{WalkAnswer}
+use Rattle.spec.specs.declared.DeleteAnswer.{DeleteAnswer}
 use Rattle.spec.specs.Ascii.{ascii}
 use Rattle.spec.specs.Lists.{all}
 use Rattle.spec.specs.Bytes.{bytes-at, bytes-equal, zeros}
 use Rattle.spec.specs.Header.{format4}
 use Rattle.spec.specs.Check.{image-in}
 use Rattle.spec.specs.Calls.{create, check, look-up, walk}
-use Rattle.spec.specs.Listing.{listing}
-use Rattle.spec.specs.Play.{t, refusal, lent, Step, ins, ins-as, del, opt, store, State, play, step, step-with, empty, told-length, told-figures, told-text, told-entry, index-blocks-of, runs-at, free-at}
+use Rattle.spec.specs.Answers.{length-answer, check-answer, look-up-answer, walk-answer, delete-answer, code, code-or-absent, lent-number, lent-number-or-absent, open-answers}
+use Rattle.spec.specs.Listing.{listing, column}
+use Rattle.spec.specs.Play.{t, refusal, lent, Step, ins, ins-as, del, opt, store, State, play, step, step-with, empty, told-length, told-removed, told-figures, told-text, told-entry, index-blocks-of, runs-at, free-at}
 
 -- What is seen of a slice with an image in it. An answer is told as numbers: a refusal as `refusal` writes it, nothing for absent.
 pub data Probe : Type 0 where
@@ -67,6 +73,8 @@ pub data Case : Type 0 where
   lists : List ℕ → List ℕ → Case
   -- the format's bytes of header and of a block number, most data blocks, and bytes of a part
   formats : List ℕ → Case
+  -- these numbers are these
+  gives : List ℕ → List ℕ → Case
   -- what is seen of a slice of so many bytes after these steps from empty
   after : ℕ → List Step → List Probe → Case
 
@@ -75,6 +83,7 @@ unfoldable pub case-holds : Case → Bool
 case-holds (creates s told s′) = let r = create s in bytes-equal (told-length (r .answer)) told && bytes-equal (r .image) s′
 case-holds (lists s x) = bytes-equal (listing s) x
 case-holds (formats x) = bytes-equal (format4 .header-bytes ∷ format4 .number-width ∷ format4 .most-blocks ∷ format4 .run-limit ∷ []) x
+case-holds (gives x y) = bytes-equal x y
 case-holds (after n cs ps) = let q = play (empty n) cs in all (probe-holds q) ps
 
 -- P3's calls, the second entry with the attribute 0xE5
@@ -93,7 +102,7 @@ xq = ascii "x" ++ replicate 247 113
 unfoldable pub xr : List ℕ
 xr = ascii "x" ++ replicate 247 114
 
--- runs m at 1 (2 blocks), p at 0 (1 block) and x at 3 (3 blocks), then x's run is cut in three and the index grows by 2: index order and number order of the moved runs differ
+-- runs m at 1 (2 blocks), p at 0 (1 block) and x at 3 (3 blocks), then x's run is cut in three and the index grows by 2: index order and number order of the moved runs differ; p's run has bytes after its end marks
 unfoldable pub two-moved : List Step
 two-moved =
     ins (ascii "p") (t 500)
@@ -104,12 +113,40 @@ two-moved =
     ∷ ins (ascii "x") []
     ∷ ins xq []
     ∷ ins xr []
+    ∷ store 766 (9 ∷ 9 ∷ [])
     ∷ ins xq (t 1000)
+    ∷ []
+
+-- another program's run of five blocks, a t(500), b t(509) and c, from which c is deleted
+unfoldable pub long-run : List Step
+long-run =
+    ins (ascii "a") (t 500)
+    ∷ ins (ascii "b") (t 509)
+    ∷ store 160 (3 ∷ [])
+    ∷ store 190 (1 ∷ [])
+    ∷ store 260 (zeros 4)
+    ∷ store 512 (5 ∷ [])
+    ∷ store 1_020 (0 ∷ 2 ∷ 0 ∷ 98 ∷ 0 ∷ 128 ∷ t 509 ++ 3 ∷ 0 ∷ 0 ∷ 99 ∷ 0 ∷ 128 ∷ 0 ∷ 0 ∷ [])
+    ∷ del (ascii "c")
     ∷ []
 
 -- runs of 3 blocks, of which two are deleted: three free extents of 3 blocks once the last run is freed
 unfoldable pub equal-extents : List Step
 equal-extents = ins (ascii "a") (t 600) ∷ ins (ascii "b") (t 600) ∷ ins (ascii "c") (t 600) ∷ ins (ascii "d") (t 600) ∷ ins (ascii "e") (t 600) ∷ del (ascii "a") ∷ del (ascii "c") ∷ ins (ascii "e") (t 600) ∷ []
+
+-- another program's bytes in all header bytes that no refusal names
+unfoldable pub strange-header : List Step
+strange-header = store 0 (lent 140) ∷ store 142 (lent 4) ∷ store 152 (lent 8) ∷ store 167 (lent 4) ∷ store 172 (lent 10) ∷ store 199 (lent 57) ∷ []
+
+-- the same header after a change of P3's image: update_count is one higher, all else of it is kept
+unfoldable pub strange-bytes : List ℕ
+strange-bytes =
+    lent 140 ++ (0 ∷ 4 ∷ []) ++ lent 4 ++ (0 ∷ 1 ∷ 1 ∷ 0 ∷ 0 ∷ 1 ∷ []) ++ lent 8 ++ (2 ∷ 0 ∷ 0 ∷ 0 ∷ 0 ∷ 0 ∷ 1 ∷ []) ++ lent 4 ++ (0 ∷ []) ++ lent 10
+    ++ zeros 4 ++ (0xFF ∷ 0xFF ∷ 0xFF ∷ 0xFF ∷ 1 ∷ 0 ∷ 0 ∷ 0 ∷ 1 ∷ 0 ∷ 0 ∷ 0 ∷ 0 ∷ []) ++ lent 9 ++ (0xAB ∷ []) ++ lent 47
+
+-- ABDEF as another program stores it: a shorter front than the longest, and bytes after the end marks
+unfoldable pub strange-entry : List ℕ
+strange-entry = 10 ∷ 0 ∷ 0 ∷ ascii "ABDEF" ++ 0 ∷ 128 ∷ ascii "two" ++ 0 ∷ 0 ∷ 9 ∷ 9 ∷ []
 
 -- check on P3's image, then rows 1 and 3 to 10 one fault at a time, then two at a time
 unfoldable pub check-probes : List Probe
@@ -117,13 +154,14 @@ check-probes =
     checks 768 (2 ∷ 1 ∷ 1 ∷ 0 ∷ [])
     -- a version only for reading, a shorter front than the longest, and anything after the end marks
     ∷ patched 140 (16 ∷ []) (checks 768 (2 ∷ 1 ∷ 1 ∷ 0 ∷ []))
-    ∷ patched 525 (10 ∷ 0 ∷ 0 ∷ ascii "ABDEF" ++ 0 ∷ 128 ∷ ascii "two" ++ 0 ∷ 0 ∷ 9 ∷ 9 ∷ []) (checks 768 (2 ∷ 1 ∷ 1 ∷ 0 ∷ []))
+    ∷ patched 525 strange-entry (checks 768 (2 ∷ 1 ∷ 1 ∷ 0 ∷ []))
     -- 1: L under 256, no multiple of 256, over the slice
     ∷ checks 0 (refusal 1)
     ∷ checks 767 (refusal 1)
     ∷ checks 1_024 (refusal 1)
     -- 3: high version byte, block_size, header_size, attrlen
     ∷ patched 141 (5 ∷ []) (checks 768 (refusal 3))
+    ∷ patched 141 (0x84 ∷ []) (checks 768 (refusal 3))
     ∷ patched 147 (2 ∷ []) (checks 768 (refusal 3))
     ∷ patched 150 (1 ∷ []) (checks 768 (refusal 3))
     ∷ patched 166 (0 ∷ []) (checks 768 (refusal 3))
@@ -131,6 +169,7 @@ check-probes =
     ∷ patched 164 (1 ∷ []) (checks 768 (refusal 4))
     ∷ patched 165 (1 ∷ []) (checks 768 (refusal 4))
     ∷ patched 171 (1 ∷ []) (checks 768 (refusal 4))
+    ∷ patched 182 (1 ∷ []) (checks 768 (refusal 4))
     ∷ patched 185 (1 ∷ []) (checks 768 (refusal 4))
     ∷ patched 198 (1 ∷ []) (checks 768 (refusal 4))
     -- 5: index_block over 32,767, past L
@@ -156,7 +195,7 @@ check-probes =
     ∷ patched 526 (1 ∷ []) (checks 768 (refusal 8))
     -- 8: a field without a zero byte, without an attribute, and end marks that do not fit by two bytes and by one; with them the run is good
     ∷ patched 520 (ascii "A") (checks 768 (refusal 8))
-    ∷ patched 514 (4 ∷ []) (checks 768 (refusal 8))
+    ∷ patched 160 (1 ∷ []) (patched 514 (4 ∷ 0 ∷ 0 ∷ ascii "ABC" ++ zeros 3) (checks 768 (refusal 8)))
     ∷ patched 514 (251 ∷ 0 ∷ 0 ∷ ascii "ABC" ++ 0 ∷ 128 ∷ t 246) (checks 768 (refusal 8))
     ∷ patched 514 (250 ∷ 0 ∷ 0 ∷ ascii "ABC" ++ 0 ∷ 128 ∷ t 245) (checks 768 (refusal 8))
     ∷ patched 160 (1 ∷ []) (patched 514 (249 ∷ 0 ∷ 0 ∷ ascii "ABC" ++ 0 ∷ 128 ∷ t 244) (checks 768 (1 ∷ 1 ∷ 1 ∷ 0 ∷ [])))
@@ -169,6 +208,10 @@ check-probes =
     -- two faults: the first row is given
     ∷ with-length 767 (looks-up [] [] (refusal 1) [])
     ∷ with-length 767 (walks false (t 249) [] [] (refusal 1) [] [])
+    ∷ patched 141 (5 ∷ []) (looks-up [] [] (refusal 3) [])
+    ∷ patched 160 (3 ∷ []) (looks-up [] [] (refusal 10) [])
+    ∷ patched 141 (5 ∷ []) (walks false (t 249) [] [] (refusal 3) [] [])
+    ∷ patched 160 (3 ∷ []) (walks false (t 249) [] [] (refusal 10) [] [])
     ∷ patched 141 (5 ∷ []) (patched 164 (1 ∷ []) (checks 768 (refusal 3)))
     ∷ patched 164 (1 ∷ []) (patched 148 (3 ∷ []) (checks 768 (refusal 4)))
     ∷ patched 148 (3 ∷ []) (patched 258 (0 ∷ []) (checks 768 (refusal 5)))
@@ -182,6 +225,8 @@ check-probes =
 unfoldable pub run-probes : List Probe
 run-probes =
     checks 1_792 (2 ∷ 1 ∷ 5 ∷ 0 ∷ [])
+    -- ordinals go on from run to run
+    ∷ prints (ascii "     2     1     5     0\n     1     0     2 128   500 a\n     2     2     3 128   509 b\n")
     -- 7 and 8 run by run: 8 of the first before 7 of the second, 7 of the first before 8 of the second
     ∷ patched 519 (0x90 ∷ []) (patched 1_024 (0 ∷ []) (checks 1_792 (refusal 8)))
     ∷ patched 519 (0x90 ∷ []) (patched 260 (9 ∷ []) (checks 1_792 (refusal 8)))
@@ -246,9 +291,21 @@ unfoldable pub refusal-probes : List Probe
 refusal-probes =
     patched 141 (5 ∷ []) (keeps (lent 767) (ins (ascii "A") []) (refusal 2) (lent 767))
     ∷ patched 141 (5 ∷ []) (keeps (lent 768) (ins (ascii "A") []) (refusal 3) (zeros 768))
+    ∷ patched 164 (1 ∷ []) (keeps (lent 768) opt (refusal 4) (zeros 768))
+    ∷ patched 148 (3 ∷ []) (keeps (lent 768) opt (refusal 5) (zeros 768))
+    ∷ patched 258 (0 ∷ []) (keeps (lent 768) opt (refusal 6) (zeros 768))
+    ∷ patched 512 (0 ∷ []) (keeps (lent 768) opt (refusal 7) (zeros 768))
+    ∷ patched 514 (0 ∷ []) (keeps (lent 768) opt (refusal 8) (zeros 768))
+    ∷ patched 186 (0 ∷ 0 ∷ 0 ∷ 0 ∷ []) (keeps (lent 768) opt (refusal 9) (zeros 768))
     ∷ patched 140 (16 ∷ []) (keeps (lent 770) (ins [] []) (refusal 11) (zeros 770))
     ∷ patched 140 (16 ∷ []) (keeps (lent 768) (del (ascii "A")) (refusal 11) (zeros 768))
     ∷ patched 140 (16 ∷ []) (keeps (lent 768) opt (refusal 11) (zeros 768))
+    ∷ patched 140 (0x20 ∷ []) (keeps (lent 768) opt (refusal 11) (zeros 768))
+    ∷ patched 140 (0x40 ∷ []) (keeps (lent 768) opt (refusal 11) (zeros 768))
+    ∷ patched 140 (0x80 ∷ []) (keeps (lent 768) opt (refusal 11) (zeros 768))
+    ∷ patched 160 (3 ∷ []) (keeps (lent 768) (ins [] []) (refusal 10) (zeros 768))
+    ∷ patched 160 (3 ∷ []) (keeps (lent 768) (ins-as (ascii "A") 0x90 []) (refusal 10) (zeros 768))
+    ∷ patched 160 (3 ∷ []) (keeps (lent 768) (del []) (refusal 10) (zeros 768))
     ∷ patched 160 (3 ∷ []) (patched 140 (16 ∷ []) (keeps (lent 768) opt (refusal 10) (zeros 768)))
     ∷ patched 141 (5 ∷ []) (patched 140 (16 ∷ []) (keeps (lent 768) opt (refusal 3) (zeros 768)))
     ∷ with-length 767 (keeps (lent 5) opt (refusal 1) (lent 5))
@@ -262,6 +319,8 @@ refusal-probes =
     ∷ keeps (lent 768) (ins (ascii "A") (t 300)) (refusal 15) (zeros 768)
     ∷ keeps (lent 768) (del (ascii "A")) [] (zeros 768)
     ∷ works (lent 770) (del (ascii "ABC")) (768 ∷ []) (zeros 770)
+    -- every attribute bit but 0x10
+    ∷ works (lent 768) (ins-as (ascii "ABC") 0xEF (ascii "one")) (768 ∷ []) (zeros 768)
     ∷ patched 140 (15 ∷ []) (works (lent 768) opt (768 ∷ []) (zeros 768))
     ∷ []
 
@@ -306,6 +365,16 @@ cases =
     ∷ after 768 (two-entries ++ store 208 (0xFF ∷ 0xFF ∷ 0xFF ∷ 0xFF ∷ []) ∷ del (ascii "ABC") ∷ []) deleted-probes
     -- the working slice is measured by the whole image slice, not by L
     ∷ after 770 two-entries (keeps (lent 769) opt (refusal 2) (lent 769) ∷ works (lent 770) opt (768 ∷ []) (zeros 770) ∷ stores 768 (lent 2) ∷ [])
+    -- header bytes that no refusal names are not tested, and a change keeps them
+    ∷ after 768 (two-entries ++ strange-header ++ ins (ascii "ABC") (ascii "one") ∷ []) (checks 768 (2 ∷ 1 ∷ 1 ∷ 0 ∷ []) ∷ stores 0 strange-bytes ∷ [])
+    -- optimise keeps the bytes of a run
+    ∷ after 768 (two-entries ++ store 525 strange-entry ∷ opt ∷ []) (stores 525 strange-entry ∷ [])
+    -- the longest front
+    ∷ after 1_280 (ins (t 247) [] ∷ ins (t 248) [] ∷ []) (stores 1_022 (3 ∷ 0 ∷ 247 ∷ 97 ∷ 0 ∷ 128 ∷ 0 ∷ 0 ∷ []) ∷ [])
+    -- two elements of 252 bytes together and four zero bytes fill one index block
+    ∷ after 2_304 (ins (ascii "a") (t 600) ∷ ins (replicate 245 98) (t 600) ∷ []) (lays-out (2_304 ∷ []) 1 (0 ∷ 3 ∷ []) [] ∷ [])
+    -- a headword between two runs goes into the lower one
+    ∷ after 2_560 (ins (ascii "a") (t 500) ∷ ins (ascii "b") (t 509) ∷ ins (ascii "aa") [] ∷ []) (lays-out (2_560 ∷ []) 1 (5 ∷ 2 ∷ []) (0 ∷ 1 ∷ []) ∷ [])
     -- unsigned byte order
     ∷ after 768 (ins (0x83 ∷ 0x41 ∷ []) (ascii "ka") ∷ ins (ascii "Z") (ascii "zed") ∷ []) (walks false [] (lent 2) (lent 3) (128 ∷ 1 ∷ 3 ∷ []) (ascii "Z" ++ lent 1) (ascii "zed") ∷ [])
     -- the last entry deleted: its block is free, the index keeps its block; optimise leaves the header
@@ -318,17 +387,36 @@ cases =
     -- an input of 65,536 bytes is read, a longer one is 1
     ∷ lists [] (ascii "refused   1\n")
     ∷ lists (zeros 65_536) (ascii "refused   3\n")
-    ∷ lists (zeros 65_537) (ascii "refused   1\n")
+    ∷ lists (zeros 65_792) (ascii "refused   1\n")
+    -- six columns
+    ∷ gives (column 6 65_536) (ascii " 65536")
     ∷ formats (256 ∷ 2 ∷ 65_536 ∷ 1_024 ∷ [])
+    -- the engine's answers and the C codes
+    ∷ gives (told-length (length-answer (LengthAnswer.Done 256)) ++ told-length (length-answer (LengthAnswer.Refused 15))) (256 ∷ 0 ∷ 15 ∷ [])
+    ∷ gives (told-figures (check-answer (CheckAnswer.Counted 1 2 3 4)) ++ told-figures (check-answer (CheckAnswer.Refused 9))) (1 ∷ 2 ∷ 3 ∷ 4 ∷ 0 ∷ 9 ∷ [])
+    ∷ gives (told-text (look-up-answer (LookUpAnswer.Found 1 2)) ++ told-text (look-up-answer LookUpAnswer.Absent) ++ told-text (look-up-answer (LookUpAnswer.Refused 14))) (1 ∷ 2 ∷ 0 ∷ 14 ∷ [])
+    ∷ gives (told-entry (walk-answer (WalkAnswer.Found 1 2 3)) ++ told-entry (walk-answer WalkAnswer.Absent) ++ told-entry (walk-answer (WalkAnswer.Refused 12))) (1 ∷ 2 ∷ 3 ∷ 0 ∷ 12 ∷ [])
+    ∷ gives (told-removed (delete-answer (DeleteAnswer.Removed 512)) ++ told-removed (delete-answer DeleteAnswer.Absent) ++ told-removed (delete-answer (DeleteAnswer.Refused 2))) (512 ∷ 0 ∷ 2 ∷ [])
+    ∷ gives (code (check-answer (CheckAnswer.Counted 1 2 3 4)) ∷ code (check-answer (CheckAnswer.Refused 9)) ∷ []) (0 ∷ 9 ∷ [])
+    ∷ gives (code-or-absent (look-up-answer (LookUpAnswer.Found 1 2)) ∷ code-or-absent (look-up-answer LookUpAnswer.Absent) ∷ code-or-absent (look-up-answer (LookUpAnswer.Refused 14)) ∷ []) (0 ∷ 100 ∷ 14 ∷ [])
+    ∷ gives (lent-number (λ c. c .headwords) 77 (check-answer (CheckAnswer.Counted 1 2 3 4)) ∷ lent-number (λ c. c .headwords) 77 (check-answer (CheckAnswer.Refused 9)) ∷ []) (1 ∷ 77 ∷ [])
+    ∷ gives
+    (lent-number-or-absent (λ f. f .text-length) 77 (look-up-answer (LookUpAnswer.Found 1 2))
+    ∷ lent-number-or-absent (λ f. f .text-length) 77 (look-up-answer LookUpAnswer.Absent)
+    ∷ lent-number-or-absent (λ f. f .text-length) 77 (look-up-answer (LookUpAnswer.Refused 14))
+    ∷ [])
+    (2 ∷ 77 ∷ 77 ∷ [])
     ∷ after 1_792 two-free free-probes
     -- optimise: zeros from the new L, 1,280, to the old, 1,792; what stands past the old is kept
     ∷ after 1_794 (two-free ++ store 1_792 (7 ∷ 8 ∷ []) ∷ opt ∷ []) (stores 1_278 (0 ∷ 0 ∷ zeros 512 ++ 7 ∷ 8 ∷ []) ∷ [])
+    -- what a deletion leaves is cut too
+    ∷ after 1_792 long-run (lays-out (1_792 ∷ []) 1 (0 ∷ 2 ∷ []) [] ∷ [])
     -- a growth by one: the run at block 0 is moved, the one at block 1 stays
     ∷ after 3_328 (ins (ascii "c") (t 100) ∷ ins (ascii "b") (t 1_000) ∷ ins (t 248) [] ∷ ins (replicate 248 98) [] ∷ []) (lays-out (3_328 ∷ []) 3 (0 ∷ 3 ∷ 7 ∷ 2 ∷ []) [] ∷ [])
     -- the lowest of three free extents of one length
     ∷ after 4_352 equal-extents (lays-out (4_352 ∷ []) 1 (3 ∷ 9 ∷ 0 ∷ []) (6 ∷ 7 ∷ 8 ∷ 12 ∷ 13 ∷ 14 ∷ []) ∷ [])
-    -- a growth by two with two moved runs: the runs, empty_block2 to nblock2, and a link of the free list
-    ∷ after 4_352 two-moved (lays-out (4_352 ∷ []) 3 (1 ∷ 0 ∷ 3 ∷ 8 ∷ 4 ∷ []) (6 ∷ 7 ∷ []) ∷ stores 186 (6 ∷ 0 ∷ 0 ∷ 0 ∷ 5 ∷ 0 ∷ 0 ∷ 0 ∷ 11 ∷ 0 ∷ 0 ∷ 0 ∷ []) ∷ stores 2_560 (0 ∷ 0 ∷ 7 ∷ 0 ∷ 0 ∷ 0 ∷ []) ∷ [])
+    -- a growth by two with two moved runs: the runs, empty_block2 to nblock2, the last bytes of a moved run, and a link of the free list
+    ∷ after 4_352 two-moved (lays-out (4_352 ∷ []) 3 (1 ∷ 0 ∷ 3 ∷ 8 ∷ 4 ∷ []) (6 ∷ 7 ∷ []) ∷ stores 186 (6 ∷ 0 ∷ 0 ∷ 0 ∷ 5 ∷ 0 ∷ 0 ∷ 0 ∷ 11 ∷ 0 ∷ 0 ∷ 0 ∷ []) ∷ stores 1_278 (9 ∷ 9 ∷ []) ∷ stores 2_560 (0 ∷ 0 ∷ 7 ∷ 0 ∷ 0 ∷ 0 ∷ []) ∷ [])
     ∷ []
 
 -- THE THEOREM: every row holds
@@ -337,5 +425,5 @@ CasesHold = T (all case-holds cases)
 
 -- names all definitions of this module: who unfolds it unfolds them
 unfoldable pub open-cases : Unit {0}
-unfolding probe-holds case-holds two-entries two-free xq xr two-moved equal-extents check-probes run-probes long-headword-probes long-text-probes look-up-probes walk-probes refusal-probes bytes-probes deleted-probes free-probes cases CasesHold
+unfolding open-answers probe-holds case-holds strange-header strange-bytes strange-entry two-entries two-free xq xr two-moved long-run equal-extents check-probes run-probes long-headword-probes long-text-probes look-up-probes walk-probes refusal-probes bytes-probes deleted-probes free-probes cases CasesHold
 open-cases = tt

@@ -11,6 +11,7 @@ pub mod BestFit
 pub mod Check
 pub mod SortedList
 pub mod Place
+pub mod TargetForm
 pub mod CutForm
 pub mod Calls
 pub mod Answers
