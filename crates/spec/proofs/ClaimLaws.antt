@@ -90,7 +90,7 @@ module _ (s : List ℕ) (L : ℕ) (i : Image) (got : image-in s L ≡ ok i) (sma
   blocks : run-blocks (i .runs) + length (i .free-list) ≡ i .frame .data-blocks
   blocks = blocks-once (i .frame .data-blocks) (i .runs) (i .free-list) (told .once) (runs-inside (i .frame .format) (i .frame .data-blocks) _ (told .elements) (i .runs) (told .runs)) below-D
 
-  -- "A check then answers as many headwords as the sorted list has entries, and data blocks = blocks in runs + free blocks"
+  -- check answers as many headwords as there are entries, and data blocks = blocks in runs + free blocks
   checked : check s L
       ≡ ok (record { headwords = length (entries-of i); index-blocks = i .frame .index-blocks; data-blocks = run-blocks (i .runs) + length (i .free-list); free-blocks = length (i .free-list) })
   unfolding check figures
@@ -441,7 +441,7 @@ good-rows s i work h k =
     let (y, z) = both-hold (leb (length s) (length work)) (writable (i .frame .format .layout) s) k₁ in
     (le-ltb (length work) (length s) (leb→le (length s) (length work) y), ap not (holds-true (writable (i .frame .format .layout) s) z), ap not (holds-true (headword-ok h) x))
 
--- "refused exactly when its placing passes the slice or a limit"
+-- with good arguments an insertion is refused exactly when its placing passes the slice or a limit
 pub insert-refused : InsertRefused
 unfolding InsertRefused rows
 insert-refused s L i small got work h a t good arguments =

@@ -25,6 +25,10 @@ absent-stays h (e ∷ es) p = go (absent-stays h es) (has-headword h e) refl
     go ih true q = absurd (Option·none-ne-some e (sym p ∙ rw (filter-yes (has-headword h) e es q)))
     go ih false q = filter-yes (λ d. not (has-headword h d)) e es (ap not q) ∙ ap (λ (l : List Entry). e ∷ l) (ih (sym (rw (filter-no (has-headword h) e es q)) ∙ p))
 
+-- the entries of three lists for which a test holds
+filter-three : (f : Entry → Bool) (x y z : List Entry) → filter f (x ++ y ++ z) ≡ filter f x ++ filter f y ++ filter f z
+filter-three f x y z = filter-append f (x ++ y) z ∙ ap (λ (l : List Entry). l ++ filter f z) (filter-append f x y)
+
 module _ (F : Format) (order : IsOrder (F .below)) where
   -- entries that ascend from a headword ascend from any below it
   ok-lower : (prev k : List ℕ) (es : List Entry) → F .below prev k ≡ true → EntriesOk F k es → EntriesOk F prev es
@@ -102,10 +106,10 @@ module _ (F : Format) (order : IsOrder (F .below)) where
   replace-between a before es after l u =
       let lower : Entry → Bool = λ e. F .below (e .headword) (a .headword) in
       let upper : Entry → Bool = λ e. F .below (a .headword) (e .headword) in
-      let p : filter lower (before ++ es ++ after) ≡ before ++ filter lower es =
-      filter-append lower (before ++ es) after ∙ ap₂ (λ (x y : List Entry). x ++ y) (filter-append lower before es ∙ ap (λ (x : List Entry). x ++ filter lower es) (filter-every lower before l)) (filter-nothing lower after (all-map _ _ (λ e q. one-way (F .below) order (a .headword) (e .headword) q) after u)) ∙ append-nil (before ++ filter lower es) in
-      let q : filter upper (before ++ es ++ after) ≡ filter upper es ++ after =
-      filter-append upper (before ++ es) after ∙ ap₂ (λ (x y : List Entry). x ++ y) (filter-append upper before es ∙ ap (λ (x : List Entry). x ++ filter upper es) (filter-nothing upper before (all-map _ _ (λ e r. one-way (F .below) order (e .headword) (a .headword) r) before l))) (filter-every upper after u) in
+      let not-lower = filter-nothing lower after (all-map _ _ (λ e q. one-way (F .below) order (a .headword) (e .headword) q) after u) in
+      let not-upper = filter-nothing upper before (all-map _ _ (λ e q. one-way (F .below) order (e .headword) (a .headword) q) before l) in
+      let p : filter lower (before ++ es ++ after) ≡ before ++ filter lower es = filter-three lower before es after ∙ rw (filter-every lower before l, not-lower, append-nil) in
+      let q : filter upper (before ++ es ++ after) ≡ filter upper es ++ after = filter-three upper before es after ∙ rw (not-upper, filter-every upper after u) in
       ap₂ (λ (x y : List Entry). x ++ a ∷ y) p q ∙ joined (filter lower es) (filter upper es)
     where
       joined : (x y : List Entry) → (before ++ x) ++ a ∷ (y ++ after) ≡ before ++ (x ++ a ∷ y) ++ after
@@ -117,6 +121,6 @@ module _ (F : Format) (order : IsOrder (F .below)) where
   unfolding remove has-headword
   remove-between h before es after l u =
       let f : Entry → Bool = λ e. not (bytes-equal (e .headword) h) in
-      filter-append f (before ++ es) after
-      ∙ ap₂ (λ (x y : List Entry). x ++ y) (filter-append f before es ∙ ap (λ (x : List Entry). x ++ filter f es) (filter-every f before (all-map _ _ (λ e q. ap not (other F order (e .headword) h q)) before l)))
-      (filter-every f after (all-map _ _ (λ e q. ap not (other-way F order h (e .headword) q)) after u))
+      let p = filter-every f before (all-map _ _ (λ e q. ap not (other F order (e .headword) h q)) before l) in
+      let q = filter-every f after (all-map _ _ (λ e q. ap not (other-way F order h (e .headword) q)) after u) in
+      filter-three f before es after ∙ ap₂ (λ (x y : List Entry). x ++ filter f es ++ y) p q
