@@ -97,7 +97,7 @@ renumbered-heads g ms [] = refl
 renumbered-heads g ms (r ∷ rs) = ap (λ (l : List (List ℕ)). r .headword ∷ l) (renumbered-heads g ms rs)
 
 -- packed runs keep their headwords
-packed-heads : (b : ℕ) (rs : List Run) → heads (packed b rs) ≡ heads rs
+pub packed-heads : (b : ℕ) (rs : List Run) → map (λ r. r .headword) (packed b rs) ≡ map (λ r. r .headword) rs
 unfolding packed at-block
 packed-heads b [] = refl
 packed-heads b (r ∷ rs) = ap (λ (l : List (List ℕ)). r .headword ∷ l) (packed-heads (b + r .size) rs)

@@ -1,5 +1,5 @@
 -- Placing lays runs apart: runs that lie apart from one another still do after a change, after the index has grown, and when packed.
-use Prim.Native.Nat.{ℕ, zero, suc, _+_, _-_, _*_, _<_, _≤_, max}
+use Prim.Native.Nat.{ℕ, _+_, _-_, _*_, _<_, _≤_, max}
 use mathlib.Core.Path.{_≡_, refl, sym, ap, subst, _∙_}
 use mathlib.Core.Logic.{_⊎_, inl, inr, ⊎-elim}
 use mathlib.Core.Bool.{Bool, true, false, not, false≢true}
@@ -9,7 +9,7 @@ use native.Mathlib.Omega.{arith}
 use lib.ListN.{length}
 use lib.Dec.{leb}
 use borrow.Author.Tests.{not-true, ne-eqb, eq-eqb}
-use Rattle.spec.specs.Lists.{any, filter, count, range-from}
+use Rattle.spec.specs.Lists.{any, filter, count}
 use Rattle.spec.specs.Bytes.{blocks-for}
 use Rattle.spec.specs.Header.{Format}
 use Rattle.spec.specs.Entry.{Entry}
@@ -18,7 +18,7 @@ use Rattle.spec.specs.Blocks.{covers, is-free, place-for, run-blocks, ea
 use Rattle.spec.specs.BestFit.{BestFitIsPlace}
 use Rattle.spec.specs.Check.{Image}
 use Rattle.spec.specs.Place.{Target, Placed, Move, Grown, target-run, cut, new-run, at-block, with-run, place, by-number, in-number-order, touches, moves, new-number, renumbered, grown, plan-change, packed}
-use Rattle.spec.proofs.ListsLaws.{or-right, All, all-append, all-front, all-back, all-both, less-or, filter-all, filter-yes, filter-no, count-cons}
+use Rattle.spec.proofs.ListsLaws.{All, range-some, all-append, all-front, all-back, all-both, less-or, filter-all, filter-yes, filter-no, count-cons}
 use Rattle.spec.proofs.RunLaws.{length-run-bytes}
 use Rattle.spec.proofs.BlocksLaws.{Apart, Laid, laid-inside, covers-inside, free-apart}
 use Rattle.spec.proofs.BestFitLaws.{best-fit-is-place, place-within, place-apart}
@@ -214,13 +214,6 @@ laid-fallen : (g D : ℕ) (ms : List Move) (rs : List Run) → All (λ r. g ≤ 
 unfolding renumbered at-block
 laid-fallen g D ms [] f l = tt
 laid-fallen g D ms (r ∷ rs) (f, fs) (p, i, a, l) = (p, omega arith, apart-fallen g _ _ ms rs f fs a, laid-fallen g D ms rs fs l)
-
--- a test that holds for a number of a range holds for some
-range-some : (f : ℕ → Bool) (i n b : ℕ) → i ≤ b → b < i + n → f b ≡ true → any f (range-from i n) ≡ true
-unfolding any range-from
-range-some f i zero b h k t = absurd (omega arith)
-range-some f i (suc n) b h k t =
-    ⊎-elim (λ (l : i < b). or-right (f i) _ (range-some f (suc i) n b (omega arith) (omega arith) t)) (λ (l : b ≤ i). let e : i ≡ b = omega arith in rw (e, t)) (less-or i b)
 
 -- a run that touches none of the blocks 0 to g − 1 has a number from g up
 touches-none : (g : ℕ) (r : Run) → 1 ≤ r .size → not (touches g r) ≡ true → g ≤ r .block

@@ -219,6 +219,13 @@ unfolding all range-from
 range-all f i zero h b p q = absurd (omega arith)
 range-all f i (suc n) h b p q = ⊎-elim (λ l. range-all f (suc i) n (and-right (f i) (all f (range-from (suc i) n)) h) b (omega arith) (omega arith)) (λ l. let e : b ≡ i = omega arith in rw e (and-left (f i) (all f (range-from (suc i) n)) h)) (less-or i b)
 
+-- a test that holds for a number of a range holds for some
+pub range-some : (f : ℕ → Bool) (i n b : ℕ) → i ≤ b → b < i + n → f b ≡ true → any f (range-from i n) ≡ true
+unfolding any range-from
+range-some f i zero b h k t = absurd (omega arith)
+range-some f i (suc n) b h k t =
+    ⊎-elim (λ (l : i < b). or-right (f i) _ (range-some f (suc i) n b (omega arith) (omega arith) t)) (λ (l : b ≤ i). let e : i ≡ b = omega arith in rw (e, t)) (less-or i b)
+
 -- a test that holds for no element counts none
 pub count-none {ℓ} : {A : Type ℓ} (f : A → Bool) (l : List A) → any f l ≡ false → count f l ≡ 0
 unfolding any count filter
