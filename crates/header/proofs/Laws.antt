@@ -1,24 +1,30 @@
--- The fields of a header as code reads them, and what its tests and its frame show.
+-- The fields of a header as code reads them, what its tests and its frame show, and what it is after stores.
 use Prim.Native.Nat.{ℕ, _+_, _-_, _*_, _/_, _%_, _<_, _≤_}
 use mathlib.Core.Path.{_≡_, refl, sym, ap, _∙_}
 use mathlib.Core.Bool.{Bool, true, false, not, _&&_}
-use mathlib.Core.List.{List}
+use mathlib.Core.List.{List, [], _∷_, _++_, append-assoc}
 use native.Mathlib.Omega.{arith}
-use lib.ListN.{length, getD, take, drop, length-drop}
-use lib.Seq.{take-all}
+use lib.ListN.{length, getD, take, drop, length-drop, take-append-drop}
+use lib.Seq.{take-all, length-take-le, take-append-le, drop-append-le}
 use lib.Dec.{eqb, ltb, leb}
 use borrow.Author.Tests.{lt-ltb, le-ltb, le-leb, lt-leb, eq-eqb, ne-eqb, ltb-true, ltb-false}
 use Rattle.spec.specs.Outcome.{refused, ok, accepted}
-use Rattle.spec.specs.Bytes.{from-little-endian, bytes-at}
-use Rattle.spec.specs.Header.{field-at, get, layout4, format4, high-version-of}
+use Rattle.spec.specs.Bytes.{from-little-endian, to-little-endian, bytes-at, write, zeros}
+use Rattle.spec.specs.Header.{Setting, Counts, field-at, get, put, put-all, _holding_, layout4, format4, high-version-of, writable, change-settings, changed-header, empty-image, open-header}
 use Rattle.spec.specs.Check.{slice-ok, kind-ok, options-ok, frame-from, data-start, index-area, data-area}
 use Rattle.spec.specs.Rows.{SliceRule}
+use Rattle.spec.proofs.ListsLaws.{All}
+use Rattle.spec.proofs.BytesLaws.{length-to-little-endian, length-zeros}
+use Rattle.spec.proofs.WriteLaws.{length-write}
 use Rattle.spec.proofs.PartLaws.{bytes-at-cons}
+use Rattle.spec.proofs.HeaderLaws as Headers
+use Rattle.spec.proofs.HeaderLaws.{get-take, lawful4}
 use Rattle.spec.proofs.OutcomeLaws.{accepted-answer, refused-only}
 use Rattle.spec.proofs.StoredHeaderLaws as Stored
 use Rattle.spec.proofs.StoredHeaderLaws.{slice-stored}
 use Rattle.spec.proofs.ReadLaws.{FrameFits, frame-fits}
 use Rattle.header.specs.Framed.{frame4, framed}
+use Rattle.header.specs.Empty.{size-settings}
 use Rattle.header.specs.declared.Framed.{Framed}
 
 -- ---- fields
@@ -153,7 +159,121 @@ module _ (s : List ℕ) (k : Bool) (ke : k ≡ kind-ok layout4 s) where
           unfolding framed frame-from format4
           frame-whole h = rw (← ke, kt, ← oe, ot, got, le-ltb 32767 n nt, le-ltb (length s) (256 + 256 * n) lt, le-ltb 65536 ((length s - (256 + 256 * n)) / 256) h)
 
+-- ---- row 11
+-- the low byte of the version
+pub version-writable : (s : List ℕ) (v : ℕ) → v ≡ from-little-endian (bytes-at 140 2 s) → ltb (v % 256) 16 ≡ writable layout4 s
+unfolding writable layout4
+version-writable s v e = rw (get-at 140 2 s, ← e)
+
+-- ---- stores
+-- one more update
+pub update-raised : (s : List ℕ) (n r : ℕ) → n ≡ from-little-endian (bytes-at 208 4 s) → r ≡ (n + 1) % 4294967296 → r ≡ (get (layout4 .update-count) s + 1) % 4294967296
+unfolding layout4
+update-raised s n r e p = p ∙ rw (e, get-at 208 4 s)
+
+-- the six stores of a change
+pub counts-stored : (s s₁ s₂ s₃ s₄ s₅ s₆ : List ℕ) (index words first elements blocks update : ℕ)
+    → update ≡ (get (layout4 .update-count) s + 1) % 4294967296
+    → s₁ ≡ write 208 (to-little-endian 4 update) s
+    → s₂ ≡ write 194 (to-little-endian 4 blocks) s₁
+    → s₃ ≡ write 190 (to-little-endian 4 elements) s₂
+    → s₄ ≡ write 186 (to-little-endian 4 first) s₃
+    → s₅ ≡ write 160 (to-little-endian 4 words) s₄
+    → s₆ ≡ write 148 (to-little-endian 2 index) s₅
+    → s₆ ≡ changed-header layout4 (record { index-blocks = index; entries = words; first-free = first; elements = elements; run-blocks = blocks }) s
+unfolding open-header
+counts-stored s s₁ s₂ s₃ s₄ s₅ s₆ index words first elements blocks update e p₁ p₂ p₃ p₄ p₅ p₆ = rw (p₆, p₅, p₄, p₃, p₂, p₁, e)
+
+-- the five stores of the empty image's sizes
+pub sizes-stored : (s s₁ s₂ s₃ s₄ s₅ : List ℕ)
+    → s₁ ≡ write 150 (to-little-endian 2 256) s
+    → s₂ ≡ write 146 (to-little-endian 2 256) s₁
+    → s₃ ≡ write 144 (to-little-endian 2 3000) s₂
+    → s₄ ≡ write 142 (to-little-endian 2 248) s₃
+    → s₅ ≡ write 140 (to-little-endian 2 1024) s₄
+    → s₅ ≡ put-all (size-settings layout4) s
+unfolding open-header size-settings
+sizes-stored s s₁ s₂ s₃ s₄ s₅ p₁ p₂ p₃ p₄ p₅ = rw (p₅, p₄, p₃, p₂, p₁)
+
+-- bytes written from 0 on
+write-start : (x t : List ℕ) → write 0 x t ≡ x ++ drop (length x) t
+unfolding write
+write-start x t =
+    let e : 0 + length x ≡ length x = omega arith in
+    rw e
+
+-- bytes written inside the first of two lists
+write-front : (i : ℕ) (y x t : List ℕ) → i + length y ≤ length x → write i y (x ++ t) ≡ write i y x ++ t
+unfolding write
+write-front i y x t h =
+    let a : i ≤ length x = omega arith in
+    rw (take-append-le i x t, drop-append-le (i + length y) x t) (sym (append-assoc (take i x ++ y) (drop (i + length y) x) t))
+
+-- settings that lie inside n bytes
+abbrev Inside : ℕ → List Setting → Type 0
+Inside n ws = All (λ w. w .field .offset + w .field .bytes ≤ n) ws
+
+-- settings made inside the first of two lists
+put-all-front : (ws : List Setting) (x t : List ℕ) → Inside (length x) ws → (length (put-all ws x) ≡ length x) × (put-all ws (x ++ t) ≡ put-all ws x ++ t)
+unfolding put-all put
+put-all-front [] x t h = (refl, refl)
+put-all-front (w ∷ ws) x t (h, hs) =
+    let (l, e) = put-all-front ws x t hs in
+    let y : List ℕ = to-little-endian (w .field .bytes) (w .holds) in
+    let k : length y ≡ w .field .bytes = length-to-little-endian (w .field .bytes) (w .holds) in
+    let f : w .field .offset + length y ≤ length (put-all ws x) = omega arith in
+    (length-write (w .field .offset) y (put-all ws x) f ∙ l, ap (write (w .field .offset) y) e ∙ write-front (w .field .offset) y (put-all ws x) t f)
+
+-- settings made inside bytes written from 0 on
+put-all-inside : (ws : List Setting) (x t : List ℕ) → Inside (length x) ws → put-all ws (write 0 x t) ≡ write 0 (put-all ws x) t
+put-all-inside ws x t h =
+    let (l, e) = put-all-front ws x (drop (length x) t) h in
+    ap (put-all ws) (write-start x t) ∙ e ∙ ap (λ (k : ℕ). put-all ws x ++ drop k t) (sym l) ∙ sym (write-start (put-all ws x) t)
+
+-- the settings of the empty image
+abbrev empty-settings : List Setting
+empty-settings = size-settings layout4 ++ layout4 .attrlen holding 1 ∷ layout4 .empty-block holding 0xFFFF ∷ layout4 .empty-block2 holding 0xFFFFFFFF ∷ []
+
+-- they lie inside 256 bytes
+empty-inside : (n : ℕ) → n ≡ 256 → Inside n empty-settings
+unfolding open-header size-settings
+empty-inside n e = (omega arith, (omega arith, (omega arith, (omega arith, (omega arith, (omega arith, (omega arith, (omega arith, tt))))))))
+
+-- the stores of the empty image
+pub empty-stored : (s s₁ s₂ s₃ s₄ s₅ : List ℕ)
+    → s₁ ≡ write 0 (zeros 256) s
+    → s₂ ≡ write 186 (to-little-endian 4 4294967295) s₁
+    → s₃ ≡ write 154 (to-little-endian 2 65535) s₂
+    → s₄ ≡ write 166 (1 ∷ []) s₃
+    → s₅ ≡ put-all (size-settings layout4) s₄
+    → s₅ ≡ write 0 (empty-image layout4) s
+unfolding open-header size-settings to-little-endian
+empty-stored s s₁ s₂ s₃ s₄ s₅ p₁ p₂ p₃ p₄ p₅ = rw (p₅, p₄, p₃, p₂, p₁) (put-all-inside empty-settings (zeros 256) s (empty-inside (length (zeros 256)) (length-zeros 256)))
+
+-- the settings of a change lie inside 256 bytes
+change-inside : (c : Counts) (s : List ℕ) (n : ℕ) → n ≡ 256 → Inside n (change-settings layout4 c s)
+unfolding open-header
+change-inside c s n e = (omega arith, (omega arith, (omega arith, (omega arith, (omega arith, (omega arith, tt))))))
+
+-- and are those by these bytes
+same-settings : (c : Counts) (s : List ℕ) → change-settings layout4 c s ≡ change-settings layout4 c (take 256 s)
+unfolding change-settings layout4 field-at
+same-settings c s = rw (get-take (layout4 .update-count) 256 s (omega arith))
+
 -- ---- for callers
+-- a change writes only in the first 256 bytes
+pub header-front : (c : Counts) (s : List ℕ) → 256 ≤ length s → changed-header layout4 c s ≡ changed-header layout4 c (take 256 s) ++ drop 256 s
+unfolding changed-header
+header-front c s h =
+    ap (λ (ws : List Setting). put-all ws s) (same-settings c s)
+    ∙ ap (put-all (change-settings layout4 c (take 256 s))) (sym (take-append-drop 256 s))
+    ∙ put-all-front (change-settings layout4 c (take 256 s)) (take 256 s) (drop 256 s) (change-inside c (take 256 s) (length (take 256 s)) (length-take-le 256 s h)) .1
+
+-- and leaves the length
+pub length-changed : (c : Counts) (s : List ℕ) → 256 ≤ length s → length (changed-header layout4 c s) ≡ length s
+unfolding format4
+length-changed c s h = Headers.length-changed layout4 (lawful4 .layout-lawful) c s h
+
 -- the first L bytes of a slice
 module _ (s : List ℕ) (L : ℕ) where
   -- where it is no image, row 1 is broken

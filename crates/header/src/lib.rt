@@ -1,22 +1,33 @@
-// The header of an image: its fields, and rows 3 to 5 of the refusals.
+// The header of an image: its fields, rows 3 to 5 and 11 of the refusals, and what is written in it.
 ghost use mathlib.Core.Path.{_≡_};
-ghost use Prim.Native.Nat.{_≤_, _<_, _%_};
+ghost use Prim.Native.Nat.{_+_, _≤_, _<_, _%_};
 ghost use lib.ListN.{length};
 ghost use Rattle.spec.specs.Outcome.{accepted};
-ghost use Rattle.spec.specs.Header.{layout4, format4, get};
+ghost use Rattle.spec.specs.Bytes.{write};
+ghost use Rattle.spec.specs.Header.{layout4, format4, get, put-all, writable, changed-header, empty-image};
 ghost use Rattle.spec.specs.Check.{slice-ok, kind-ok, options-ok, frame-from};
 ghost use Rattle.header.specs.Framed.{framed};
+ghost use Rattle.header.specs.Empty.{size-settings};
 use byteops::read_u16;
 use byteops::read_u32;
+use byteops::write_u8;
+use byteops::write_u16;
+use byteops::write_u32;
 
 // Offsets of the fields.
 const VERSION: usize = 140;
+
+const LWORD: usize = 142;
+
+const LJAPA: usize = 144;
 
 const BLOCK_SIZE: usize = 146;
 
 const INDEX_BLOCK: usize = 148;
 
 const HEADER_SIZE: usize = 150;
+
+const EMPTY_BLOCK: usize = 154;
 
 const NWORD: usize = 160;
 
@@ -37,6 +48,8 @@ const NINDEX2: usize = 190;
 const NBLOCK2: usize = 194;
 
 const INDEX_BLKBIT: usize = 198;
+
+const UPDATE_COUNT: usize = 208;
 
 // How many blocks the index and the data area of an image have, or the first of rows 3 to 5 that it breaks.
 pub enum Framed {
@@ -157,4 +170,69 @@ pub fn frame(s: &[u8]) -> Framed
         return Framed::Refused(5);
     }
     Framed::Blocks { index: n, data: d }
+}
+
+// Whether the image may be changed: row 11.
+pub fn writable(s: &[u8]) -> bool
+    requires { ⌜ 256 ≤ length (now s) ⌝ }
+    ensures { λ r. ⌜ r ≡ writable layout4 (now (s .entry)) ⌝ }
+{
+    read_u16(s, VERSION) % 256 < 16
+}
+
+// The update count with one added; it goes from 4,294,967,295 to 0.
+fn next_update(s: &[u8]) -> usize
+    requires { ⌜ 256 ≤ length (now s) ⌝ }
+    ensures { λ r. ⌜ r ≡ (get (layout4 .update-count) (now (s .entry)) + 1) % 4294967296 ⌝ }
+{
+    let count = read_u32(s, UPDATE_COUNT) as u32;
+    std::num::wrapping_add_u32(count, 1) as usize
+}
+
+// Stores the counts of a change, and adds one to the update count.
+pub fn write_counts(
+    s: &mut [u8],
+    index: usize,
+    words: usize,
+    first: usize,
+    elements: usize,
+    blocks: usize,
+)
+    requires { ⌜ 256 ≤ length (now s) ⌝ }
+    ensures { λ _. ⌜ now (s .exit) ≡ changed-header layout4 (record { index-blocks = index; entries = words; first-free = first; elements = elements; run-blocks = blocks }) (now (s .entry)) ⌝ }
+    ensures { λ _. ⌜ length (now (s .exit)) ≡ length (now (s .entry)) ⌝ }
+{
+    let update = next_update(s);
+    write_u32(s, UPDATE_COUNT, update);
+    write_u32(s, NBLOCK2, blocks);
+    write_u32(s, NINDEX2, elements);
+    write_u32(s, EMPTY_BLOCK2, first);
+    write_u32(s, NWORD, words);
+    write_u16(s, INDEX_BLOCK, index);
+}
+
+// Stores the version and the sizes of the empty image.
+fn write_sizes(s: &mut [u8])
+    requires { ⌜ 256 ≤ length (now s) ⌝ }
+    ensures { λ _. ⌜ now (s .exit) ≡ put-all (size-settings layout4) (now (s .entry)) ⌝ }
+    ensures { λ _. ⌜ length (now (s .exit)) ≡ length (now (s .entry)) ⌝ }
+{
+    write_u16(s, HEADER_SIZE, 256);
+    write_u16(s, BLOCK_SIZE, 256);
+    write_u16(s, LJAPA, 3000);
+    write_u16(s, LWORD, 248);
+    write_u16(s, VERSION, 1024);
+}
+
+// Stores the empty image.
+pub fn write_empty(s: &mut [u8])
+    requires { ⌜ 256 ≤ length (now s) ⌝ }
+    ensures { λ _. ⌜ now (s .exit) ≡ write 0 (empty-image layout4) (now (s .entry)) ⌝ }
+    ensures { λ _. ⌜ length (now (s .exit)) ≡ length (now (s .entry)) ⌝ }
+{
+    byteops::fill_zero(s, 0, 256);
+    write_u32(s, EMPTY_BLOCK2, 0xFFFFFFFF);
+    write_u16(s, EMPTY_BLOCK, 0xFFFF);
+    write_u8(s, ATTRLEN, 1);
+    write_sizes(s);
 }

@@ -1,0 +1,99 @@
+-- What is left of the list, written over what stands there now, is the whole list written.
+use Prim.Native.Nat.{_-_, _*_, _≤_}
+use mathlib.Core.Path.{_≡_}
+use mathlib.Core.Bool.{true}
+use native.Mathlib.Omega.{arith}
+use lib.ListN.{length, take, drop}
+use Rattle.spec.specs.Blocks.{free-list-written}
+use Rattle.marks.specs.Marks.{marks, gap}
+use Rattle.chain.specs.Numbers.{numbers}
+use Rattle.chain.proofs.Laws.{rest-written, gap-next, chain-turn, chain-laws}
+use borrow.Author.Needs.{needs}
+use Rattle.chain.proofs.write_free_list.Statement.{statement}
+use Rattle.chain.proofs.write_free_list.Tie as tie
+
+abbrev Inv-loop : tie.InvT-loop
+Inv-loop area₀ free g d first b₀ area b =
+    (g ≤ b) × (b ≤ d) × (length area ≡ length area₀) × (256 * (d - g) ≤ length area)
+    × (gap true (drop b (take d (marks free))) ≡ 0)
+    × (rest-written free g d b area ≡ free-list-written (numbers 0 (take (d - g) (drop g (marks free)))) area₀)
+
+abbrev μ-loop : tie.MeasureT-loop
+μ-loop area₀ free g d first b₀ area b = d - b
+
+next-marked-requires : tie.Need-next-marked-requires Inv-loop μ-loop
+next-marked-requires c κs = search chain-laws
+
+loop-holds : tie.Need-loop-holds Inv-loop μ-loop
+loop-holds c = search chain-laws
+
+add-next-marked : tie.Need-add-next-marked Inv-loop μ-loop
+add-next-marked c = search chain-laws
+
+next-marked-requires-2 : tie.Need-next-marked-requires-2 Inv-loop μ-loop
+next-marked-requires-2 c κs = search chain-laws
+
+sub-at : tie.Need-sub-at Inv-loop μ-loop
+sub-at c = search chain-laws
+
+mul-at : tie.Need-mul-at Inv-loop μ-loop
+mul-at c = search chain-laws
+
+write-u16-requires : tie.Need-write-u16-requires Inv-loop μ-loop
+write-u16-requires c κs = search chain-laws
+
+add-write-u32 : tie.Need-add-write-u32 Inv-loop μ-loop
+add-write-u32 c = search chain-laws
+
+link-requires : tie.Need-link-requires Inv-loop μ-loop
+link-requires c κs = search chain-laws
+
+write-u32-requires : tie.Need-write-u32-requires Inv-loop μ-loop
+write-u32-requires c κs = search chain-laws
+
+loop-less : tie.Need-loop-less Inv-loop μ-loop
+loop-less c = search chain-laws
+
+loop-again : tie.Need-loop-again Inv-loop μ-loop
+loop-again c =
+    let l = c .before .before .before .before .before .before .before .before .before .before .before .loop in
+    let n = c .before .before .before .before .before .before .before .before .before .next-marked2 in (
+      search needs,
+      search needs,
+      search needs,
+      search needs,
+      search (gap-next, needs),
+      chain-turn _ (l .area) _ _ _ _ _ (l .b) (n .result) _ (l .inv .5) (l .inv .4) (n .ensures .0) (c .before .before .before .link .ensures) (c .before .before .before .before .before .before .before .write-u16 .ensures .0) (c .before .before .write-u32 .ensures .0)
+          (omega arith) (omega arith) (omega arith) (omega arith) (omega arith),
+    )
+
+link-requires-2 : tie.Need-link-requires-2 Inv-loop μ-loop
+link-requires-2 c κs = search chain-laws
+
+same-length : tie.Need-same-length Inv-loop μ-loop
+same-length c = search chain-laws
+
+returns : tie.Need-returns Inv-loop μ-loop
+returns c = search chain-laws
+
+pub write-free-list-spec : {M : Type 1} → statement M
+write-free-list-spec =
+    tie.close
+    (tie.spec
+    Inv-loop
+    μ-loop
+    next-marked-requires
+    loop-holds
+    add-next-marked
+    next-marked-requires-2
+    sub-at
+    mul-at
+    write-u16-requires
+    add-write-u32
+    link-requires
+    write-u32-requires
+    loop-less
+    loop-again
+    link-requires-2
+    same-length
+    returns)

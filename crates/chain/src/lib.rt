@@ -1,0 +1,40 @@
+// The free list as it is written, ascending: the chain of the paper.
+ghost use mathlib.Core.Path.{_≡_};
+ghost use Prim.Native.Nat.{_-_, _*_, _≤_};
+ghost use lib.ListN.{length, take, drop};
+ghost use Rattle.spec.specs.Blocks.{free-list-start, free-list-written};
+ghost use Rattle.marks.specs.Marks.{marks};
+ghost use Rattle.chain.specs.Numbers.{numbers, link-to};
+
+// The number that ends the list.
+const END: usize = 0xFFFFFFFF;
+
+// The block behind g of that mark; the end of the list, where it is d.
+fn link(b: usize, g: usize, d: usize) -> usize
+    requires { ⌜ g ≤ b ⌝ }
+    ensures { λ r. ⌜ r ≡ link-to b g d ⌝ }
+{
+    if b < d {
+        return b - g;
+    }
+    END
+}
+
+// Writes the list of the marked blocks g to d - 1, numbered from g on, and answers its first number.
+pub fn write_free_list(area: &mut [u8], free: &[u64], g: usize, d: usize) -> usize
+    requires { ⌜ (g ≤ d) × (d ≤ 64 * length (now free)) × (256 * (d - g) ≤ length (now area)) ⌝ }
+    ensures { λ r. ⌜ now (area .exit) ≡ free-list-written (numbers 0 (take (d - g) (drop g (marks (now (free .entry)))))) (now (area .entry)) ⌝ }
+    ensures { λ r. ⌜ r ≡ free-list-start (numbers 0 (take (d - g) (drop g (marks (now (free .entry)))))) ⌝ }
+    ensures { λ r. ⌜ length (now (area .exit)) ≡ length (now (area .entry)) ⌝ }
+{
+    let first = marks::next_marked(free, g, d);
+    let mut b = first;
+    while b < d {
+        let next = marks::next_marked(free, b + 1, d);
+        let at = 256 * (b - g);
+        byteops::write_u16(area, at, 0);
+        byteops::write_u32(area, at + 2, link(next, g, d));
+        b = next;
+    }
+    link(first, g, d)
+}

@@ -1,0 +1,270 @@
+-- Laws of elements that are written and renewed: for the crates above, and what the turns of the loops show.
+use Prim.Native.Nat.{ℕ, zero, suc, _+_, _-_, _<_, _≤_}
+use mathlib.Core.Path.{_≡_, refl, sym, ap, ap₂, _∙_}
+use mathlib.Core.List.{List, [], _∷_, _++_, map, append-assoc}
+use native.Mathlib.Omega.{arith}
+use lib.ListN.{length, getD, take, drop, length-append, take-append-drop}
+use lib.Seq.{take-at, take-all, length-take-le}
+use borrow.Author.Needs.{needs}
+use borrow.Author.Tests.{lt-ltb, le-ltb}
+use Rattle.spec.specs.Bytes.{from-little-endian, to-little-endian, write, bytes-at}
+use Rattle.spec.specs.Header as Header
+use Rattle.spec.specs.Header.{format4}
+use Rattle.spec.specs.Index.{Element, element-bytes, elements-bytes}
+use Rattle.spec.proofs.BytesLaws.{length-to-little-endian}
+use Rattle.spec.proofs.WriteLaws.{drop-past-write}
+use Rattle.index.specs.Elements.{element-end, element-headword, element-at, elements-at, Inside}
+use Rattle.index.proofs.Laws.{element-end-past, element-headword-length, inside-start, inside-end, inside-next, elements-next}
+use Rattle.elements.specs.Renewed.{elements-end, number-after, renewed}
+
+-- ---- writes one behind the other
+-- bytes written behind others are written with them
+pub write-behind : (d x y : List ℕ) (i : ℕ) → i + length x ≤ length d → write (i + length x) y (write i x d) ≡ write i (x ++ y) d
+unfolding write
+write-behind d x y i h =
+    let m : length (take i d ++ x) ≡ i + length x = length-append (take i d) x ∙ ap (λ (q : ℕ). q + length x) (length-take-le i d (omega arith)) in
+    let p : i + length x + length y ≡ i + length (x ++ y) = omega (arith, length-append x y) in
+    ap₂ (λ (a b : List ℕ). a ++ y ++ b) (take-at (take i d ++ x) (drop (i + length x) d) (i + length x) m) (drop-past-write i x d h (i + length x + length y) (omega arith))
+    ∙ rw (append-assoc (take i d) x y, p)
+
+-- the same in the order of the code, the place of the second by its number
+pub write-on : (d d₁ d₂ x y : List ℕ) (i p : ℕ) → i + length x ≤ length d → p ≡ i + length x → d₁ ≡ write i x d → d₂ ≡ write p y d₁ → d₂ ≡ write i (x ++ y) d
+write-on d d₁ d₂ x y i p h e a b = b ∙ rw (e, a) (write-behind d x y i h)
+
+-- no bytes written
+pub write-none : (d : List ℕ) (i : ℕ) → write i [] d ≡ d
+unfolding write
+write-none d i =
+    let e : i + 0 ≡ i = omega arith in
+    rw e (append-assoc (take i d) [] (drop i d) ∙ take-append-drop i d)
+
+-- ---- the lengths of elements
+-- an element takes three bytes beside its headword
+pub element-size : (e : Element) → length (element-bytes format4 e) ≡ 3 + length (e .headword)
+unfolding element-bytes Header.format4
+element-size e =
+    omega (arith, length-append (to-little-endian 2 (e .block) ++ e .headword) (0 ∷ []), length-append (to-little-endian 2 (e .block)) (e .headword), length-to-little-endian 2 (e .block))
+
+-- an element and those behind it
+pub elements-size : (e : Element) (es : List Element) → length (elements-bytes format4 (e ∷ es)) ≡ 3 + length (e .headword) + length (elements-bytes format4 es)
+unfolding elements-bytes
+elements-size e es = omega (arith, length-append (element-bytes format4 e) (elements-bytes format4 es), element-size e)
+
+-- one that stands in an index ends behind its zero byte
+element-at-size : (index : List ℕ) (at : ℕ) → at + 2 ≤ length index → at + length (element-bytes format4 (element-at index at)) ≡ element-end index at + 1
+unfolding element-at
+element-at-size index at h = omega (arith, element-size (element-at index at), element-headword-length index at h, element-end-past index at)
+
+-- elements end behind as many bytes as they take
+pub elements-length : (index : List ℕ) (at n : ℕ) → Inside index at n → elements-end index at n ≡ at + length (elements-bytes format4 (elements-at index at n))
+unfolding elements-end elements-at elements-bytes
+elements-length index at zero h = omega arith
+elements-length index at (suc n) h =
+    omega (
+      arith,
+      elements-length index (element-end index at + 1) n (h .2),
+      element-at-size index at (h .0),
+      length-append (element-bytes format4 (element-at index at)) (elements-bytes format4 (elements-at index (element-end index at + 1) n)),
+    )
+
+-- and inside the index
+pub elements-end-inside : (index : List ℕ) (at n : ℕ) → Inside index at n → elements-end index at n ≤ length index
+unfolding elements-end
+elements-end-inside index at zero h = h
+elements-end-inside index at (suc n) h = elements-end-inside index (element-end index at + 1) n (h .2)
+
+-- renewed elements take as many bytes
+pub renewed-length : (numbers : List ℕ) (g : ℕ) (es : List Element) → length (elements-bytes format4 (map (renewed numbers g) es)) ≡ length (elements-bytes format4 es)
+unfolding renewed
+renewed-length numbers g [] = refl
+renewed-length numbers g (e ∷ es) = omega (arith, elements-size (renewed numbers g e) (map (renewed numbers g) es), elements-size e es, renewed-length numbers g es)
+
+-- ---- elements in two parts
+-- the first m, and n behind them
+pub elements-split : (index : List ℕ) (at m n : ℕ) → elements-at index at (m + n) ≡ elements-at index at m ++ elements-at index (elements-end index at m) n
+unfolding elements-end elements-at
+elements-split index at zero n =
+    let e : 0 + n ≡ n = omega arith in
+    ap (elements-at index at) e
+elements-split index at (suc m) n =
+    let e : suc m + n ≡ suc (m + n) = omega arith in
+    ap (elements-at index at) e ∙ ap (λ (l : List Element). element-at index at ∷ l) (elements-split index (element-end index at + 1) m n)
+
+-- both stand inside the index
+pub inside-split : (index : List ℕ) (at m n : ℕ) → Inside index at (m + n) → Inside index at m × Inside index (elements-end index at m) n
+unfolding elements-end
+inside-split index at zero n h =
+    let e : 0 + n ≡ n = omega arith in
+    (first-inside n (rw e at h), rw e at h)
+  where
+    first-inside : (k : ℕ) → Inside index at k → at ≤ length index
+    first-inside zero i = i
+    first-inside (suc k) i = omega (arith, i .0)
+inside-split index at (suc m) n h =
+    let e : suc m + n ≡ suc (m + n) = omega arith in
+    let i : Inside index at (suc (m + n)) = rw e at h in
+    let r = inside-split index (element-end index at + 1) m n (i .2) in
+    ((i .0, i .1, r .0), r .1)
+
+-- they end where the second part ends
+pub ends-split : (index : List ℕ) (at m n : ℕ) → elements-end index at (m + n) ≡ elements-end index (elements-end index at m) n
+unfolding elements-end
+ends-split index at zero n =
+    let e : 0 + n ≡ n = omega arith in
+    ap (elements-end index at) e
+ends-split index at (suc m) n =
+    let e : suc m + n ≡ suc (m + n) = omega arith in
+    ap (elements-end index at) e ∙ ends-split index (element-end index at + 1) m n
+
+-- ---- renewed numbers
+-- a run that started among the first g blocks
+pub number-moved : (numbers : List ℕ) (g b : ℕ) → b < g → number-after numbers g b ≡ getD numbers b 0 - g
+unfolding number-after
+number-moved numbers g b h = rw (lt-ltb b g h, number-after)
+
+-- one that did not
+pub number-kept : (numbers : List ℕ) (g b : ℕ) → g ≤ b → number-after numbers g b ≡ b - g
+unfolding number-after
+number-kept numbers g b h = rw (le-ltb b g h, number-after)
+
+-- no block renews nothing
+pub renewed-none : (numbers : List ℕ) (e : Element) → renewed numbers 0 e ≡ e
+unfolding renewed
+renewed-none numbers e =
+    let p : number-after numbers 0 (e .block) ≡ e .block = number-kept numbers 0 (e .block) (omega arith) ∙ omega arith in
+    rw p
+
+-- of all elements
+pub renewed-none-all : (numbers : List ℕ) (es : List Element) → map (renewed numbers 0) es ≡ es
+renewed-none-all numbers [] = refl
+renewed-none-all numbers (e ∷ es) = ap₂ (λ (a : Element) (l : List Element). a ∷ l) (renewed-none numbers e) (renewed-none-all numbers es)
+
+-- ---- number_after
+-- a moved run that the table puts below g
+pub number-low : (numbers : List ℕ) (g b p : ℕ) → p ≡ getD numbers b 0 → b < g → p < g → 0 ≡ number-after numbers g b
+number-low numbers g b p e h k = sym (number-moved numbers g b h ∙ omega arith)
+
+-- one that it puts elsewhere
+pub number-high : (numbers : List ℕ) (g b p : ℕ) → p ≡ getD numbers b 0 → b < g → p - g ≡ number-after numbers g b
+number-high numbers g b p e h = sym (number-moved numbers g b h ∙ omega arith)
+
+-- a run that did not move
+pub number-past : (numbers : List ℕ) (g b : ℕ) → g ≤ b → b - g ≡ number-after numbers g b
+number-past numbers g b h = sym (number-kept numbers g b h)
+
+-- every need of number_after
+pub ruleset number-laws = (number-low, number-high, number-past, needs)
+
+-- ---- put_element
+-- all bytes of a list
+whole-at : (s : List ℕ) → bytes-at 0 (length s) s ≡ s
+unfolding bytes-at
+whole-at s = take-all (length s) s (omega arith)
+
+-- the number, the headword and the zero byte stored one behind the other are the element
+pub element-put : (d d₁ d₂ d₃ h : List ℕ) (at number : ℕ) → d₁ ≡ write at (to-little-endian 2 number) d → d₂ ≡ write (at + 2) (bytes-at 0 (length h) h) d₁ → d₃ ≡ write (at + 2 + length h) (0 ∷ []) d₂
+    → at + 3 + length h ≤ length d → d₃ ≡ write at (element-bytes format4 (record { block = number; headword = h })) d
+unfolding element-bytes Header.format4
+element-put d d₁ d₂ d₃ h at number e₁ e₂ e₃ fits =
+    let x : List ℕ = to-little-endian 2 number in
+    let w : length x ≡ 2 = length-to-little-endian 2 number in
+    let a : bytes-at 0 (length h) h ≡ h = whole-at h in
+    let m : length (x ++ h) ≡ length x + length h = length-append x h in
+    let s : d₂ ≡ write at (x ++ h) d = write-on d d₁ d₂ x h at (at + 2) (omega arith) (omega arith) e₁ (rw a at e₂) in
+    write-on d d₂ d₃ (x ++ h) (0 ∷ []) at (at + 2 + length h) (omega arith) (omega arith) s e₃
+
+-- ---- elements_end: of what is left the end is that of the whole
+-- the element at `at` has its zero byte
+pub here-end : (index : List ℕ) (at left e : ℕ) → Inside index at left → e ≡ element-end index at → 0 < left → e < length index
+here-end index at left e i f p = rw f (inside-end index at left i p)
+
+-- the others stand behind it
+pub here-next : (index : List ℕ) (at left e : ℕ) → Inside index at left → e ≡ element-end index at → 0 < left → Inside index (e + 1) (left - 1)
+here-next index at left e i f p = rw f (inside-next index at left i p)
+
+-- the end from the next element on
+pub end-turn : (index : List ℕ) (at left e r : ℕ) → elements-end index at left ≡ r → e ≡ element-end index at → 0 < left → elements-end index (e + 1) (left - 1) ≡ r
+unfolding elements-end
+end-turn index at zero e r h f p = absurd (omega arith)
+end-turn index at (suc left) e r h f p =
+    let k : suc left - 1 ≡ left = omega arith in
+    rw (k, f) h
+
+-- at the end nothing is left
+pub end-last : (index : List ℕ) (at left r : ℕ) → elements-end index at left ≡ r → left ≤ 0 → at ≡ r
+unfolding elements-end
+end-last index at left r h p =
+    let k : left ≡ 0 = omega arith in
+    rw k at h
+
+-- and that is inside the index
+pub end-inside : (index : List ℕ) (at left : ℕ) → Inside index at left → left ≤ 0 → at ≤ length index
+end-inside index at zero i p = i
+end-inside index at (suc left) i p = absurd (omega arith)
+
+-- every need of elements_end
+pub ruleset end-laws = (inside-start, here-end, here-next, end-turn, end-last, end-inside, needs)
+
+-- ---- copy_elements: what is left, written where the code stands, is the whole written
+-- elements with their numbers renewed, as they are written
+abbrev pub renewed-bytes : List ℕ → ℕ → List Element → List ℕ
+renewed-bytes numbers g es = elements-bytes format4 (map (renewed numbers g) es)
+
+-- the room that elements take
+abbrev pub room : List Element → ℕ
+room es = length (elements-bytes format4 es)
+
+module _ (index : List ℕ) (pos left end out total : ℕ) (ends : out + room (elements-at index pos left) ≡ total) (f : end ≡ element-end index pos) (more : 0 < left) where
+  -- the headword of the next element
+  headword-here : take (end - (pos + 2)) (drop (pos + 2) index) ≡ element-headword index pos
+  unfolding element-headword bytes-at
+  headword-here = rw f
+
+  -- the room of the next element and of those behind it
+  room-here : room (elements-at index pos left) ≡ 3 + length (take (end - (pos + 2)) (drop (pos + 2) index)) + room (elements-at index (end + 1) (left - 1))
+  unfolding element-at
+  room-here =
+      ap room (elements-next index pos left more) ∙ elements-size (element-at index pos) (elements-at index (element-end index pos + 1) (left - 1)) ∙ rw (headword-here, f)
+
+  -- the next element fits
+  pub here-fits : (d : List ℕ) → total ≤ length d → out + 3 + length (take (end - (pos + 2)) (drop (pos + 2) index)) ≤ length d
+  here-fits d h = omega (arith, room-here)
+
+  -- those behind it end as all do
+  pub room-turn : (out₁ : ℕ) → out₁ ≡ out + 3 + length (take (end - (pos + 2)) (drop (pos + 2) index)) → out₁ + room (elements-at index (end + 1) (left - 1)) ≡ total
+  room-turn out₁ e = omega (arith, room-here)
+
+  -- those behind it, written behind it
+  pub copy-turn : (numbers d d₁ r : List ℕ) (g out₁ low b : ℕ) → write out (renewed-bytes numbers g (elements-at index pos left)) d ≡ r
+      → low ≡ from-little-endian (bytes-at pos 2 index) → b ≡ number-after numbers g low
+      → d₁ ≡ write out (element-bytes format4 (record { block = b; headword = take (end - (pos + 2)) (drop (pos + 2) index) })) d
+      → out₁ ≡ out + 3 + length (take (end - (pos + 2)) (drop (pos + 2) index)) → total ≤ length d
+      → write out₁ (renewed-bytes numbers g (elements-at index (end + 1) (left - 1))) d₁ ≡ r
+  unfolding elements-bytes element-at renewed
+  copy-turn numbers d d₁ r g out₁ low b inv e₁ e₂ e₃ e₄ fits =
+      let x : List ℕ = element-bytes format4 (renewed numbers g (element-at index pos)) in
+      let y : List ℕ = renewed-bytes numbers g (elements-at index (end + 1) (left - 1)) in
+      let m : length x ≡ 3 + length (take (end - (pos + 2)) (drop (pos + 2) index)) = element-size (renewed numbers g (element-at index pos)) ∙ rw headword-here in
+      let s : d₁ ≡ write out x d = e₃ ∙ rw (headword-here, e₂, e₁) in
+      let t : renewed-bytes numbers g (elements-at index pos left) ≡ x ++ y = ap (renewed-bytes numbers g) (elements-next index pos left more) ∙ rw f in
+      write-on d d₁ _ x y out out₁ (omega (arith, here-fits d fits)) (omega arith) s refl ∙ rw t at inv
+
+-- at the end nothing is left
+module _ (index : List ℕ) (pos left out : ℕ) (none : left ≤ 0) where
+  -- the code stands where all end
+  pub room-end : (total : ℕ) → out + room (elements-at index pos left) ≡ total → out ≡ total
+  unfolding elements-at elements-bytes
+  room-end total ends =
+      let k : left ≡ 0 = omega arith in
+      let e : out + 0 ≡ total = rw k at ends in
+      omega arith
+
+  -- what stands there now is the whole written
+  pub copy-end : (numbers d r : List ℕ) (g : ℕ) → write out (renewed-bytes numbers g (elements-at index pos left)) d ≡ r → d ≡ r
+  unfolding elements-at elements-bytes
+  copy-end numbers d r g inv =
+      let k : left ≡ 0 = omega arith in
+      sym (write-none d out) ∙ rw k at inv
+
+-- every need of copy_elements
+pub ruleset copy-laws = (inside-start, here-end, here-next, here-fits, room-turn, room-end, copy-turn, copy-end, needs)

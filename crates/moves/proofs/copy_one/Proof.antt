@@ -1,0 +1,64 @@
+-- `copy_one` meets its contract.
+use mathlib.Core.Path.{refl}
+use native.Mathlib.Omega.{arith}
+use borrow.Author.Needs.{needs}
+use Rattle.moves.proofs.Laws.{copy-none, copy-run, ready-run}
+use Rattle.moves.proofs.copy_one.Statement.{statement}
+use Rattle.moves.proofs.copy_one.Tie as tie
+
+mul-if1 : tie.Need-mul-if1
+mul-if1 c = search needs
+
+shared-slice-read-if1 : tie.Need-shared-slice-read-if1
+shared-slice-read-if1 c = search needs
+
+returns : tie.Need-returns
+returns c = (search (copy-none, needs), refl)
+
+mul-p : tie.Need-mul-p
+mul-p c = search needs
+
+shared-slice-read-p : tie.Need-shared-slice-read-p
+shared-slice-read-p c = search needs
+
+cast-p : tie.Need-cast-p
+cast-p c = omega (arith, ready-run _ _ _ _ _ (c .before .if1 .left) (c .before .before .before .before .before .before .pre .1))
+
+mul-copy : tie.Need-mul-copy
+mul-copy c = omega (arith, ready-run _ _ _ _ _ (c .before .before .if1 .left) (c .before .before .before .before .before .before .before .pre .1))
+
+mul-copy-2 : tie.Need-mul-copy-2
+mul-copy-2 c = omega (arith, ready-run _ _ _ _ _ (c .before .before .if1 .left) (c .before .before .before .before .before .before .before .pre .1))
+
+size-at-requires : tie.Need-size-at-requires
+size-at-requires c κs = (search needs, search needs, omega (arith, ready-run _ _ _ _ _ (c .before .before .if1 .left) (c .before .before .before .before .before .before .before .pre .1)))
+
+mul-copy-3 : tie.Need-mul-copy-3
+mul-copy-3 c = search needs
+
+copy-requires : tie.Need-copy-requires
+copy-requires c κs = let r = ready-run _ _ _ _ _ (c .before .before .before .if1 .left) (c .before .before .before .before .before .before .before .before .pre .1) in (omega arith, omega arith)
+
+same-length : tie.Need-same-length
+same-length c = search needs
+
+returns-2 : tie.Need-returns-2
+returns-2 c = (search (copy-run, needs), omega arith)
+
+pub copy-one-spec : {M : Type 1} → statement M
+copy-one-spec =
+    tie.close
+    (tie.spec
+    mul-if1
+    shared-slice-read-if1
+    returns
+    mul-p
+    shared-slice-read-p
+    cast-p
+    mul-copy
+    mul-copy-2
+    size-at-requires
+    mul-copy-3
+    copy-requires
+    same-length
+    returns-2)

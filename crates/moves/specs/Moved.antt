@@ -1,0 +1,43 @@
+-- The runs that start among the first g blocks, by a table of these blocks.
+use Prim.Native.Nat.{ℕ, zero, suc, _-_, _*_, min, max}
+use mathlib.Core.Bool.{Bool, true, false}
+use mathlib.Core.List.{List, [], _∷_}
+use lib.ListN.{getD, set}
+use lib.Dec.{ltb, eqb}
+use Rattle.spec.specs.Bytes.{from-little-endian, bytes-at, write}
+use Rattle.marks.specs.Marks.{with-range}
+
+-- the table with 1 at each of these blocks that is below g
+unfoldable pub noted : ℕ → List ℕ → List ℕ → List ℕ
+noted g [] T = T
+noted g (b ∷ bs) T = noted g bs (elim (ltb b g) [ true ↦ set T b 1 | false ↦ T ])
+
+-- the blocks of the k from b on at which the table has a run, ascending
+unfoldable pub starts : ℕ → ℕ → List ℕ → List ℕ
+starts b zero T = []
+starts b (suc k) T = elim (eqb (getD T b 0) 0) [ true ↦ starts (suc b) k T | false ↦ b ∷ starts (suc b) k T ]
+
+-- the number of blocks of the run at block b of D: its count, at least 1 and no more than there are
+unfoldable pub size-at : List ℕ → ℕ → ℕ → ℕ
+size-at area D b = max 1 (min (from-little-endian (bytes-at (256 * b) 2 area)) (D - b))
+
+-- the marks with the blocks of the runs at these blocks free
+unfoldable pub freed : List ℕ → ℕ → List ℕ → List Bool → List Bool
+freed area D [] ms = ms
+freed area D (b ∷ bs) ms = freed area D bs (with-range b (size-at area D b) true ms)
+
+-- the table with the places of the runs at these blocks
+unfoldable pub tabled : List ℕ → List ℕ → List ℕ → List ℕ
+tabled [] ps T = T
+tabled (b ∷ bs) [] T = T
+tabled (b ∷ bs) (p ∷ ps) T = tabled bs ps (set T b p)
+
+-- the runs at these blocks of the old area written at their places by the table
+unfoldable pub moved-written : List ℕ → ℕ → List ℕ → List ℕ → List ℕ → List ℕ
+moved-written area D T [] dst = dst
+moved-written area D T (b ∷ bs) dst = moved-written area D T bs (write (256 * getD T b 0) (bytes-at (256 * b) (256 * size-at area D b) area) dst)
+
+-- names all definitions of this module: who unfolds it unfolds them
+unfoldable pub open-moved : Unit {0}
+unfolding noted starts size-at freed tabled moved-written
+open-moved = tt

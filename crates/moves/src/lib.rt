@@ -1,0 +1,169 @@
+// The runs that the growing index displaces: those that start among the first g blocks. A table tells for each such block
+// 0 where no run starts, else the run's new place.
+ghost use mathlib.Core.Path.{_≡_};
+ghost use mathlib.Core.List.{[], _∷_, map};
+ghost use Prim.Native.Nat.{_+_, _*_, _≤_, _<_};
+ghost use lib.ListN.{length, getD};
+ghost use Rattle.index.specs.Elements.{elements-at, Inside};
+ghost use Rattle.marks.specs.Marks.{marks};
+ghost use Rattle.placing.specs.Spread.{spread, Within};
+ghost use Rattle.spec.proofs.ListsLaws.{All};
+ghost use Rattle.moves.specs.Moved.{noted, starts, size-at, freed, tabled, moved-written};
+use byteops::read_u16;
+use index::element_end;
+
+// Notes in the table that a run starts at block b, where that is below g.
+fn note(numbers: &mut [u32], g: usize, b: usize)
+    requires { ⌜ g ≤ length (now numbers) ⌝ }
+    ensures { λ _. ⌜ now (numbers .exit) ≡ noted g (b ∷ []) (now (numbers .entry)) ⌝ }
+    ensures { λ _. ⌜ length (now (numbers .exit)) ≡ length (now (numbers .entry)) ⌝ }
+{
+    if b < g {
+        numbers[b] = 1;
+    }
+}
+
+// Notes where the runs of the n elements from `from` on start, of those that start below g.
+pub fn note_starts(index: &[u8], from: usize, n: usize, numbers: &mut [u32], g: usize)
+    requires { ⌜ Inside (now index) from n ⌝ }
+    requires { ⌜ g ≤ length (now numbers) ⌝ }
+    ensures { λ _. ⌜ now (numbers .exit) ≡ noted g (map (λ e. e .block) (elements-at (now (index .entry)) from n)) (now (numbers .entry)) ⌝ }
+    ensures { λ _. ⌜ length (now (numbers .exit)) ≡ length (now (numbers .entry)) ⌝ }
+{
+    let mut at = from;
+    let mut left = n;
+    while 0 < left {
+        note(numbers, g, read_u16(index, at));
+        at = element_end(index, at) + 1;
+        left -= 1;
+    }
+}
+
+// The number of blocks of the run at block b, at least 1 and no more than there are.
+fn size_at(area: &[u8], d: usize, b: usize) -> usize
+    requires { ⌜ (256 * d ≤ length (now area)) × (d ≤ 65536) × (b < 65536) ⌝ }
+    ensures { λ r. ⌜ r ≡ size-at (now (area .entry)) d b ⌝ }
+    ensures { λ r. ⌜ (1 ≤ r) × (r ≤ 65536) × (b + r ≤ 65536) ⌝ }
+{
+    if d <= b {
+        return 1;
+    }
+    let n = read_u16(area, 256 * b);
+    if n == 0 {
+        return 1;
+    }
+    if d - b < n {
+        return d - b;
+    }
+    n
+}
+
+// Marks the blocks of the run at block b as free, if one starts there.
+fn free_one(area: &[u8], d: usize, numbers: &[u32], b: usize, free: &mut [u64])
+    requires { ⌜ (256 * d ≤ length (now area)) × (d ≤ 65536) × (b < 65536) × (b < length (now numbers)) × (1024 ≤ length (now free)) ⌝ }
+    ensures { λ _. ⌜ marks (now (free .exit)) ≡ freed (now (area .entry)) d (starts b 1 (now (numbers .entry))) (marks (now (free .entry))) ⌝ }
+    ensures { λ _. ⌜ length (now (free .exit)) ≡ length (now (free .entry)) ⌝ }
+{
+    if numbers[b] == 0 {
+        return;
+    }
+    marks::mark_range(free, b, size_at(area, d, b));
+}
+
+// Marks the blocks of all displaced runs as free.
+pub fn free_moved(area: &[u8], d: usize, numbers: &[u32], g: usize, free: &mut [u64])
+    requires { ⌜ (256 * d ≤ length (now area)) × (d ≤ 65536) × (g ≤ 32767) × (g ≤ length (now numbers)) × (1024 ≤ length (now free)) ⌝ }
+    ensures { λ _. ⌜ marks (now (free .exit)) ≡ freed (now (area .entry)) d (starts 0 g (now (numbers .entry))) (marks (now (free .entry))) ⌝ }
+    ensures { λ _. ⌜ length (now (free .exit)) ≡ length (now (free .entry)) ⌝ }
+{
+    let mut b = 0;
+    while b < g {
+        free_one(area, d, numbers, b, free);
+        b += 1;
+    }
+}
+
+// Places the run at block b, if one starts there, among the blocks g to end - 1, or from `end` on; answers the end then.
+fn place_one(
+    area: &[u8],
+    d: usize,
+    numbers: &mut [u32],
+    g: usize,
+    b: usize,
+    free: &mut [u64],
+    end: usize,
+) -> usize
+    requires { ⌜ (256 * d ≤ length (now area)) × (d ≤ 65536) × (b < g) × (g ≤ 32767) × (g ≤ length (now numbers)) ⌝ }
+    requires { ⌜ (g ≤ end) × (end ≤ 98304) × (2560 ≤ length (now free)) ⌝ }
+    ensures { λ r. ⌜ r ≡ spread g end (marks (now (free .entry))) (map (size-at (now (area .entry)) d) (starts b 1 (now (numbers .entry)))) .end ⌝ }
+    ensures { λ r. ⌜ marks (now (free .exit)) ≡ spread g end (marks (now (free .entry))) (map (size-at (now (area .entry)) d) (starts b 1 (now (numbers .entry)))) .free ⌝ }
+    ensures { λ r. ⌜ now (numbers .exit) ≡ tabled (starts b 1 (now (numbers .entry))) (spread g end (marks (now (free .entry))) (map (size-at (now (area .entry)) d) (starts b 1 (now (numbers .entry)))) .places) (now (numbers .entry)) ⌝ }
+    ensures { λ r. ⌜ (length (now (free .exit)) ≡ length (now (free .entry))) × (length (now (numbers .exit)) ≡ length (now (numbers .entry))) × (end ≤ r) ⌝ }
+{
+    if numbers[b] == 0 {
+        return end;
+    }
+    let n = size_at(area, d, b);
+    let p = placing::place(free, g, end, n);
+    numbers[b] = p as u32;
+    if end < p + n {
+        return p + n;
+    }
+    end
+}
+
+// Places all displaced runs in order of their old numbers; answers the end then. Stops where that passes the limit.
+pub fn place_moved(
+    area: &[u8],
+    d: usize,
+    numbers: &mut [u32],
+    g: usize,
+    free: &mut [u64],
+    end: usize,
+    limit: usize,
+) -> usize
+    requires { ⌜ (256 * d ≤ length (now area)) × (d ≤ 65536) × (g ≤ 32767) × (g ≤ length (now numbers)) ⌝ }
+    requires { ⌜ (g ≤ end) × (end ≤ limit) × (limit ≤ 98304) × (2560 ≤ length (now free)) ⌝ }
+    ensures { λ r. ⌜ Within limit (spread g end (marks (now (free .entry))) (map (size-at (now (area .entry)) d) (starts 0 g (now (numbers .entry))))) r (marks (now (free .exit))) ⌝ }
+    ensures { λ r. ⌜ (r ≤ limit → now (numbers .exit) ≡ tabled (starts 0 g (now (numbers .entry))) (spread g end (marks (now (free .entry))) (map (size-at (now (area .entry)) d) (starts 0 g (now (numbers .entry)))) .places) (now (numbers .entry))) ⌝ }
+    ensures { λ r. ⌜ (length (now (free .exit)) ≡ length (now (free .entry))) × (length (now (numbers .exit)) ≡ length (now (numbers .entry))) × (end ≤ r) ⌝ }
+{
+    let mut d2 = end;
+    let mut b = 0;
+    while b < g {
+        d2 = place_one(area, d, numbers, g, b, free, d2);
+        if limit < d2 {
+            return d2;
+        }
+        b += 1;
+    }
+    d2
+}
+
+// Copies the run at block b of the old data area to its new place, if one starts there.
+fn copy_one(dst: &mut [u8], area: &[u8], d: usize, numbers: &[u32], b: usize)
+    requires { ⌜ (256 * d ≤ length (now area)) × (d ≤ 65536) × (b < length (now numbers)) ⌝ }
+    requires { ⌜ All (λ a. (a < d) × (256 * (getD (now numbers) a 0 + size-at (now area) d a) ≤ length (now dst))) (starts b 1 (now numbers)) ⌝ }
+    ensures { λ _. ⌜ now (dst .exit) ≡ moved-written (now (area .entry)) d (now (numbers .entry)) (starts b 1 (now (numbers .entry))) (now (dst .entry)) ⌝ }
+    ensures { λ _. ⌜ length (now (dst .exit)) ≡ length (now (dst .entry)) ⌝ }
+{
+    if numbers[b] == 0 {
+        return;
+    }
+    let p = numbers[b] as usize;
+    byteops::copy(dst, 256 * p, area, 256 * b, 256 * size_at(area, d, b));
+}
+
+// Copies all displaced runs from the old data area to their new places.
+pub fn copy_moved(dst: &mut [u8], area: &[u8], d: usize, numbers: &[u32], g: usize)
+    requires { ⌜ (256 * d ≤ length (now area)) × (d ≤ 65536) × (g ≤ length (now numbers)) ⌝ }
+    requires { ⌜ All (λ b. (b < d) × (256 * (getD (now numbers) b 0 + size-at (now area) d b) ≤ length (now dst))) (starts 0 g (now numbers)) ⌝ }
+    ensures { λ _. ⌜ now (dst .exit) ≡ moved-written (now (area .entry)) d (now (numbers .entry)) (starts 0 g (now (numbers .entry))) (now (dst .entry)) ⌝ }
+    ensures { λ _. ⌜ length (now (dst .exit)) ≡ length (now (dst .entry)) ⌝ }
+{
+    let mut b = 0;
+    while b < g {
+        copy_one(dst, area, d, numbers, b);
+        b += 1;
+    }
+}

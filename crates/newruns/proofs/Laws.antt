@@ -1,0 +1,256 @@
+-- What a turn of planning or writing the parts shows, in the terms of the code.
+use Prim.Native.Nat.{ℕ, _+_, _-_, _*_, _<_, _≤_, max}
+use mathlib.Core.Path.{_≡_, refl, sym, ap, ap₂, _∙_}
+use mathlib.Core.Logic.{⊎-elim}
+use mathlib.Core.Bool.{Bool, true, false}
+use mathlib.Core.List.{List, [], _∷_, _++_, map}
+use native.Mathlib.Omega.{arith}
+use lib.ListN.{length, take, drop, length-append, length-take, length-drop, take-append-drop}
+use lib.Seq.{length-take-le, take-all}
+use Rattle.spec.specs.Bytes.{write, bytes-at, no-zero, blocks-for}
+use Rattle.spec.specs.Header.{format4}
+use Rattle.spec.specs.Entry.{Entry, entry-bytes}
+use Rattle.spec.specs.Run.{entries-bytes, run-size, run-bytes}
+use Rattle.spec.specs.Index.{element-bytes, elements-bytes}
+use Rattle.spec.specs.Blocks.{best-fit}
+use Rattle.spec.specs.Place.{cut, first-headword, new-run, at-block, element-of}
+use Rattle.spec.proofs.ListsLaws.{All, less-or}
+use Rattle.spec.proofs.IndexLaws.{headword-no-zero}
+use Rattle.spec.proofs.WriteLaws.{write-left, write-right}
+use Rattle.marks.specs.Marks.{marks, with-range}
+use Rattle.marks.proofs.Fit.{best-fit-room}
+use Rattle.placing.specs.Spread.{Spread, spread, placed-first, Within}
+use Rattle.placing.proofs.SpreadLaws.{spread-grows}
+use Rattle.encoder.specs.Framed.{framed-run}
+use Rattle.encoder.proofs.Laws.{run-framed, length-framed}
+use Rattle.elements.proofs.Laws.{element-size}
+use Rattle.parts.specs.Part.{part-of, past-part}
+use Rattle.parts.proofs.PartLaws.{Short, part-empty, part-first, part-headword, part-size, part-some, part-stands, past-fewer, cut-parts}
+use Rattle.parts.proofs.Laws.{headword-at}
+use Rattle.plan.specs.Written.{part-element, parts-written, part-runs}
+
+-- the blocks of the parts of entries
+abbrev pub sizes-of : List Entry → List ℕ
+sizes-of es = map run-size (cut 1_024 es)
+
+-- the parts of entries spread
+abbrev pub laid : ℕ → ℕ → List Bool → List Entry → Spread
+laid g d ms es = spread g d ms (sizes-of es)
+
+-- the bytes of their elements, where they have these places
+abbrev pub elements-long : ℕ → List ℕ → List Entry → ℕ
+elements-long g places es = length (elements-bytes format4 (map element-of (part-runs g places (cut 1_024 es))))
+
+-- ---- what is planned and written, and what is still to come
+-- the parts placed from now on make the end and the marks of the whole
+pub record Planning (g end : ℕ) (ms₀ : List Bool) (es₀ : List Entry) (d : ℕ) (ms : List Bool) (es : List Entry) : Type 0 where
+  pub end-all : laid g d ms es .end ≡ laid g end ms₀ es₀ .end
+  pub free-all : laid g d ms es .free ≡ laid g end ms₀ es₀ .free
+
+-- nothing is placed at first
+pub planning-start : (g end : ℕ) (ms : List Bool) (es₀ es : List Entry) → es ≡ es₀ → Planning g end ms es₀ end ms es
+planning-start g end ms es₀ es e = record { end-all = ap (λ (l : List Entry). laid g end ms l .end) e; free-all = ap (λ (l : List Entry). laid g end ms l .free) e }
+
+-- the parts written from now on make the bytes of the whole
+pub record Writing (start g at end : ℕ) (ms₀ : List Bool) (es₀ : List Entry) (image₀ : List ℕ) (out d : ℕ) (ms : List Bool) (es : List Entry) (image : List ℕ) : Type 0 where
+  pub planning : Planning g end ms₀ es₀ d ms es
+  pub whole : parts-written start g out (laid g d ms es .places) (cut 1_024 es) image ≡ parts-written start g at (laid g end ms₀ es₀ .places) (cut 1_024 es₀) image₀
+  pub size : out + elements-long g (laid g d ms es .places) es ≡ at + elements-long g (laid g end ms₀ es₀ .places) es₀
+
+-- nothing is written at first
+pub writing-start : (start g at end : ℕ) (ms : List Bool) (es₀ es : List Entry) (image : List ℕ) → es ≡ es₀ → Writing start g at end ms es₀ image at end ms es image
+writing-start start g at end ms es₀ es image e =
+    record {
+      planning = planning-start g end ms es₀ es e;
+      whole = ap (λ (l : List Entry). parts-written start g at (laid g end ms l .places) (cut 1_024 l) image) e;
+      size = ap (λ (l : List Entry). at + elements-long g (laid g end ms l .places) l) e;
+    }
+
+module _ (g end : ℕ) (ms₀ : List Bool) (es₀ : List Entry) (d : ℕ) (ms : List Bool) (es : List Entry) (planning : Planning g end ms₀ es₀ d ms es) where
+  -- the end now is no higher than that of the whole
+  pub planning-under : d ≤ laid g end ms₀ es₀ .end
+  planning-under = omega (arith, spread-grows g d ms (sizes-of es), planning .end-all)
+
+  -- past the limit: so is the whole
+  pub planned-over : (limit : ℕ) → limit < d → Within limit (laid g end ms₀ es₀) d ms
+  planned-over limit h = (λ k. absurd (omega arith), λ k. omega (arith, planning-under))
+
+  -- no entry is left: all is placed
+  pub planned : (limit : ℕ) → es ≡ [] → Within limit (laid g end ms₀ es₀) d ms
+  unfolding spread cut
+  planned limit e =
+      let p : d ≡ laid g end ms₀ es₀ .end = sym (ap (λ (l : List Entry). laid g d ms l .end) e) ∙ planning .end-all in
+      let q : ms ≡ laid g end ms₀ es₀ .free = sym (ap (λ (l : List Entry). laid g d ms l .free) e) ∙ planning .free-all in
+      (λ k. (p, q), λ k. omega arith)
+
+-- ---- a lent part
+-- bytes written to the front of the part from a on are written at a
+pub write-lent : (a k : ℕ) (x s s′ : List ℕ) → k ≡ length s - a → a + length x ≤ length s → s′ ≡ write 0 x (take k (drop a s)) → take a s ++ (s′ ++ drop k (drop a s)) ≡ write a x s
+write-lent a k x s s′ e h p =
+    let la : length (take a s) ≡ a = length-take-le a s (omega arith) in
+    let ld : length (drop a s) ≡ length s - a = length-drop a s in
+    let t : take k (drop a s) ≡ drop a s = take-all k (drop a s) (omega arith) in
+    let w : write 0 x (take k (drop a s)) ++ drop k (drop a s) ≡ write 0 x (drop a s) = sym (write-left 0 x (take k (drop a s)) (drop k (drop a s)) (omega (arith, ap length t))) ∙ ap (write 0 x) (take-append-drop k (drop a s)) in
+    let z : a - length (take a s) ≡ 0 = omega arith in
+    ap (λ (l : List ℕ). take a s ++ (l ++ drop k (drop a s))) p
+    ∙ ap (λ (l : List ℕ). take a s ++ l) w
+    ∙ ap (λ (i : ℕ). take a s ++ write i x (drop a s)) (sym z)
+    ∙ sym (write-right a x (take a s) (drop a s) (omega arith))
+    ∙ ap (write a x) (take-append-drop a s)
+
+-- and leave the length
+pub length-lent : (a k : ℕ) (s s′ : List ℕ) → k ≡ length s - a → a ≤ length s → length s′ ≡ length (take k (drop a s)) → length (take a s ++ (s′ ++ drop k (drop a s))) ≡ length s
+length-lent a k s s′ e h p = simp (length-append, length-drop) (omega (arith, p, length-take-le a s h, length-take k (drop a s), length-drop a s))
+
+-- what `write_run` requires there
+pub run-room : (used n a k : ℕ) (part image : List ℕ) → used ≤ 3253 → used ≤ length part → n ≡ blocks-for (2 + used + 2) → k ≡ length image - a → a + 256 * n ≤ length image
+    → (length (take used part) ≤ 3253) × (256 * blocks-for (2 + length (take used part) + 2) ≤ length (take k (drop a image)))
+run-room used n a k part image p q e ek h =
+    let l : length (take used part) ≡ used = length-take-le used part q in
+    let m : blocks-for (2 + length (take used part) + 2) ≡ n = sym (e ∙ ap (λ (x : ℕ). blocks-for (2 + x + 2)) (sym l)) in
+    (omega arith, omega (arith, length-take k (drop a image), length-drop a image))
+
+-- ---- a place
+-- no run is placed in front of g
+pub place-from : (ws : List ℕ) (g d n b : ℕ) → g ≤ d → d ≤ 64 * length ws → b ≡ best-fit g d (take (d - g) (drop g (marks ws))) n → g ≤ b
+place-from ws g d n b h k e = ⊎-elim (λ (l : b < d). best-fit-room ws g d n b h k e l .low) (λ (l : d ≤ b). omega arith) (less-or b d)
+
+-- ---- the next part
+-- its element takes three bytes beside its headword
+pub element-long : (number : ℕ) (p : List Entry) (head : List ℕ) → head ≡ first-headword p → length (element-bytes format4 (part-element number p)) ≡ 3 + length head
+unfolding part-element
+element-long number p head e = element-size (part-element number p) ∙ ap (λ (l : List ℕ). 3 + length l) (sym e)
+
+-- it ends behind them
+pub element-past : (out r number : ℕ) (p : List Entry) (head : List ℕ) → head ≡ first-headword p → r ≡ out + 3 + length head → r ≡ out + length (element-bytes format4 (part-element number p))
+element-past out r number p head e q = omega (arith, element-long number p head e)
+
+module _ (es : List Entry) (used : ℕ) (size : used ≡ length (entries-bytes [] (part-of 1_024 0 [] es))) where
+  -- a part of no bytes: no entry is left
+  pub none-left : used ≡ 0 → es ≡ []
+  none-left z = part-empty 1_024 es (sym size ∙ z)
+
+  -- any other: some are
+  pub some-left : (used ≡ 0 → ⊥) → (e : Entry) × (ds : List Entry) × (es ≡ e ∷ ds)
+  unfolding part-of entries-bytes
+  some-left z = go es size
+    where
+      go : (xs : List Entry) → used ≡ length (entries-bytes [] (part-of 1_024 0 [] xs)) → (e : Entry) × (ds : List Entry) × (xs ≡ e ∷ ds)
+      go [] p = absurd (z p)
+      go (e ∷ ds) p = (e, ds, refl)
+
+  module _ (some : used ≡ 0 → ⊥) where
+    -- it takes four bytes or more
+    pub used-some : 4 ≤ used
+    used-some =
+        let (e, ds, p) = some-left some in
+        rw (size, p) (part-some 1_024 e ds)
+
+    module _ (Q : List Entry) (behind : Q ≡ past-part 1_024 0 [] es) where
+      -- fewer entries are left
+      pub fewer-left : length Q < length es
+      fewer-left =
+          let (e, ds, p) = some-left some in
+          rw (behind, p) (past-fewer 1_024 [] e ds)
+
+      -- the parts: this one, then those of what is behind it
+      pub cut-next : cut 1_024 es ≡ part-of 1_024 0 [] es ∷ cut 1_024 Q
+      cut-next =
+          let (e, ds, p) = some-left some in
+          rw (behind, p) (cut-parts 1_024 e ds)
+
+      module _ (g d d′ n b : ℕ) (ms ms′ : List Bool) (blocks : n ≡ blocks-for (2 + used + 2)) (place : b ≡ best-fit g d (take (d - g) (drop g ms)) n) (later : d′ ≡ max d (b + n)) (taken : ms′ ≡ with-range b n false ms) where
+        -- its place, then the others'
+        pub laid-next : laid g d ms es ≡ placed-first b (laid g d′ ms′ Q)
+        unfolding spread
+        laid-next =
+            let q : run-size (part-of 1_024 0 [] es) ≡ n = part-size (part-of 1_024 0 [] es) ∙ sym (blocks ∙ ap (λ (k : ℕ). blocks-for (2 + k + 2)) size) in
+            ap (λ (l : List (List Entry)). spread g d ms (map run-size l)) cut-next ∙ rw (q, later, taken, place)
+
+        -- it is placed
+        pub planning-more : (end : ℕ) (ms₀ : List Bool) (es₀ : List Entry) → Planning g end ms₀ es₀ d ms es → Planning g end ms₀ es₀ d′ ms′ Q
+        unfolding placed-first
+        planning-more end ms₀ es₀ p = record { end-all = sym (ap (λ (s : Spread). s .end) laid-next) ∙ p .end-all; free-all = sym (ap (λ (s : Spread). s .free) laid-next) ∙ p .free-all }
+
+        -- the bytes of its element, then the others'
+        pub elements-next : elements-long g (laid g d ms es .places) es ≡ length (element-bytes format4 (part-element (b - g) (part-of 1_024 0 [] es))) + elements-long g (laid g d′ ms′ Q .places) Q
+        unfolding placed-first part-runs elements-bytes part-element element-of at-block new-run
+        elements-next =
+            ap₂ (λ (s : Spread) (l : List (List Entry)). length (elements-bytes format4 (map element-of (part-runs g (s .places) l)))) laid-next cut-next
+            ∙ length-append (element-bytes format4 (part-element (b - g) (part-of 1_024 0 [] es))) (elements-bytes format4 (map element-of (part-runs g (laid g d′ ms′ Q .places) (cut 1_024 Q))))
+
+        -- what `put_element` requires
+        pub element-fits : (start at end : ℕ) (ms₀ : List Bool) (es₀ : List Entry) (image₀ : List ℕ) (out m : ℕ) (image head : List ℕ) → head ≡ first-headword (part-of 1_024 0 [] es)
+            → Writing start g at end ms₀ es₀ image₀ out d ms es image → at + elements-long g (laid g end ms₀ es₀ .places) es₀ ≤ length image₀ → length image ≡ length image₀ → m ≡ length image → out + 3 + length head ≤ m
+        element-fits start at end ms₀ es₀ image₀ out m image head e w h l k = omega (arith, elements-next, w .size, element-long (b - g) (part-of 1_024 0 [] es) head e)
+
+        -- it is written
+        pub writing-more : (start at end : ℕ) (ms₀ : List Bool) (es₀ : List Entry) (image₀ : List ℕ) (out out′ : ℕ) (image image′ : List ℕ)
+            → image′ ≡ write out (element-bytes format4 (part-element (b - g) (part-of 1_024 0 [] es))) (write (start + 256 * b) (run-bytes (part-of 1_024 0 [] es)) image)
+            → out′ ≡ out + length (element-bytes format4 (part-element (b - g) (part-of 1_024 0 [] es)))
+            → Writing start g at end ms₀ es₀ image₀ out d ms es image → Writing start g at end ms₀ es₀ image₀ out′ d′ ms′ Q image′
+        unfolding placed-first parts-written
+        writing-more start at end ms₀ es₀ image₀ out out′ image image′ ei eo w =
+            record {
+              planning = planning-more end ms₀ es₀ (w .planning);
+              whole = rw (ei, eo) (sym (ap₂ (λ (s : Spread) (l : List (List Entry)). parts-written start g out (s .places) l image) laid-next cut-next) ∙ w .whole);
+              size = omega (arith, elements-next, w .size);
+            }
+
+-- ---- the bytes of the next part
+module _ (es : List Entry) (used : ℕ) (part part′ : List ℕ) (size : used ≡ length (entries-bytes [] (part-of 1_024 0 [] es))) (there : part′ ≡ write 0 (entries-bytes [] (part-of 1_024 0 [] es)) part) (room : used ≤ length part) where
+  -- they stand at the front of the slice
+  pub entries-stand : take used part′ ≡ entries-bytes [] (part-of 1_024 0 [] es)
+  entries-stand = part-stands (entries-bytes [] (part-of 1_024 0 [] es)) part part′ used there size room
+
+  -- and are framed as its run
+  pub run-stands : framed-run (take used part′) ≡ run-bytes (part-of 1_024 0 [] es)
+  run-stands = ap framed-run entries-stand ∙ run-framed (part-of 1_024 0 [] es)
+
+  -- its headword is found there
+  pub head-stands : (used ≡ 0 → ⊥) → All Short es → (r : ℕ) → ((e : Entry) (ds : List Entry) → take used part′ ≡ entries-bytes [] (e ∷ ds) → no-zero (e .headword) ≡ true → r ≡ 3 + length (e .headword))
+      → take (r - 3) (drop 3 part′) ≡ first-headword (part-of 1_024 0 [] es)
+  unfolding bytes-at
+  head-stands some short r found =
+      let (e, ds, p) = some-left es used size some in
+      let rest : List Entry = part-of 1_024 (length (entry-bytes [] e)) (e .headword) ds in
+      let a : take used part′ ≡ entries-bytes [] (e ∷ rest) = entries-stand ∙ ap (λ (l : List Entry). entries-bytes [] (part-of 1_024 0 [] l)) p ∙ ap (entries-bytes []) (part-first 1_024 [] e ds) in
+      let ok : All Short (e ∷ ds) = rw p at short in
+      let q : r ≡ 3 + length (e .headword) = found e rest a (headword-no-zero (e .headword) (ok .0 .0)) in
+      let k : r - 3 ≡ length (e .headword) = omega arith in
+      ap (λ (n : ℕ). take n (drop 3 part′)) k ∙ headword-at part′ used e rest a ∙ sym (ap (λ (l : List Entry). first-headword (part-of 1_024 0 [] l)) p ∙ part-headword 1_024 e ds)
+
+  -- the run of the part takes its blocks
+  pub run-long : (n : ℕ) → n ≡ blocks-for (2 + used + 2) → length (framed-run (take used part′)) ≡ 256 * n
+  run-long n e = length-framed (take used part′) ∙ sym (ap (λ (k : ℕ). 256 * k) (e ∙ ap (λ (k : ℕ). blocks-for (2 + k + 2)) (size ∙ sym (ap length entries-stand))))
+
+  -- the run stored in a lent part, then the element
+  pub part-stored : (a k n out number : ℕ) (head image image₁ image₂ : List ℕ) → n ≡ blocks-for (2 + used + 2) → k ≡ length image - a → a + 256 * n ≤ length image
+      → image₁ ≡ write 0 (framed-run (take used part′)) (take k (drop a image))
+      → head ≡ first-headword (part-of 1_024 0 [] es)
+      → image₂ ≡ write out (element-bytes format4 (record { block = number; headword = head })) (take a image ++ (image₁ ++ drop k (drop a image)))
+      → image₂ ≡ write out (element-bytes format4 (part-element number (part-of 1_024 0 [] es))) (write a (run-bytes (part-of 1_024 0 [] es)) image)
+  unfolding part-element
+  part-stored a k n out number head image image₁ image₂ en ek r e₁ eh e₂ =
+      let w : take a image ++ (image₁ ++ drop k (drop a image)) ≡ write a (run-bytes (part-of 1_024 0 [] es)) image =
+      write-lent a k (framed-run (take used part′)) image image₁ ek (omega (arith, run-long n en)) e₁ ∙ ap (λ (x : List ℕ). write a x image) run-stands in
+      e₂ ∙ ap₂ (λ (x y : List ℕ). write out (element-bytes format4 (record { block = number; headword = x })) y) eh w
+
+-- ---- no entry is left
+module _ (start g at end : ℕ) (ms₀ : List Bool) (es₀ : List Entry) (image₀ : List ℕ) (out d : ℕ) (ms : List Bool) (es : List Entry) (image : List ℕ) (writing : Writing start g at end ms₀ es₀ image₀ out d ms es image) (none : es ≡ []) where
+  -- all is written
+  pub written-image : image ≡ parts-written start g at (laid g end ms₀ es₀ .places) (cut 1_024 es₀) image₀
+  unfolding spread cut parts-written
+  written-image = sym (ap (λ (l : List Entry). parts-written start g out (laid g d ms l .places) (cut 1_024 l) image) none) ∙ writing .whole
+
+  -- the elements end where all of them do
+  pub written-size : out ≡ at + elements-long g (laid g end ms₀ es₀ .places) es₀
+  unfolding spread cut part-runs elements-bytes
+  written-size =
+      let z : elements-long g (laid g d ms es .places) es ≡ 0 = ap (λ (l : List Entry). elements-long g (laid g d ms l .places) l) none in
+      omega (arith, writing .size)
+
+  -- all blocks are taken
+  pub written-free : ms ≡ laid g end ms₀ es₀ .free
+  unfolding spread cut
+  written-free = sym (ap (λ (l : List Entry). laid g d ms l .free) none) ∙ writing .planning .free-all

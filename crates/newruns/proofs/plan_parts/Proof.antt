@@ -1,0 +1,116 @@
+-- `plan_parts` meets its contract.
+use Prim.Native.Nat.{_≤_}
+use mathlib.Core.Path.{_≡_, refl}
+use native.Mathlib.Omega.{arith}
+use borrow.Author.Needs.{needs}
+use lib.ListN.{length}
+use Rattle.marks.specs.Marks.{marks}
+use Rattle.parts.specs.Merge.{todo, changed-entries, CursorOk}
+use Rattle.parts.proofs.Laws.{none-zero, begun-todo}
+use Rattle.newruns.proofs.Laws.{Planning, planning-start, planning-more, planned, planned-over, none-left, fewer-left}
+use Rattle.newruns.proofs.plan_parts.Statement.{statement}
+use Rattle.newruns.proofs.plan_parts.Tie as tie
+
+abbrev Inv-loop : tie.InvT-loop
+Inv-loop run h body fresh free₀ g end limit word₀ part₀ cur₀ d₀ free word part cur d =
+    (length word ≡ 256) × (length part ≡ 3328) × CursorOk run word cur × (length free ≡ length free₀) × (g ≤ d) × (end ≤ d) × (d ≤ limit) × (limit ≤ 98304) × (2560 ≤ length free)
+    × Planning g end (marks free₀) (changed-entries run h body fresh) d (marks free) (todo run word h body cur)
+
+abbrev μ-loop : tie.MeasureT-loop
+μ-loop run h body fresh free₀ g end limit word₀ part₀ cur₀ d₀ free word part cur d = length (todo run word h body cur)
+
+slice-aggregate-advance : tie.Need-slice-aggregate-advance Inv-loop μ-loop
+slice-aggregate-advance c = refl
+
+advance-requires : tie.Need-advance-requires Inv-loop μ-loop
+advance-requires c κs = (omega arith, (omega arith, omega arith, none-zero))
+
+loop-holds : tie.Need-loop-holds Inv-loop μ-loop
+loop-holds c = (
+  c .before .advance .ensures .1 .1 .1,
+  refl,
+  c .before .advance .ensures .1 .1 .0,
+  refl,
+  omega arith,
+  omega arith,
+  omega arith,
+  omega arith,
+  omega arith,
+  planning-start _ _ _ _ _ (begun-todo _ _ _ _ _ _ (c .before .advance .ensures .0) (c .before .advance .ensures .1 .0)),
+)
+
+slice-aggregate-encode-part : tie.Need-slice-aggregate-encode-part Inv-loop μ-loop
+slice-aggregate-encode-part c = omega arith
+
+slice-aggregate-encode-part-2 : tie.Need-slice-aggregate-encode-part-2 Inv-loop μ-loop
+slice-aggregate-encode-part-2 c = omega arith
+
+encode-part-requires : tie.Need-encode-part-requires Inv-loop μ-loop
+encode-part-requires c κs = (c .before .before .loop .inv .2, (c .before .before .before .before .before .before .before .before .before .before .pre .0 .0, c .before .before .before .before .before .before .before .before .before .before .pre .0 .1, omega arith))
+
+same-length : tie.Need-same-length Inv-loop μ-loop
+same-length c = omega arith
+
+returns : tie.Need-returns Inv-loop μ-loop
+returns c = (planned _ _ _ _ _ _ _ (c .before .before .before .before .before .before .before .loop .inv .9) _ (none-left _ _ (c .before .before .before .before .encode-part .ensures .1 .0) (c .if1 .taken)), (omega arith, omega arith, omega arith))
+
+run-blocks-requires : tie.Need-run-blocks-requires Inv-loop μ-loop
+run-blocks-requires c κs = c .before .before .before .before .encode-part .ensures .1 .1 .1 .1 .0
+
+place-requires : tie.Need-place-requires Inv-loop μ-loop
+place-requires c κs = (omega arith, omega arith, omega arith)
+
+add-larger : tie.Need-add-larger Inv-loop μ-loop
+add-larger c = omega arith
+
+larger-requires : tie.Need-larger-requires Inv-loop μ-loop
+larger-requires c κs = search needs
+
+same-length-2 : tie.Need-same-length-2 Inv-loop μ-loop
+same-length-2 c = omega arith
+
+returns-2 : tie.Need-returns-2 Inv-loop μ-loop
+returns-2 c = (
+  planned-over _ _ _ _ _ _ _ (planning-more _ _ (c .before .before .before .before .before .before .before .before .before .before .before .encode-part .ensures .1 .0) (c .before .before .before .before .before .before .before .if1 .left) _ (c .before .before .before .before .before .before .before .before .before .before .before .encode-part .ensures .1 .1 .0) _ _ _ _ _ _ _ (c .before .before .before .before .before .before .run-blocks .ensures .0) (c .before .before .before .before .place .ensures .0) (c .before .larger .ensures) (c .before .before .before .before .place .ensures .1 .1 .0) _ _ _ (c .before .before .before .before .before .before .before .before .before .before .before .before .before .before .loop .inv .9)) _ (c .if2 .taken),
+  (omega arith, omega arith, omega arith),
+)
+
+loop-less : tie.Need-loop-less Inv-loop μ-loop
+loop-less c = fewer-left _ _ (c .before .before .before .before .before .before .before .before .before .before .before .before .encode-part .ensures .1 .0) (c .before .before .before .before .before .before .before .before .if1 .left) _ (c .before .before .before .before .before .before .before .before .before .before .before .before .encode-part .ensures .1 .1 .0)
+
+loop-again : tie.Need-loop-again Inv-loop μ-loop
+loop-again c = (
+  omega arith,
+  omega arith,
+  c .before .before .before .before .before .before .before .before .before .before .before .before .encode-part .ensures .1 .1 .1 .0,
+  omega arith,
+  omega arith,
+  omega arith,
+  omega arith,
+  omega arith,
+  omega arith,
+  planning-more _ _ (c .before .before .before .before .before .before .before .before .before .before .before .before .encode-part .ensures .1 .0) (c .before .before .before .before .before .before .before .before .if1 .left) _ (c .before .before .before .before .before .before .before .before .before .before .before .before .encode-part .ensures .1 .1 .0) _ _ _ _ _ _ _ (c .before .before .before .before .before .before .before .run-blocks .ensures .0) (c .before .before .before .before .before .place .ensures .0) (c .before .before .larger .ensures) (c .before .before .before .before .before .place .ensures .1 .1 .0) _ _ _ (c .before .before .before .before .before .before .before .before .before .before .before .before .before .before .before .loop .inv .9),
+)
+
+pub plan-parts-spec : {M : Type 1} → statement M
+plan-parts-spec =
+    tie.close
+    (tie.spec
+    Inv-loop
+    μ-loop
+    slice-aggregate-advance
+    advance-requires
+    loop-holds
+    slice-aggregate-encode-part
+    slice-aggregate-encode-part-2
+    encode-part-requires
+    same-length
+    returns
+    run-blocks-requires
+    place-requires
+    add-larger
+    larger-requires
+    same-length-2
+    returns-2
+    loop-less
+    loop-again)

@@ -1,0 +1,327 @@
+-- Laws of packing: writes that do not touch one another, and what a turn of the loop shows.
+use Prim.Native.Nat.{ℕ, zero, suc, _+_, _-_, _*_, _/_, _<_, _≤_}
+use mathlib.Core.Path.{_≡_, refl, sym, ap, ap₂, _∙_}
+use mathlib.Core.Logic.{_⊎_, ⊎-elim}
+use mathlib.Core.List.{List, [], _∷_, _++_, map, append-assoc}
+use native.Mathlib.Omega.{arith}
+use lib.ListN.{length, take, drop, length-append, take-append-drop}
+use lib.Seq.{length-take-le, take-append-le, drop-append-le, take-append-add, drop-append-add}
+use borrow.Author.Needs.{needs}
+use Rattle.spec.specs.Outcome.{ok}
+use Rattle.spec.specs.Bytes as BytesSpec
+use Rattle.spec.specs.Bytes.{from-little-endian, write, bytes-at}
+use Rattle.spec.specs.Header.{format4}
+use Rattle.spec.specs.Run.{Run}
+use Rattle.spec.specs.Index.{Element, element-bytes, elements-bytes}
+use Rattle.spec.specs.Blocks as BlocksSpec
+use Rattle.spec.specs.Blocks.{run-blocks}
+use Rattle.spec.specs.Check.{next-headword, runs-from}
+use Rattle.spec.specs.Place as PlaceSpec
+use Rattle.spec.specs.Place.{element-of, packed, runs-written}
+use Rattle.spec.proofs.ListsLaws.{All, all-map, less-or}
+use Rattle.spec.proofs.OutcomeLaws.{same-value, not-both}
+use Rattle.spec.proofs.PartLaws.{length-bytes-at}
+use Rattle.spec.proofs.WriteLaws.{bytes-at-before, length-write}
+use Rattle.spec.proofs.ReadLaws.{RunTold, run-told, no-runs, runs-first}
+use Rattle.spec.proofs.HoldsLaws.{Holds, runs-hold}
+use Rattle.index.specs.Elements as Elements
+use Rattle.index.specs.Elements.{element-end, element-headword, element-at, elements-at, Inside}
+use Rattle.index.proofs.Laws.{inside-start, elements-next}
+use Rattle.elements.proofs.Laws.{write-behind, write-none, element-size, elements-size, here-end, here-next}
+use Rattle.tally.specs.Tally.{Sized}
+use Rattle.pack.specs.Packing as Packing
+use Rattle.pack.specs.Packing.{blocks-needed, runs-bytes, packed-elements, runs-packed, RunsFit}
+
+-- ---- writes that do not touch one another
+-- what stands in front of a write, up to a place before it
+pub take-before : (i k : ℕ) (x d : List ℕ) → i + length x ≤ length d → k ≤ i → take k (write i x d) ≡ take k d
+unfolding BytesSpec.bytes-at
+take-before i k x d h p = bytes-at-before i x d h 0 k (omega arith)
+
+-- bytes written inside the first of two lists
+pub write-front : (i : ℕ) (y p t : List ℕ) → i + length y ≤ length p → write i y (p ++ t) ≡ write i y p ++ t
+unfolding BytesSpec.write
+write-front i y p t h =
+    let a : i ≤ length p = omega arith in
+    rw (take-append-le i p t, drop-append-le (i + length y) p t) (sym (append-assoc (take i p ++ y) (drop (i + length y) p) t))
+
+-- bytes written inside the second
+pub write-back : (k : ℕ) (y p t : List ℕ) → write (length p + k) y (p ++ t) ≡ p ++ write k y t
+unfolding BytesSpec.write
+write-back k y p t =
+    let e : length p + k + length y ≡ length p + (k + length y) = omega arith in
+    rw (e, take-append-add p t k, drop-append-add p t (k + length y), append-assoc p (take k t) y, append-assoc p (take k t ++ y) (drop (k + length y) t))
+
+-- two writes in either order
+pub write-swap : (i j : ℕ) (x y d : List ℕ) → i + length x ≤ j → j + length y ≤ length d → write i x (write j y d) ≡ write j y (write i x d)
+write-swap i j x y d h k =
+    let p : List ℕ = take (i + length x) d in
+    let t : List ℕ = drop (i + length x) d in
+    let m : ℕ = j - (i + length x) in
+    let s : p ++ t ≡ d = take-append-drop (i + length x) d in
+    let l : length p ≡ i + length x = length-take-le (i + length x) d (omega arith) in
+    let q : length (write i x p) ≡ length p = length-write i x p (omega arith) in
+    let e : j ≡ length p + m = omega arith in
+    let f : length p + m ≡ length (write i x p) + m = omega arith in
+    ap (λ (z : List ℕ). write i x (write j y z)) (sym s)
+    ∙ ap (λ (n : ℕ). write i x (write n y (p ++ t))) e
+    ∙ ap (write i x) (write-back m y p t)
+    ∙ write-front i x p (write m y t) (omega arith)
+    ∙ sym (write-back m y (write i x p) t)
+    ∙ ap (λ (n : ℕ). write n y (write i x p ++ t)) (sym f ∙ sym e)
+    ∙ ap (write j y) (sym (write-front i x p t (omega arith)))
+    ∙ ap (λ (z : List ℕ). write j y (write i x z)) s
+
+-- bytes written in front of others are written with them
+pub write-ahead : (d x y : List ℕ) (i j : ℕ) → j ≡ i + length x → j + length y ≤ length d → write i x (write j y d) ≡ write i (x ++ y) d
+write-ahead d x y i j e h = write-swap i j x y d (omega arith) h ∙ rw e (write-behind d x y i (omega arith))
+
+-- bytes at two places, in each written in two parts
+pub write-two : (d x y g h : List ℕ) (i p i₁ p₁ : ℕ) → i₁ ≡ i + length g → p₁ ≡ p + length x → i₁ + length h ≤ p → p₁ + length y ≤ length d
+    → write i₁ h (write p₁ y (write i g (write p x d))) ≡ write i (g ++ h) (write p (x ++ y) d)
+write-two d x y g h i p i₁ p₁ e f front back =
+    let l : length (write p x d) ≡ length d = length-write p x d (omega arith) in
+    let s : write p₁ y (write p x d) ≡ write p (x ++ y) d = rw f (write-behind d x y p (omega arith)) in
+    let m : length (write p (x ++ y) d) ≡ length d = length-write p (x ++ y) d (omega (arith, length-append x y)) in
+    ap (write i₁ h) (sym (write-swap i p₁ g y (write p x d) (omega arith) (omega arith)) ∙ ap (write i g) s) ∙ rw e (write-behind (write p (x ++ y) d) g h i (omega arith))
+
+-- ---- packed runs
+-- their elements, one and those behind it
+pub packed-next : (b : ℕ) (r : Run) (rs : List Run) → packed-elements b (r ∷ rs) ≡ element-bytes format4 (record { block = b; headword = r .headword }) ++ packed-elements (b + r .size) rs
+unfolding Packing.packed-elements PlaceSpec.packed PlaceSpec.at-block PlaceSpec.element-of elements-bytes
+packed-next b r rs = refl
+
+-- of no run there is none
+pub packed-none : (b : ℕ) → packed-elements b [] ≡ []
+unfolding Packing.packed-elements PlaceSpec.packed elements-bytes
+packed-none b = refl
+
+-- as no element takes no byte
+elements-none : elements-bytes format4 [] ≡ []
+unfolding elements-bytes
+elements-none = refl
+
+-- they take as many bytes as they took
+pub packed-same : (b : ℕ) (rs : List Run) → length (packed-elements b rs) ≡ length (elements-bytes format4 (map element-of rs))
+unfolding PlaceSpec.element-of
+packed-same b [] = ap length (packed-none b) ∙ sym (ap length elements-none)
+packed-same b (r ∷ rs) =
+    let e : Element = record { block = b; headword = r .headword } in
+    omega (
+      arith,
+      ap length (packed-next b r rs),
+      length-append (element-bytes format4 e) (packed-elements (b + r .size) rs),
+      element-size e,
+      packed-same (b + r .size) rs,
+      elements-size (element-of r) (map element-of rs),
+    )
+
+-- runs that have the bytes of their blocks
+abbrev pub Whole : List Run → Type 0
+Whole rs = All (λ r. length (r .bytes) ≡ 256 * r .size) rs
+
+-- their bytes are those of all their blocks
+pub runs-bytes-length : (rs : List Run) → Whole rs → length (runs-bytes rs) ≡ 256 * run-blocks rs
+unfolding Packing.runs-bytes BlocksSpec.run-blocks
+runs-bytes-length [] h = refl
+runs-bytes-length (r ∷ rs) (h, hs) = omega (arith, length-append (r .bytes) (runs-bytes rs), runs-bytes-length rs hs)
+
+-- packed runs written over an area are their bytes one after the other
+pub packed-written : (b : ℕ) (rs : List Run) (area : List ℕ) → Whole rs → 256 * b + 256 * run-blocks rs ≤ length area → runs-written (packed b rs) area ≡ write (256 * b) (runs-bytes rs) area
+unfolding PlaceSpec.packed PlaceSpec.at-block PlaceSpec.runs-written Packing.runs-bytes BlocksSpec.run-blocks
+packed-written b [] area h fits = sym (write-none area (256 * b))
+packed-written b (r ∷ rs) area (h, hs) fits =
+    let m : length (runs-bytes rs) ≡ 256 * run-blocks rs = runs-bytes-length rs hs in
+    ap (write (256 * b) (r .bytes)) (packed-written (b + r .size) rs area hs (omega arith))
+    ∙ write-ahead area (r .bytes) (runs-bytes rs) (256 * b) (256 * (b + r .size)) (omega arith) (omega arith)
+
+-- ---- need
+-- without an element
+pub need-none : (n bytes : ℕ) → n ≡ 0 → 0 ≡ blocks-needed n bytes
+unfolding Packing.blocks-needed
+need-none n bytes e = rw e
+
+-- with some
+pub need-some : (n bytes : ℕ) → (n ≡ 0 → ⊥) → (bytes + 259) / 256 ≡ blocks-needed n bytes
+unfolding Packing.blocks-needed BytesSpec.blocks-for
+need-some zero bytes h = absurd (h refl)
+need-some (suc n) bytes h =
+    let e : bytes + 259 ≡ bytes + 4 + 255 = omega arith in
+    ap (λ (k : ℕ). k / 256) e
+
+-- every need of need
+pub ruleset need-laws = (need-none, need-some, needs)
+
+-- ---- write_runs
+-- runs that are read have their elements
+pub runs-elements : (d : ℕ) (area : List ℕ) (es : List Element) (rs : List Run) → runs-from format4 d area es ≡ ok rs → map element-of rs ≡ es
+unfolding PlaceSpec.element-of
+runs-elements d area [] rs h = ap (map element-of) (no-runs format4 d area rs h)
+runs-elements d area (e ∷ es) rs h =
+    let (r, qs, p, u, k) = runs-first format4 d area e es rs h in
+    let t : RunTold format4 d area e (next-headword es) r = run-told format4 d area e (next-headword es) r u in
+    let x : element-of r ≡ e = rw (t .block, t .headword) in
+    ap (map element-of) p ∙ ap₂ (λ (a : Element) (l : List Element). a ∷ l) x (runs-elements d area es qs k)
+
+-- the runs from `at` on are still to be written: their elements from `out` on, they from block b on
+pub record Underway (index area : List ℕ) (n d base : ℕ) (image₀ image : List ℕ) (at out b left : ℕ) : Type 0 where
+  pub runs : List Run
+  pub read : runs-from format4 d area (elements-at index at left) ≡ ok runs
+  pub index-room : out + length (packed-elements b runs) ≡ 256 + length (elements-bytes format4 (elements-at index 0 n))
+  pub area-room : base + 256 * b + 256 * run-blocks runs ≤ length image
+  pub whole : (rs : List Run) → runs-from format4 d area (elements-at index 0 n) ≡ ok rs
+      → write out (packed-elements b runs) (write (base + 256 * b) (runs-bytes runs) image) ≡ runs-packed base rs image₀
+
+-- at the start all are
+pub underway-start : (index area image : List ℕ) (n d base : ℕ) → RunsFit index area n d base (length image) → Underway index area n d base image image 0 256 0 n
+unfolding Packing.runs-packed
+underway-start index area image n d base v =
+    let e : base + 256 * 0 ≡ base = omega arith in
+    record {
+      runs = v .runs;
+      read = v .read;
+      index-room = ap (λ (k : ℕ). 256 + k) (packed-same 0 (v .runs) ∙ ap (λ (es : List Element). length (elements-bytes format4 es)) (runs-elements d area (elements-at index 0 n) (v .runs) (v .read)));
+      area-room = omega (arith, v .area-room);
+      whole = λ rs h. rw (e, same-value (v .runs) rs (sym (v .read) ∙ h));
+    }
+
+-- the run of an element that the code reads, and those behind it
+pub record RunHere (area : List ℕ) (d : ℕ) (runs : List Run) (others : List Element) (from size : ℕ) (headword : List ℕ) : Type 0 where
+  pub run : Run
+  pub rest : List Run
+  pub runs-are : runs ≡ run ∷ rest
+  pub size-is : size ≡ run .size
+  pub bytes-are : run .bytes ≡ bytes-at (256 * from) (256 * size) area
+  pub headword-is : run .headword ≡ headword
+  pub inside : from + size ≤ d
+  pub others-read : runs-from format4 d area others ≡ ok rest
+
+-- it is so by the size that row 7 allows
+run-here : (area : List ℕ) (d : ℕ) (e : Element) (others : List Element) (runs : List Run) → runs-from format4 d area (e ∷ others) ≡ ok runs → (size : ℕ) → Sized format4 d area (e .block) size
+    → RunHere area d runs others (e .block) size (e .headword)
+run-here area d e others runs h size sized =
+    let (r, rs, p, u, k) = runs-first format4 d area e others runs h in
+    let t : RunTold format4 d area e (next-headword others) r = run-told format4 d area e (next-headword others) r u in
+    let z : size ≡ r .size = ⊎-elim (λ (x : size < 1). absurd (not-both _ r 7 u (sized .0 e (next-headword others) refl (omega arith)))) (λ (x : 1 ≤ size). sized .1 x .1 ∙ sym (t .size)) (less-or size 1) in
+    record {
+      run = r;
+      rest = rs;
+      runs-are = p;
+      size-is = z;
+      bytes-are = t .bytes ∙ ap₂ (λ (a s : ℕ). bytes-at (256 * a) (256 * s) area) (t .block) (sym z);
+      headword-is = t .headword;
+      inside = omega (arith, t .inside, t .block);
+      others-read = k;
+    }
+
+module _ (area : List ℕ) (d : ℕ) (runs : List Run) (others : List Element) (from size : ℕ) (word : List ℕ) (w : RunHere area d runs others from size word) (b : ℕ) where
+  -- what it adds to the blocks of the runs,
+  here-blocks : run-blocks runs ≡ size + run-blocks (w .rest)
+  unfolding BlocksSpec.run-blocks
+  here-blocks = ap run-blocks (w .runs-are) ∙ rw (w .size-is)
+
+  -- to their elements,
+  here-elements : packed-elements b runs ≡ element-bytes format4 (record { block = b; headword = word }) ++ packed-elements (b + size) (w .rest)
+  here-elements = ap (packed-elements b) (w .runs-are) ∙ packed-next b (w .run) (w .rest) ∙ rw (w .headword-is, w .size-is)
+
+  -- to the bytes of these,
+  here-long : length (packed-elements b runs) ≡ 3 + length word + length (packed-elements (b + size) (w .rest))
+  here-long =
+      let e : Element = record { block = b; headword = word } in
+      omega (arith, ap length here-elements, length-append (element-bytes format4 e) (packed-elements (b + size) (w .rest)), element-size e)
+
+  -- and to their own bytes
+  here-bytes : runs-bytes runs ≡ bytes-at (256 * from) (256 * size) area ++ runs-bytes (w .rest)
+  unfolding Packing.runs-bytes
+  here-bytes = ap runs-bytes (w .runs-are) ∙ rw (w .bytes-are)
+
+-- runs that are read have the bytes of their blocks
+pub runs-whole : (d : ℕ) (area : List ℕ) (es : List Element) (rs : List Run) → 256 * d ≡ length area → runs-from format4 d area es ≡ ok rs → Whole rs
+runs-whole d area es rs long h = all-map (Holds format4) (λ r. length (r .bytes) ≡ 256 * r .size) (λ r k. k .whole) rs (runs-hold format4 d area es rs (omega arith) h)
+
+module _ (index area : List ℕ) (n d base : ℕ) (image₀ image : List ℕ) (at out b left : ℕ) (v : Underway index area n d base image₀ image at out b left) where
+  -- the next block lies in the slice
+  pub underway-low : base + 256 * b ≤ length image
+  underway-low = omega (arith, v .area-room)
+
+  -- at the end none is: the code stands where all elements end
+  pub underway-out : left ≤ 0 → out ≡ 256 + length (elements-bytes format4 (elements-at index 0 n))
+  unfolding Elements.elements-at
+  underway-out z =
+      let k : left ≡ 0 = omega arith in
+      let e : v .runs ≡ [] = no-runs format4 d area (v .runs) (rw k at (v .read)) in
+      omega (arith, v .index-room, ap (λ (rs : List Run). length (packed-elements b rs)) e, ap length (packed-none b))
+
+  -- and what stands there now is the whole written
+  pub underway-end : left ≤ 0 → (rs : List Run) → runs-from format4 d area (elements-at index 0 n) ≡ ok rs → image ≡ runs-packed base rs image₀
+  unfolding Elements.elements-at Packing.runs-bytes
+  underway-end z rs h =
+      let k : left ≡ 0 = omega arith in
+      let e : v .runs ≡ [] = no-runs format4 d area (v .runs) (rw k at (v .read)) in
+      sym (ap (λ (qs : List Run). write out (packed-elements b qs) (write (base + 256 * b) (runs-bytes qs) image)) e ∙ rw (packed-none b) (write-none (write (base + 256 * b) [] image) out) ∙ write-none image (base + 256 * b))
+      ∙ v .whole rs h
+
+  module _ (more : 0 < left) (inside : Inside index at left) (long : 256 * d ≡ length area) (end : ℕ) (ends : end ≡ element-end index at) (from : ℕ) (number : from ≡ from-little-endian (bytes-at at 2 index))
+      (size : ℕ) (sized : Sized format4 d area from size) where
+    -- the headword here, as the code cuts it out
+    abbrev word : List ℕ
+    word = take (end - (at + 2)) (drop (at + 2) index)
+
+    -- the run here
+    here : RunHere area d (v .runs) (elements-at index (end + 1) (left - 1)) from size word
+    unfolding Elements.element-at Elements.element-headword BytesSpec.bytes-at
+    here =
+        let q : runs-from format4 d area (element-at index at ∷ elements-at index (end + 1) (left - 1)) ≡ ok (v .runs) = sym (ap (runs-from format4 d area) (elements-next index at left more ∙ rw ends)) ∙ v .read in
+        let w : element-headword index at ≡ word = rw ends in
+        rw (number, ← w) (run-here area d (element-at index at) (elements-at index (end + 1) (left - 1)) (v .runs) q size (rw number at sized))
+
+    -- it lies in the old area
+    pub run-inside : from + size ≤ d
+    run-inside = here .inside
+
+    -- and fits where it goes
+    pub run-fits : base + 256 * b + 256 * size ≤ length image
+    run-fits = omega (arith, v .area-room, here-blocks _ _ _ _ _ _ _ here b)
+
+    -- the element fits in front of the runs
+    pub element-fits : out + 3 + length word ≤ 256 + length (elements-bytes format4 (elements-at index 0 n))
+    element-fits = omega (arith, v .index-room, here-long _ _ _ _ _ _ _ here b)
+
+    -- one run more
+    pub underway-turn : (image₁ image₂ : List ℕ) (out₁ : ℕ) → 256 + length (elements-bytes format4 (elements-at index 0 n)) ≤ base
+        → image₁ ≡ write (base + 256 * b) (bytes-at (256 * from) (256 * size) area) image
+        → image₂ ≡ write out (element-bytes format4 (record { block = b; headword = word })) image₁
+        → out₁ ≡ out + 3 + length word
+        → Underway index area n d base image₀ image₂ (end + 1) out₁ (b + size) (left - 1)
+    underway-turn image₁ image₂ out₁ front e₁ e₂ e₃ =
+        let x : List ℕ = bytes-at (256 * from) (256 * size) area in
+        let y : List ℕ = runs-bytes (here .rest) in
+        let e : Element = record { block = b; headword = word } in
+        let g : List ℕ = element-bytes format4 e in
+        let h : List ℕ = packed-elements (b + size) (here .rest) in
+        let l : length x ≡ 256 * size = length-bytes-at area (256 * from) (256 * size) (omega (arith, run-inside)) in
+        let k : length y ≡ 256 * run-blocks (here .rest) = runs-bytes-length (here .rest) (runs-whole d area (elements-at index (end + 1) (left - 1)) (here .rest) long (here .others-read)) in
+        let m : length g ≡ 3 + length word = element-size e in
+        let blocks : run-blocks (v .runs) ≡ size + run-blocks (here .rest) = here-blocks _ _ _ _ _ _ _ here b in
+        let room : length (packed-elements b (v .runs)) ≡ 3 + length word + length h = here-long _ _ _ _ _ _ _ here b in
+        let s : image₂ ≡ write out g (write (base + 256 * b) x image) = e₂ ∙ ap (write out g) e₁ in
+        let z₁ : length (write (base + 256 * b) x image) ≡ length image = length-write (base + 256 * b) x image (omega (arith, v .area-room)) in
+        let z : length image₂ ≡ length image = ap length s ∙ length-write out g (write (base + 256 * b) x image) (omega (arith, v .index-room, v .area-room)) ∙ z₁ in
+        record {
+          runs = here .rest;
+          read = here .others-read;
+          index-room = omega (arith, v .index-room);
+          area-room = omega (arith, v .area-room);
+          whole = λ rs r.
+              ap (λ (q : List ℕ). write out₁ h (write (base + 256 * (b + size)) y q)) s
+              ∙ write-two image x y g h out (base + 256 * b) out₁ (base + 256 * (b + size)) (omega arith) (omega arith) (omega (arith, v .index-room)) (omega (arith, v .area-room))
+              ∙ ap₂ (λ (a c : List ℕ). write out a (write (base + 256 * b) c image)) (sym (here-elements _ _ _ _ _ _ _ here b)) (sym (here-bytes _ _ _ _ _ _ _ here b))
+              ∙ v .whole rs r;
+        }
+
+-- the room for elements that the caller gives
+pub fit-front : (index area : List ℕ) (n d base long : ℕ) → RunsFit index area n d base long → 256 + length (elements-bytes format4 (elements-at index 0 n)) ≤ base
+fit-front index area n d base long v = v .index-room
+
+-- the needs of write_runs
+pub ruleset write-laws = (inside-start, here-end, here-next, fit-front, underway-start, underway-low, underway-out, underway-end, run-inside, run-fits, element-fits, underway-turn, needs)

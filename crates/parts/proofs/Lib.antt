@@ -1,0 +1,4 @@
+pub mod MergeLaws
+pub mod PartLaws
+pub mod MeasureLaws
+pub mod Laws

@@ -1,0 +1,410 @@
+-- The entries left in a run, the change merged into them, and what each turn takes of them.
+use Prim.Native.Nat.{ℕ, zero, suc, _+_, _-_, _<_, _≤_}
+use mathlib.Core.Path.{_≡_, refl, sym, ap, _∙_}
+use mathlib.Core.Logic.{_⊎_, inl, inr, ⊎-elim}
+use mathlib.Core.Bool.{Bool, true, false, not, true≢false}
+use mathlib.Core.List.{List, [], _∷_, _++_, map}
+use mathlib.Core.Option.{Option, none, some}
+use native.Mathlib.Omega.{arith}
+use lib.ListN.{length, take, drop}
+use lib.Dec.{eqb}
+use Rattle.spec.specs.Outcome.{Outcome, refused, ok}
+use Rattle.spec.specs.Lists.{all, filter}
+use Rattle.spec.specs.Bytes.{bytes-at, bytes-equal}
+use Rattle.spec.specs.Order.{IsOrder, Ascend, below-of}
+use Rattle.spec.specs.Header.{Format, format4}
+use Rattle.spec.specs.Entry.{Entry, headword-ok, body-ok}
+use Rattle.spec.specs.Run.{read-entry, entries-from}
+use Rattle.spec.specs.SortedList.{Sorted, has-headword, replace, remove}
+use Rattle.spec.proofs.ListsLaws.{All, all-map, clash, and-left, and-right, filter-yes, filter-no, filter-every, filter-nothing}
+use Rattle.spec.proofs.OutcomeLaws.{ok-not-refused, same-value, bind-ok}
+use Rattle.spec.proofs.OrderLaws.{one-way, order-of}
+use Rattle.spec.proofs.ReadLaws.{entry-told, after-step, entries-told, same-bytes, bytes-self}
+use Rattle.spec.proofs.SortedLaws.{ok-sorted}
+use Rattle.scans.specs.declared.Comparison.{Comparison}
+use Rattle.scans.specs.declared.Comparison.the-variants.{Below, Same, Above}
+use Rattle.scans.specs.Compare.{comparison}
+use Rattle.scans.proofs.Laws.{comparison-below, comparison-above, comparison-above-not, comparison-same, comparison-below-not}
+use Rattle.parts.specs.declared.Cursor.{Cursor}
+use Rattle.parts.specs.declared.Turn.{Turn}
+use Rattle.parts.specs.Merge.{entries-until, entries-left, merge, ahead, todo, changed-entries, turn-of}
+
+-- ---- the entries left
+-- by what stands at the front
+module _ (F : Format) (n : ℕ) (prev s : List ℕ) where
+  until-refused : (k : ℕ) → read-entry F prev s ≡ refused k → entries-until F (suc n) prev s ≡ []
+  unfolding entries-until
+  until-refused k q = rw (q, entries-until)
+
+  until-none : read-entry F prev s ≡ ok none → entries-until F (suc n) prev s ≡ []
+  unfolding entries-until
+  until-none q = rw (q, entries-until)
+
+  until-some : (p : Entry × List ℕ) → read-entry F prev s ≡ ok (some p) → entries-until F (suc n) prev s ≡ p .0 ∷ entries-until F n (p .0 .headword) (p .1)
+  unfolding entries-until
+  until-some p q = rw (q, entries-until)
+
+-- a bound that is not reached does not count
+until-enough : (F : Format) (n m : ℕ) (prev s : List ℕ) → length s < n → length s < m → entries-until F n prev s ≡ entries-until F m prev s
+until-enough F zero m prev s p q = absurd (omega arith)
+until-enough F (suc n) zero prev s p q = absurd (omega arith)
+until-enough F (suc n) (suc m) prev s p q = go (λ w t a b. until-enough F n m w t a b) (read-entry F prev s) refl
+  where
+    go : ((w t : List ℕ) → length t < n → length t < m → entries-until F n w t ≡ entries-until F m w t) → (o : Outcome (Option (Entry × List ℕ))) → read-entry F prev s ≡ o
+        → entries-until F (suc n) prev s ≡ entries-until F (suc m) prev s
+    go ih (refused k) e = until-refused F n prev s k e ∙ sym (until-refused F m prev s k e)
+    go ih (ok none) e = until-none F n prev s e ∙ sym (until-none F m prev s e)
+    go ih (ok (some x)) e =
+        let l : length (x .1) < length s = entry-told F prev s (x .0) (x .1) e .1 in
+        until-some F n prev s x e ∙ ap (λ (es : List Entry). x .0 ∷ es) (ih (x .0 .headword) (x .1) (omega arith) (omega arith)) ∙ sym (until-some F m prev s x e)
+
+module _ (F : Format) (prev s : List ℕ) where
+  -- none at a broken rule
+  pub left-refused : (k : ℕ) → read-entry F prev s ≡ refused k → entries-left F prev s ≡ []
+  unfolding entries-left
+  left-refused k q = until-refused F (length s) prev s k q
+
+  -- none at the end marks
+  pub left-none : read-entry F prev s ≡ ok none → entries-left F prev s ≡ []
+  unfolding entries-left
+  left-none q = until-none F (length s) prev s q
+
+  -- an entry, and those behind it
+  pub left-some : (e : Entry) (rest : List ℕ) → read-entry F prev s ≡ ok (some (e, rest)) → entries-left F prev s ≡ e ∷ entries-left F (e .headword) rest
+  unfolding entries-left
+  left-some e rest q =
+      let l : length rest < length s = entry-told F prev s e rest q .1 in
+      until-some F (length s) prev s (e, rest) q ∙ ap (λ (es : List Entry). e ∷ es) (until-enough F (length s) (suc (length rest)) (e .headword) rest l (omega arith))
+
+-- entries that were read are those left
+pub entries-left-read : (F : Format) (n : ℕ) (prev s : List ℕ) (es : List Entry) → entries-from F n prev s ≡ ok es → entries-left F prev s ≡ es
+unfolding entries-from
+entries-left-read F zero prev s es h = absurd (ok-not-refused es 8 (sym h))
+entries-left-read F (suc n) prev s es h =
+    let (r, p, q) = bind-ok (read-entry F prev s) (after-step F n) es h in
+    go (λ w t ds k. entries-left-read F n w t ds k) r p q
+  where
+    go : ((w t : List ℕ) (ds : List Entry) → entries-from F n w t ≡ ok ds → entries-left F w t ≡ ds) → (r : Option (Entry × List ℕ)) → read-entry F prev s ≡ ok r
+        → after-step F n r ≡ ok es → entries-left F prev s ≡ es
+    go ih none p q = left-none F prev s p ∙ same-value [] es q
+    go ih (some x) p q =
+        let (ds, u, v) = bind-ok (entries-from F n (x .0 .headword) (x .1)) (λ ds. ok (x .0 ∷ ds)) es q in
+        left-some F prev s (x .0) (x .1) p ∙ ap (λ (l : List Entry). x .0 ∷ l) (ih (x .0 .headword) (x .1) ds u) ∙ same-value (x .0 ∷ ds) es v
+
+-- an entry that keeps its rules
+abbrev pub Ruled : Entry → Type 0
+Ruled e = (headword-ok (e .headword) ≡ true) × (body-ok (e .body) ≡ true)
+
+until-ok : (F : Format) (n : ℕ) (prev s : List ℕ) → All Ruled (entries-until F n prev s)
+unfolding entries-until
+until-ok F zero prev s = tt
+until-ok F (suc n) prev s = go (λ w t. until-ok F n w t) (read-entry F prev s) refl
+  where
+    go : ((w t : List ℕ) → All Ruled (entries-until F n w t)) → (o : Outcome (Option (Entry × List ℕ))) → read-entry F prev s ≡ o → All Ruled (entries-until F (suc n) prev s)
+    go ih (refused k) e = rw (until-refused F n prev s k e) tt
+    go ih (ok none) e = rw (until-none F n prev s e) tt
+    go ih (ok (some x)) e =
+        let t = entry-told F prev s (x .0) (x .1) e .0 in
+        rw (until-some F n prev s x e) ((t .0, t .1), ih (x .0 .headword) (x .1))
+
+-- all entries left keep their rules
+pub left-ok : (F : Format) (prev s : List ℕ) → All Ruled (entries-left F prev s)
+unfolding entries-left
+left-ok F prev s = until-ok F (suc (length s)) prev s
+
+until-few : (F : Format) (n : ℕ) (prev s : List ℕ) → length (entries-until F n prev s) ≤ length s
+unfolding entries-until
+until-few F zero prev s = omega arith
+until-few F (suc n) prev s = go (λ w t. until-few F n w t) (read-entry F prev s) refl
+  where
+    go : ((w t : List ℕ) → length (entries-until F n w t) ≤ length t) → (o : Outcome (Option (Entry × List ℕ))) → read-entry F prev s ≡ o → length (entries-until F (suc n) prev s) ≤ length s
+    go ih (refused k) e = rw (until-refused F n prev s k e) (omega arith)
+    go ih (ok none) e = rw (until-none F n prev s e) (omega arith)
+    go ih (ok (some x)) e =
+        let l : length (x .1) < length s = entry-told F prev s (x .0) (x .1) e .1 in
+        rw (until-some F n prev s x e) (omega (arith, ih (x .0 .headword) (x .1)))
+
+-- they are no more than the bytes
+pub left-few : (F : Format) (prev s : List ℕ) → length (entries-left F prev s) ≤ length s
+unfolding entries-left
+left-few F prev s = until-few F (suc (length s)) prev s
+
+-- ---- the change merged in
+module _ (below : List ℕ → List ℕ → Bool) (a : Entry) where
+  -- an entry below the new one stays in front
+  pub merge-below : (fresh : Bool) (e : Entry) (es : List Entry) → comparison below (e .headword) (a .headword) ≡ Below → merge below a fresh (e ∷ es) ≡ e ∷ merge below a fresh es
+  unfolding merge
+  merge-below true e es q = rw (q, merge)
+  merge-below false e es q = rw (q, merge)
+
+  -- one with its headword goes
+  pub merge-same : (fresh : Bool) (e : Entry) (es : List Entry) → comparison below (e .headword) (a .headword) ≡ Same → merge below a fresh (e ∷ es) ≡ merge below a fresh es
+  unfolding merge
+  merge-same true e es q = rw (q, merge)
+  merge-same false e es q = rw (q, merge)
+
+  -- before one above it the new one enters
+  pub merge-enters : (e : Entry) (es : List Entry) → comparison below (e .headword) (a .headword) ≡ Above → merge below a true (e ∷ es) ≡ a ∷ e ∷ merge below a false es
+  unfolding merge
+  merge-enters e es q = rw (q, merge)
+
+  -- or it stays, where nothing is to come
+  pub merge-above : (e : Entry) (es : List Entry) → comparison below (e .headword) (a .headword) ≡ Above → merge below a false (e ∷ es) ≡ e ∷ merge below a false es
+  unfolding merge
+  merge-above e es q = rw (q, merge)
+
+  -- without a new entry there are none more
+  pub merge-old : (es : List Entry) → length (merge below a false es) ≤ length es
+  unfolding merge
+  merge-old [] = omega arith
+  merge-old (e ∷ es) = go (merge-old es) (comparison below (e .headword) (a .headword)) refl
+    where
+      go : length (merge below a false es) ≤ length es → (k : Comparison) → comparison below (e .headword) (a .headword) ≡ k → length (merge below a false (e ∷ es)) ≤ suc (length es)
+      go ih Below q = rw (merge-below false e es q) (omega arith)
+      go ih Same q = rw (merge-same false e es q) (omega arith)
+      go ih Above q = rw (merge-above e es q) (omega arith)
+
+  -- no more than one entry is new
+  pub merge-few : (fresh : Bool) (es : List Entry) → length (merge below a fresh es) ≤ length es + 1
+  unfolding merge
+  merge-few true [] = omega arith
+  merge-few false [] = omega arith
+  merge-few fresh (e ∷ es) = go fresh (λ t. merge-few t es) (comparison below (e .headword) (a .headword)) refl
+    where
+      go : (t : Bool) → ((u : Bool) → length (merge below a u es) ≤ length es + 1) → (k : Comparison) → comparison below (e .headword) (a .headword) ≡ k → length (merge below a t (e ∷ es)) ≤ suc (length es) + 1
+      go t ih Below q = rw (merge-below t e es q) (omega (arith, ih t))
+      go t ih Same q = rw (merge-same t e es q) (omega (arith, ih t))
+      go true ih Above q = rw (merge-enters e es q) (omega (arith, merge-old es))
+      go false ih Above q = rw (merge-above e es q) (omega (arith, ih false))
+
+  -- a fact of the new entry and of all others
+  pub merge-all : (P : Entry → Type 0) → P a → (fresh : Bool) (es : List Entry) → All P es → All P (merge below a fresh es)
+  unfolding merge
+  merge-all P p true [] h = (p, tt)
+  merge-all P p false [] h = tt
+  merge-all P p fresh (e ∷ es) (h, hs) = go fresh (λ t. merge-all P p t es hs) (comparison below (e .headword) (a .headword)) refl
+    where
+      go : (t : Bool) → ((u : Bool) → All P (merge below a u es)) → (k : Comparison) → comparison below (e .headword) (a .headword) ≡ k → All P (merge below a t (e ∷ es))
+      go t ih Below q = rw (merge-below t e es q) (h, ih t)
+      go t ih Same q = rw (merge-same t e es q) (ih t)
+      go true ih Above q = rw (merge-enters e es q) (p, (h, ih false))
+      go false ih Above q = rw (merge-above e es q) (h, ih false)
+
+  module _ (order : IsOrder below) where
+    not-equal : (x y : List ℕ) → below x y ≡ true → bytes-equal x y ≡ false
+    not-equal x y p = go (bytes-equal x y) refl
+      where
+        go : (t : Bool) → bytes-equal x y ≡ t → bytes-equal x y ≡ false
+        go false e = e
+        go true e = absurd (true≢false (sym p ∙ ap (λ (z : List ℕ). below z y) (same-bytes x y e) ∙ order .irreflexive y))
+
+    not-equal-above : (x y : List ℕ) → below y x ≡ true → bytes-equal x y ≡ false
+    not-equal-above x y p = go (bytes-equal x y) refl
+      where
+        go : (t : Bool) → bytes-equal x y ≡ t → bytes-equal x y ≡ false
+        go false e = e
+        go true e = absurd (true≢false (sym p ∙ ap (λ (z : List ℕ). below y z) (same-bytes x y e) ∙ order .irreflexive y))
+
+    -- an entry that is not to come again: the entry with its headword goes
+    pub merge-remove : (es : List Entry) → merge below a false es ≡ remove (a .headword) es
+    unfolding merge remove filter has-headword
+    merge-remove [] = refl
+    merge-remove (e ∷ es) = go (merge-remove es) (comparison below (e .headword) (a .headword)) refl
+      where
+        go : merge below a false es ≡ remove (a .headword) es → (k : Comparison) → comparison below (e .headword) (a .headword) ≡ k → merge below a false (e ∷ es) ≡ remove (a .headword) (e ∷ es)
+        go ih Below q = merge-below false e es q ∙ ap (λ (l : List Entry). e ∷ l) ih
+            ∙ sym (filter-yes (λ d. not (bytes-equal (d .headword) (a .headword))) e es (ap not (not-equal (e .headword) (a .headword) (comparison-below below (e .headword) (a .headword) q))))
+        go ih Same q = merge-same false e es q ∙ ih
+            ∙ sym (filter-no (λ d. not (bytes-equal (d .headword) (a .headword))) e es (rw (comparison-same below (e .headword) (a .headword) order q, bytes-self (a .headword))))
+        go ih Above q = merge-above e es q ∙ ap (λ (l : List Entry). e ∷ l) ih
+            ∙ sym (filter-yes (λ d. not (bytes-equal (d .headword) (a .headword))) e es (ap not (not-equal-above (e .headword) (a .headword) (comparison-above below (e .headword) (a .headword) q))))
+
+    -- entries above the new one stay as they are
+    merge-stays : (es : List Entry) → All (λ d. below (a .headword) (d .headword) ≡ true) es → merge below a false es ≡ es
+    unfolding remove has-headword
+    merge-stays es h = merge-remove es ∙ filter-every (λ d. not (bytes-equal (d .headword) (a .headword))) es (all-map _ _ (λ d q. ap not (not-equal-above (d .headword) (a .headword) q)) es h)
+
+    headwords-above : (k : List ℕ) (es : List Entry) → all (below k) (map (λ d. d .headword) es) ≡ true → All (λ d. below k (d .headword) ≡ true) es
+    unfolding all
+    headwords-above k [] h = tt
+    headwords-above k (e ∷ es) h = (and-left (below k (e .headword)) _ h, headwords-above k es (and-right (below k (e .headword)) _ h))
+
+    -- a new entry takes its place among those that ascend
+    pub merge-replace : (es : List Entry) → Sorted below es → merge below a true es ≡ replace below a es
+    unfolding merge replace filter Sorted Ascend
+    merge-replace [] h = refl
+    merge-replace (e ∷ es) (h, hs) = go (merge-replace es hs) (comparison below (e .headword) (a .headword)) refl
+      where
+        lower : Entry → Bool
+        lower d = below (d .headword) (a .headword)
+
+        upper : Entry → Bool
+        upper d = below (a .headword) (d .headword)
+
+        go : merge below a true es ≡ replace below a es → (k : Comparison) → comparison below (e .headword) (a .headword) ≡ k → merge below a true (e ∷ es) ≡ filter lower (e ∷ es) ++ a ∷ filter upper (e ∷ es)
+        go ih Below q =
+            merge-below true e es q
+            ∙ rw (filter-yes lower e es (comparison-below below (e .headword) (a .headword) q), filter-no upper e es (comparison-below-not below (e .headword) (a .headword) order q)) (ap (λ (l : List Entry). e ∷ l) ih)
+        go ih Same q =
+            let s : e .headword ≡ a .headword = comparison-same below (e .headword) (a .headword) order q in
+            let i : below (a .headword) (a .headword) ≡ false = order .irreflexive (a .headword) in
+            merge-same true e es q ∙ rw (filter-no lower e es (rw s i), filter-no upper e es (rw s i)) ih
+        go ih Above q =
+            let up : below (a .headword) (e .headword) ≡ true = comparison-above below (e .headword) (a .headword) q in
+            let every : All (λ d. below (a .headword) (d .headword) ≡ true) es = all-map _ _ (λ d r. order .transitive (a .headword) (e .headword) (d .headword) up r) es (headwords-above (e .headword) es h) in
+            let none-lower : filter lower es ≡ [] = filter-nothing lower es (all-map _ _ (λ d r. one-way below order (a .headword) (d .headword) r) es every) in
+            merge-enters e es q
+            ∙ rw (filter-no lower e es (comparison-above-not below (e .headword) (a .headword) q), filter-yes upper e es up, none-lower, filter-every upper es every, merge-stays es every)
+
+-- a new entry that comes next, alone or before one above it
+module _ (below : List ℕ → List ℕ → Bool) (a : Entry) (es : List Entry) where
+  new-alone : es ≡ [] → merge below a true es ≡ a ∷ merge below a false es
+  unfolding merge
+  new-alone q = rw q
+
+  new-before : (e : Entry) (rest : List Entry) → es ≡ e ∷ rest → comparison below (e .headword) (a .headword) ≡ Above → merge below a true es ≡ a ∷ merge below a false es
+  new-before e rest q k = rw q (merge-enters below a e rest k ∙ ap (λ (l : List Entry). a ∷ l) (sym (merge-above below a e rest k)))
+
+-- ---- where reading stands
+module _ (run word : List ℕ) (c : Cursor) where
+  -- no entry is left
+  pub ahead-none : eqb (c .length) 0 ≡ true → ahead run word c ≡ []
+  unfolding ahead
+  ahead-none q = rw (q, ahead)
+
+  -- an entry, and those behind it
+  pub ahead-some : eqb (c .length) 0 ≡ false
+      → ahead run word c ≡ record { headword = take (c .length) word; body = bytes-at (c .zero + 1) (c .next - (c .zero + 1)) run } ∷ entries-left format4 (take (c .length) word) (drop (c .next) run)
+  unfolding ahead
+  ahead-some q = rw (q, ahead)
+
+-- a turn by its tests: whether no old entry is left, whether the new one is to come, and how the old one stands to it
+abbrev turn-by : Bool → Bool → Comparison → Turn
+turn-by b fresh k = elim b [
+  | true ↦ elim fresh [ true ↦ Turn.New | false ↦ Turn.Done ]
+  | false ↦ elim k [ Below ↦ Turn.Old | Same ↦ Turn.Skip | Above ↦ elim fresh [ true ↦ Turn.New | false ↦ Turn.Old ] ]
+]
+
+by-done : (b f : Bool) (k : Comparison) → turn-by b f k ≡ Turn.Done → (b ≡ true) × (f ≡ false)
+by-done true true k h = clash (cc)
+by-done true false k h = (refl, refl)
+by-done false f Below h = clash (cc)
+by-done false f Same h = clash (cc)
+by-done false true Above h = clash (cc)
+by-done false false Above h = clash (cc)
+
+by-skip : (b f : Bool) (k : Comparison) → turn-by b f k ≡ Turn.Skip → (b ≡ false) × (k ≡ Same)
+by-skip true true k h = clash (cc)
+by-skip true false k h = clash (cc)
+by-skip false f Below h = clash (cc)
+by-skip false f Same h = (refl, refl)
+by-skip false true Above h = clash (cc)
+by-skip false false Above h = clash (cc)
+
+by-old : (b f : Bool) (k : Comparison) → turn-by b f k ≡ Turn.Old → (b ≡ false) × ((k ≡ Below) ⊎ ((k ≡ Above) × (f ≡ false)))
+by-old true true k h = clash (cc)
+by-old true false k h = clash (cc)
+by-old false f Below h = (refl, inl refl)
+by-old false f Same h = clash (cc)
+by-old false true Above h = clash (cc)
+by-old false false Above h = (refl, inr (refl, refl))
+
+by-new : (b f : Bool) (k : Comparison) → turn-by b f k ≡ Turn.New → (f ≡ true) × ((b ≡ true) ⊎ ((b ≡ false) × (k ≡ Above)))
+by-new true true k h = (refl, inl refl)
+by-new true false k h = clash (cc)
+by-new false f Below h = clash (cc)
+by-new false f Same h = clash (cc)
+by-new false true Above h = (refl, inr (refl, refl))
+by-new false false Above h = clash (cc)
+
+-- a turn where an old entry is left, by how it stands to the new one
+module _ (below : List ℕ → List ℕ → Bool) (h word : List ℕ) (n : ℕ) (fresh : Bool) (b : eqb n 0 ≡ false) where
+  -- below the new one it is kept
+  pub turn-keeps : comparison below (take n word) h ≡ Below → turn-of below h fresh n word ≡ Turn.Old
+  unfolding turn-of
+  turn-keeps q = ap (λ (t : Bool). turn-by t fresh (comparison below (take n word) h)) b ∙ ap (turn-by false fresh) q
+
+  -- with its headword it is dropped
+  pub turn-skips : comparison below (take n word) h ≡ Same → turn-of below h fresh n word ≡ Turn.Skip
+  unfolding turn-of
+  turn-skips q = ap (λ (t : Bool). turn-by t fresh (comparison below (take n word) h)) b ∙ ap (turn-by false fresh) q
+
+  -- above it, by whether the new one is to come
+  pub turn-enters : comparison below (take n word) h ≡ Above → turn-of below h fresh n word ≡ elim fresh [ true ↦ Turn.New | false ↦ Turn.Old ]
+  unfolding turn-of
+  turn-enters q = ap (λ (t : Bool). turn-by t fresh (comparison below (take n word) h)) b ∙ ap (turn-by false fresh) q
+
+-- the same cursor, the new entry no more to come
+abbrev pub taken : Cursor → Cursor
+taken c = record { length = c .length; zero = c .zero; next = c .next; fresh = false }
+
+-- what each turn takes of the entries to do
+module _ (run word h body : List ℕ) (c : Cursor) where
+  -- an old entry that is dropped has a headword
+  pub skip-some : turn-of (below-of 0) h (c .fresh) (c .length) word ≡ Turn.Skip → eqb (c .length) 0 ≡ false
+  unfolding turn-of
+  skip-some q = by-skip (eqb (c .length) 0) (c .fresh) (comparison (below-of 0) (take (c .length) word) h) q .0
+
+  -- the same of one that is kept
+  pub old-some : turn-of (below-of 0) h (c .fresh) (c .length) word ≡ Turn.Old → eqb (c .length) 0 ≡ false
+  unfolding turn-of
+  old-some q = by-old (eqb (c .length) 0) (c .fresh) (comparison (below-of 0) (take (c .length) word) h) q .0
+
+  -- a new entry that enters was to come
+  pub new-fresh : turn-of (below-of 0) h (c .fresh) (c .length) word ≡ Turn.New → c .fresh ≡ true
+  unfolding turn-of
+  new-fresh q = by-new (eqb (c .length) 0) (c .fresh) (comparison (below-of 0) (take (c .length) word) h) q .0
+
+  -- nothing
+  pub todo-done : turn-of (below-of 0) h (c .fresh) (c .length) word ≡ Turn.Done → todo run word h body c ≡ []
+  unfolding turn-of todo merge
+  todo-done q =
+      let (b, f) = by-done (eqb (c .length) 0) (c .fresh) (comparison (below-of 0) (take (c .length) word) h) q in
+      rw (ahead-none run word c b, f)
+
+  -- the old entry, which the change drops
+  pub todo-skip : turn-of (below-of 0) h (c .fresh) (c .length) word ≡ Turn.Skip
+      → todo run word h body c ≡ merge (below-of 0) (record { headword = h; body = body }) (c .fresh) (entries-left format4 (take (c .length) word) (drop (c .next) run))
+  unfolding turn-of todo
+  todo-skip q =
+      let (b, k) = by-skip (eqb (c .length) 0) (c .fresh) (comparison (below-of 0) (take (c .length) word) h) q in
+      rw (ahead-some run word c b) (merge-same (below-of 0) (record { headword = h; body = body }) (c .fresh) _ _ k)
+
+  -- the old entry
+  pub todo-old : turn-of (below-of 0) h (c .fresh) (c .length) word ≡ Turn.Old
+      → todo run word h body c ≡ record { headword = take (c .length) word; body = bytes-at (c .zero + 1) (c .next - (c .zero + 1)) run }
+      ∷ merge (below-of 0) (record { headword = h; body = body }) (c .fresh) (entries-left format4 (take (c .length) word) (drop (c .next) run))
+  unfolding turn-of todo
+  todo-old q =
+      let (b, k) = by-old (eqb (c .length) 0) (c .fresh) (comparison (below-of 0) (take (c .length) word) h) q in
+      rw (ahead-some run word c b) (
+      ⊎-elim (λ p. merge-below (below-of 0) (record { headword = h; body = body }) (c .fresh) _ _ p)
+      (λ (p, f). rw f (merge-above (below-of 0) (record { headword = h; body = body }) _ _ p)) k
+      )
+
+  -- the new entry
+  pub todo-new : turn-of (below-of 0) h (c .fresh) (c .length) word ≡ Turn.New → todo run word h body c ≡ record { headword = h; body = body } ∷ todo run word h body (taken c)
+  unfolding turn-of todo ahead
+  todo-new q =
+      let a : Entry = record { headword = h; body = body } in
+      let (f, k) = by-new (eqb (c .length) 0) (c .fresh) (comparison (below-of 0) (take (c .length) word) h) q in
+      ap (λ (t : Bool). merge (below-of 0) a t (ahead run word c)) f
+      ∙ ⊎-elim (λ (b : eqb (c .length) 0 ≡ true). new-alone (below-of 0) a (ahead run word c) (ahead-none run word c b))
+      (λ (w : (eqb (c .length) 0 ≡ false) × (comparison (below-of 0) (take (c .length) word) h ≡ Above)). new-before (below-of 0) a (ahead run word c) _ _ (ahead-some run word c (w .0)) (w .1)) k
+
+-- ---- the entries of a run that was read, changed
+module _ (n : ℕ) (run : List ℕ) (es : List Entry) (read : entries-from format4 n [] run ≡ ok es) (h body : List ℕ) where
+  -- a new entry at its place
+  pub changed-replace : changed-entries run h body true ≡ replace (below-of 0) (record { headword = h; body = body }) es
+  unfolding changed-entries format4
+  changed-replace =
+      let a : Entry = record { headword = h; body = body } in
+      ap (merge (below-of 0) a true) (entries-left-read format4 n [] run es read)
+      ∙ merge-replace (below-of 0) a (order-of 0) es (ok-sorted format4 (order-of 0) [] es (entries-told format4 n [] run es read))
+
+  -- an entry gone
+  pub changed-remove : changed-entries run h body false ≡ remove h es
+  unfolding changed-entries
+  changed-remove =
+      let a : Entry = record { headword = h; body = body } in
+      ap (merge (below-of 0) a false) (entries-left-read format4 n [] run es read) ∙ merge-remove (below-of 0) a (order-of 0) es

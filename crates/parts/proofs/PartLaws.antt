@@ -1,0 +1,267 @@
+-- One part of a cut at a time: what it takes, what is behind it, and how it is filled.
+use Prim.Native.Nat.{ℕ, suc, _+_, _<_, _≤_}
+use mathlib.Core.Path.{_≡_, refl, sym, ap, _∙_}
+use mathlib.Core.Bool.{Bool, true, false, _||_}
+use mathlib.Core.List.{List, [], _∷_, _++_, append-nil}
+use native.Mathlib.Omega.{arith}
+use native.Mathlib.Nat.{zero-add, add-zero}
+use lib.ListN.{length, take, length-append, take-append-drop}
+use lib.Dec.{leb, eqb}
+use borrow.Author.Tests.{leb-true, eqb-true}
+use Rattle.spec.specs.Bytes.{write, bytes-at, blocks-for}
+use Rattle.spec.specs.Entry.{Entry, headword-ok, entry-bytes}
+use Rattle.spec.specs.Run.{entries-bytes, encoded-size, run-size}
+use Rattle.spec.specs.Place.{into-first, cut-after, cut, first-headword}
+use Rattle.spec.proofs.ListsLaws.{All, or-cases}
+use Rattle.spec.proofs.RunLaws.{head-bounds}
+use Rattle.spec.proofs.WriteLaws.{bytes-at-write}
+use Rattle.encoder.proofs.Laws.{length-entry, written-behind}
+use Rattle.parts.specs.Part.{has-room, part-of, past-part}
+
+-- ---- no entry
+-- a part of no entries has none
+pub part-none : (limit n : ℕ) (prev : List ℕ) → part-of limit n prev [] ≡ []
+unfolding part-of
+part-none limit n prev = refl
+
+-- and none is behind
+pub past-none : (limit n : ℕ) (prev : List ℕ) → past-part limit n prev [] ≡ []
+unfolding past-part
+past-none limit n prev = refl
+
+-- ---- the next entry
+module _ (limit n : ℕ) (prev : List ℕ) (e : Entry) (es : List Entry) where
+  -- it enters the part
+  pub part-takes : has-room limit n prev e ≡ true → part-of limit n prev (e ∷ es) ≡ e ∷ part-of limit (n + length (entry-bytes prev e)) (e .headword) es
+  unfolding part-of
+  part-takes q = rw (q, part-of)
+
+  -- and is not behind it
+  pub past-takes : has-room limit n prev e ≡ true → past-part limit n prev (e ∷ es) ≡ past-part limit (n + length (entry-bytes prev e)) (e .headword) es
+  unfolding past-part
+  past-takes q = rw (q, past-part)
+
+  -- it ends the part
+  pub part-full : has-room limit n prev e ≡ false → part-of limit n prev (e ∷ es) ≡ []
+  unfolding part-of
+  part-full q = rw (q, part-of)
+
+  -- and is behind it
+  pub past-full : has-room limit n prev e ≡ false → past-part limit n prev (e ∷ es) ≡ e ∷ es
+  unfolding past-part
+  past-full q = rw (q, past-part)
+
+-- a first entry always has room
+pub room-first : (limit : ℕ) (prev : List ℕ) (e : Entry) → has-room limit 0 prev e ≡ true
+unfolding has-room
+room-first limit prev e = refl
+
+-- a part's first entry is the first of all
+pub part-first : (limit : ℕ) (prev : List ℕ) (e : Entry) (es : List Entry) → part-of limit 0 prev (e ∷ es) ≡ e ∷ part-of limit (length (entry-bytes prev e)) (e .headword) es
+part-first limit prev e es = part-takes limit 0 prev e es (room-first limit prev e) ∙ ap (λ (m : ℕ). e ∷ part-of limit m (e .headword) es) (zero-add (length (entry-bytes prev e)))
+
+-- and not behind it
+pub past-first : (limit : ℕ) (prev : List ℕ) (e : Entry) (es : List Entry) → past-part limit 0 prev (e ∷ es) ≡ past-part limit (length (entry-bytes prev e)) (e .headword) es
+past-first limit prev e es = past-takes limit 0 prev e es (room-first limit prev e) ∙ ap (λ (m : ℕ). past-part limit m (e .headword) es) (zero-add (length (entry-bytes prev e)))
+
+-- an entry takes four bytes or more
+pub entry-some : (prev : List ℕ) (e : Entry) → 4 ≤ length (entry-bytes prev e)
+entry-some prev e = omega (arith, length-entry prev e)
+
+-- and no more than its headword and body with these four
+pub entry-most : (prev : List ℕ) (e : Entry) → length (entry-bytes prev e) ≤ 4 + length (e .headword) + length (e .body)
+entry-most prev e = omega (arith, length-entry prev e)
+
+-- whether a part with entries has room, by one test
+has-room-more : (limit n : ℕ) (prev : List ℕ) (e : Entry) → 0 < n → has-room limit n prev e ≡ leb (4 + (n + length (entry-bytes prev e))) limit
+unfolding has-room
+has-room-more limit n prev e h = go (eqb n 0) refl
+  where
+    go : (t : Bool) → eqb n 0 ≡ t → (eqb n 0 || leb (4 + (n + length (entry-bytes prev e))) limit) ≡ leb (4 + (n + length (entry-bytes prev e))) limit
+    go true q = absurd (omega (arith, eqb-true n 0 q))
+    go false q = rw q
+
+-- ---- a cut by its first part
+module _ (limit m : ℕ) (prev : List ℕ) (e : Entry) (es : List Entry) where
+  after-takes : leb (m + length (entry-bytes prev e)) limit ≡ true → cut-after limit m prev (e ∷ es) ≡ into-first e (cut-after limit (m + length (entry-bytes prev e)) (e .headword) es)
+  unfolding cut-after
+  after-takes q = rw (q, cut-after)
+
+  after-full : leb (m + length (entry-bytes prev e)) limit ≡ false → cut-after limit m prev (e ∷ es) ≡ [] ∷ into-first e (cut-after limit (4 + length (entry-bytes [] e)) (e .headword) es)
+  unfolding cut-after
+  after-full q = rw (q, cut-after)
+
+-- where the part has entries already
+cut-rest : (limit n : ℕ) (prev : List ℕ) (es : List Entry) → 0 < n → cut-after limit (4 + n) prev es ≡ part-of limit n prev es ∷ cut limit (past-part limit n prev es)
+unfolding cut-after part-of past-part cut into-first
+cut-rest limit n prev [] h = refl
+cut-rest limit n prev (e ∷ es) h = go (cut-rest limit (n + length (entry-bytes prev e)) (e .headword) es (omega arith)) (leb (4 + (n + length (entry-bytes prev e))) limit) refl
+  where
+    room : has-room limit n prev e ≡ leb (4 + (n + length (entry-bytes prev e))) limit
+    room = has-room-more limit n prev e h
+
+    sum : 4 + n + length (entry-bytes prev e) ≡ 4 + (n + length (entry-bytes prev e))
+    sum = omega arith
+
+    go : cut-after limit (4 + (n + length (entry-bytes prev e))) (e .headword) es ≡ part-of limit (n + length (entry-bytes prev e)) (e .headword) es ∷ cut limit (past-part limit (n + length (entry-bytes prev e)) (e .headword) es)
+        → (t : Bool) → leb (4 + (n + length (entry-bytes prev e))) limit ≡ t
+        → cut-after limit (4 + n) prev (e ∷ es) ≡ part-of limit n prev (e ∷ es) ∷ cut limit (past-part limit n prev (e ∷ es))
+    go ih true q =
+        after-takes limit (4 + n) prev e es (ap (λ (m : ℕ). leb m limit) sum ∙ q)
+        ∙ ap (λ (m : ℕ). into-first e (cut-after limit m (e .headword) es)) sum
+        ∙ ap (into-first e) ih
+        ∙ sym (rw (part-takes limit n prev e es (room ∙ q), past-takes limit n prev e es (room ∙ q)))
+    go ih false q =
+        after-full limit (4 + n) prev e es (ap (λ (m : ℕ). leb m limit) sum ∙ q)
+        ∙ sym (rw (part-full limit n prev e es (room ∙ q), past-full limit n prev e es (room ∙ q)))
+
+-- an empty list gives no part
+pub cut-none : (limit : ℕ) → cut limit [] ≡ []
+unfolding cut
+cut-none limit = refl
+
+-- the first part, then the parts of what is behind it
+pub cut-parts : (limit : ℕ) (e : Entry) (es : List Entry) → cut limit (e ∷ es) ≡ part-of limit 0 [] (e ∷ es) ∷ cut limit (past-part limit 0 [] (e ∷ es))
+unfolding cut into-first
+cut-parts limit e es =
+    let n : ℕ = length (entry-bytes [] e) in
+    let q : cut-after limit (4 + n) (e .headword) es ≡ part-of limit n (e .headword) es ∷ cut limit (past-part limit n (e .headword) es) = cut-rest limit n (e .headword) es (omega (arith, entry-some [] e)) in
+    ap (into-first e) q ∙ sym (rw (part-first limit [] e es, past-first limit [] e es))
+
+-- ---- facts of all entries
+-- are facts of those of a part
+pub part-all : (P : Entry → Type 0) (limit n : ℕ) (prev : List ℕ) (es : List Entry) → All P es → All P (part-of limit n prev es)
+unfolding part-of
+part-all P limit n prev [] h = tt
+part-all P limit n prev (e ∷ es) (h, hs) = go (part-all P limit (n + length (entry-bytes prev e)) (e .headword) es hs) (has-room limit n prev e) refl
+  where
+    go : All P (part-of limit (n + length (entry-bytes prev e)) (e .headword) es) → (t : Bool) → has-room limit n prev e ≡ t → All P (part-of limit n prev (e ∷ es))
+    go ih true q = rw (part-takes limit n prev e es q) (h, ih)
+    go ih false q = rw (part-full limit n prev e es q) tt
+
+-- and of those behind it
+pub past-all : (P : Entry → Type 0) (limit n : ℕ) (prev : List ℕ) (es : List Entry) → All P es → All P (past-part limit n prev es)
+unfolding past-part
+past-all P limit n prev [] h = tt
+past-all P limit n prev (e ∷ es) (h, hs) = go (past-all P limit (n + length (entry-bytes prev e)) (e .headword) es hs) (has-room limit n prev e) refl
+  where
+    go : All P (past-part limit (n + length (entry-bytes prev e)) (e .headword) es) → (t : Bool) → has-room limit n prev e ≡ t → All P (past-part limit n prev (e ∷ es))
+    go ih true q = rw (past-takes limit n prev e es q) ih
+    go ih false q = rw (past-full limit n prev e es q) (h, hs)
+
+past-few : (limit n : ℕ) (prev : List ℕ) (es : List Entry) → length (past-part limit n prev es) ≤ length es
+unfolding past-part
+past-few limit n prev [] = omega arith
+past-few limit n prev (e ∷ es) = go (past-few limit (n + length (entry-bytes prev e)) (e .headword) es) (has-room limit n prev e) refl
+  where
+    go : length (past-part limit (n + length (entry-bytes prev e)) (e .headword) es) ≤ length es → (t : Bool) → has-room limit n prev e ≡ t → length (past-part limit n prev (e ∷ es)) ≤ suc (length es)
+    go ih true q = rw (past-takes limit n prev e es q) (omega arith)
+    go ih false q = rw (past-full limit n prev e es q) (omega arith)
+
+-- a part takes an entry at least
+pub past-fewer : (limit : ℕ) (prev : List ℕ) (e : Entry) (es : List Entry) → length (past-part limit 0 prev (e ∷ es)) < length (e ∷ es)
+past-fewer limit prev e es = rw (past-first limit prev e es) (omega (arith, past-few limit (length (entry-bytes prev e)) (e .headword) es))
+
+-- ---- the bytes of a part
+-- an entry that fits its run: of a headword and a body that are not too long
+abbrev pub Short : Entry → Type 0
+Short e = (headword-ok (e .headword) ≡ true) × (length (e .body) ≤ 3_001)
+
+-- where an entry has room, a part does not get longer than the longest entry
+room-within : (n : ℕ) (prev : List ℕ) (e : Entry) → Short e → has-room 1_024 n prev e ≡ true → n + length (entry-bytes prev e) ≤ 3253
+unfolding has-room
+room-within n prev e (hok, bok) q = or-cases (eqb n 0) (leb (4 + (n + length (entry-bytes prev e))) 1_024)
+    (λ a. omega (arith, eqb-true n 0 a, entry-most prev e, head-bounds (e .headword) hok)) (λ b. omega (arith, leb-true (4 + (n + length (entry-bytes prev e))) 1_024 b)) q
+
+part-within : (n : ℕ) (prev : List ℕ) (es : List Entry) → All Short es → n ≤ 3253 → n + length (entries-bytes prev (part-of 1_024 n prev es)) ≤ 3253
+unfolding part-of entries-bytes
+part-within n prev [] h k = omega arith
+part-within n prev (e ∷ es) ((hok, bok), hs) k = go (λ m. part-within (n + length (entry-bytes prev e)) (e .headword) es hs m) (has-room 1_024 n prev e) refl
+  where
+    go : (n + length (entry-bytes prev e) ≤ 3253 → n + length (entry-bytes prev e) + length (entries-bytes (e .headword) (part-of 1_024 (n + length (entry-bytes prev e)) (e .headword) es)) ≤ 3253)
+        → (t : Bool) → has-room 1_024 n prev e ≡ t → n + length (entries-bytes prev (part-of 1_024 n prev (e ∷ es))) ≤ 3253
+    go ih true q = rw (part-takes 1_024 n prev e es q, length-append) (omega (arith, ih (room-within n prev e (hok, bok) q)))
+    go ih false q = rw (part-full 1_024 n prev e es q) (omega arith)
+
+-- a part is no longer than one entry may be
+pub part-short : (es : List Entry) → All Short es → length (entries-bytes [] (part-of 1_024 0 [] es)) ≤ 3253
+part-short es h = omega (arith, part-within 0 [] es h (omega arith))
+
+-- a part of some entries has bytes
+pub part-some : (limit : ℕ) (e : Entry) (es : List Entry) → 4 ≤ length (entries-bytes [] (part-of limit 0 [] (e ∷ es)))
+unfolding entries-bytes
+part-some limit e es = rw (part-first limit [] e es, length-append) (omega (arith, entry-some [] e))
+
+-- a part of no bytes is that of no entries
+pub part-empty : (limit : ℕ) (es : List Entry) → length (entries-bytes [] (part-of limit 0 [] es)) ≡ 0 → es ≡ []
+part-empty limit [] h = refl
+part-empty limit (e ∷ es) h = absurd (omega (arith, part-some limit e es))
+
+-- a part that was written from the front of a slice on stands there
+pub part-stands : (x part part′ : List ℕ) (used : ℕ) → part′ ≡ write 0 x part → used ≡ length x → used ≤ length part → take used part′ ≡ x
+unfolding bytes-at
+part-stands x part part′ used w q l = rw (w, q) (bytes-at-write 0 x part (omega arith))
+
+-- its run has the headword of its first entry
+pub part-headword : (limit : ℕ) (e : Entry) (es : List Entry) → first-headword (part-of limit 0 [] (e ∷ es)) ≡ e .headword
+unfolding first-headword
+part-headword limit e es = rw (part-first limit [] e es)
+
+-- the blocks of a part
+pub part-size : (es : List Entry) → run-size es ≡ blocks-for (2 + length (entries-bytes [] es) + 2)
+unfolding run-size encoded-size
+part-size es = refl
+
+-- ---- a part that is filled: what is still to come, written behind what is there, makes the whole
+pub record Filling (es₀ : List Entry) (part₀ : List ℕ) (es : List Entry) (part prev : List ℕ) (used : ℕ) : Type 0 where
+  pub whole : write used (entries-bytes prev (part-of 1_024 used prev es)) part ≡ write 0 (entries-bytes [] (part-of 1_024 0 [] es₀)) part₀
+  pub behind : past-part 1_024 used prev es ≡ past-part 1_024 0 [] es₀
+  pub size : used + length (entries-bytes prev (part-of 1_024 used prev es)) ≡ length (entries-bytes [] (part-of 1_024 0 [] es₀))
+
+-- a part that is done
+pub record Filled (es₀ : List Entry) (part₀ : List ℕ) (es : List Entry) (part : List ℕ) (used : ℕ) : Type 0 where
+  pub whole : part ≡ write 0 (entries-bytes [] (part-of 1_024 0 [] es₀)) part₀
+  pub behind : es ≡ past-part 1_024 0 [] es₀
+  pub size : used ≡ length (entries-bytes [] (part-of 1_024 0 [] es₀))
+
+write-none : (i : ℕ) (s : List ℕ) → write i [] s ≡ s
+unfolding write
+write-none i s = rw (append-nil, add-zero) (take-append-drop i s)
+
+-- nothing is filled at first
+pub filling-start : (es : List Entry) (part : List ℕ) → Filling es part es part [] 0
+filling-start es part = record { whole = refl; behind = refl; size = zero-add _ }
+
+module _ (es₀ : List Entry) (part₀ : List ℕ) (part prev : List ℕ) (used : ℕ) where
+  -- no entry is left
+  pub filling-end : Filling es₀ part₀ [] part prev used → Filled es₀ part₀ [] part used
+  unfolding part-of past-part entries-bytes
+  filling-end f = record { whole = sym (write-none used part) ∙ f .whole; behind = f .behind; size = omega (arith, f .size) }
+
+  module _ (e : Entry) (es : List Entry) (f : Filling es₀ part₀ (e ∷ es) part prev used) where
+    -- the next entry has no room
+    pub filling-full : has-room 1_024 used prev e ≡ false → Filled es₀ part₀ (e ∷ es) part used
+    unfolding entries-bytes
+    filling-full q =
+        let p : part-of 1_024 used prev (e ∷ es) ≡ [] = part-full 1_024 used prev e es q in
+        let w : write used [] part ≡ write 0 (entries-bytes [] (part-of 1_024 0 [] es₀)) part₀ = rw p at (f .whole) in
+        let s : used + 0 ≡ length (entries-bytes [] (part-of 1_024 0 [] es₀)) = rw p at (f .size) in
+        record { whole = sym (write-none used part) ∙ w; behind = sym (past-full 1_024 used prev e es q) ∙ f .behind; size = omega arith }
+
+    -- it is appended
+    pub filling-more : (part′ : List ℕ) (used′ : ℕ) → has-room 1_024 used prev e ≡ true → used′ ≡ used + length (entry-bytes prev e) → part′ ≡ write used (entry-bytes prev e) part → used ≤ length part
+        → Filling es₀ part₀ es part′ (e .headword) used′
+    unfolding entries-bytes
+    filling-more part′ used′ q u w l =
+        let n : ℕ = used + length (entry-bytes prev e) in
+        let more : List ℕ = entries-bytes (e .headword) (part-of 1_024 n (e .headword) es) in
+        let p : part-of 1_024 used prev (e ∷ es) ≡ e ∷ part-of 1_024 n (e .headword) es = part-takes 1_024 used prev e es q in
+        let W : write used (entry-bytes prev e ++ more) part ≡ write 0 (entries-bytes [] (part-of 1_024 0 [] es₀)) part₀ = rw p at (f .whole) in
+        let S : used + length (entry-bytes prev e ++ more) ≡ length (entries-bytes [] (part-of 1_024 0 [] es₀)) = rw p at (f .size) in
+        rw u (
+        record {
+          whole = written-behind part part′ (write n more part′) (entry-bytes prev e) more used n l refl w refl ∙ W;
+          behind = sym (past-takes 1_024 used prev e es q) ∙ f .behind;
+          size = omega (arith, S, length-append (entry-bytes prev e) more);
+        }
+        )

@@ -1,0 +1,200 @@
+-- `encode_part` meets its contract.
+use Prim.Native.Nat.{_+_, _≤_}
+use mathlib.Core.Path.{_≡_, refl, _∙_}
+use native.Mathlib.Omega.{arith}
+use lib.ListN.{length, take}
+use Rattle.spec.proofs.RunLaws.{head-bounds}
+use Rattle.parts.specs.Merge.{todo, CursorOk}
+use Rattle.parts.proofs.PartLaws.{Filling, filling-start}
+use Rattle.parts.proofs.Laws.{first-bytes, work, part-done, part-skips, part-full-old, part-keeps, part-full-new, part-enters, skip-less, old-less, new-less, old-length, word-few, body-few, cursor-taken}
+use borrow.Author.Needs.{needs}
+use Rattle.parts.proofs.encode_part.Statement.{statement}
+use Rattle.parts.proofs.encode_part.Tie as tie
+
+abbrev Inv-loop : tie.InvT-loop
+Inv-loop run word₀ h body part₀ last₀ k₀ used₀ cur₀ word part last k used cur =
+    (k ≤ 248) × (used ≤ 3253) × (length last ≡ 256) × (length word ≡ length word₀) × (length part ≡ length part₀) × CursorOk run word cur
+    × Filling (todo run word₀ h body cur₀) part₀ (todo run word h body cur) part (take k last) used
+
+abbrev μ-loop : tie.MeasureT-loop
+μ-loop run word₀ h body part₀ last₀ k₀ used₀ cur₀ word part last k used cur = work run word cur
+
+loop-holds : tie.Need-loop-holds Inv-loop μ-loop
+loop-holds c = (omega arith, omega arith, refl, refl, refl, c .before .before .before .before .before .pre .0, filling-start _ _)
+
+next-turn-requires : tie.Need-next-turn-requires Inv-loop μ-loop
+next-turn-requires c κs = search needs
+
+enum-told : tie.Need-enum-told Inv-loop μ-loop
+enum-told c = search needs
+
+same-length : tie.Need-same-length Inv-loop μ-loop
+same-length c = search needs
+
+same-length-2 : tie.Need-same-length-2 Inv-loop μ-loop
+same-length-2 c = search needs
+
+returns : tie.Need-returns Inv-loop μ-loop
+returns c =
+    let f = part-done _ _ _ _ _ _ _ _ _ _ _ (c .before .before .next-turn .ensures) (c .before .before .before .before .loop .inv .6) (c .enum-told .given .1) in
+    (f .whole, (f .size, (f .behind, (c .before .before .before .before .loop .inv .5, (c .before .before .before .before .loop .inv .1, c .before .before .before .before .loop .inv .4, c .before .before .before .before .loop .inv .3)))))
+
+enum-told-2 : tie.Need-enum-told-2 Inv-loop μ-loop
+enum-told-2 c = search needs
+
+advance-requires : tie.Need-advance-requires Inv-loop μ-loop
+advance-requires c κs = (c .before .before .before .before .before .loop .inv .5 .inside, (c .before .before .before .before .before .loop .inv .5 .room, c .before .before .before .before .before .loop .inv .5 .short, c .before .before .before .before .before .loop .inv .5 .clean))
+
+loop-less : tie.Need-loop-less Inv-loop μ-loop
+loop-less c = skip-less _ _ _ _ _ (c .before .before .before .before .before .before .next-turn .ensures) _ _ (c .before .before .before .before .enum-told2 .given .1) (c .before .before .advance .ensures .0) (c .before .before .advance .ensures .1 .0)
+
+loop-again : tie.Need-loop-again Inv-loop μ-loop
+loop-again c = (
+  c .before .before .before .before .before .before .before .before .loop .inv .0,
+  c .before .before .before .before .before .before .before .before .loop .inv .1,
+  c .before .before .before .before .before .before .before .before .loop .inv .2,
+  c .before .before .advance .ensures .1 .1 .1 ∙ c .before .before .before .before .before .before .before .before .loop .inv .3,
+  c .before .before .before .before .before .before .before .before .loop .inv .4,
+  c .before .before .advance .ensures .1 .1 .0,
+  part-skips _ _ _ _ _ _ _ _ _ _ _ (c .before .before .before .before .before .before .next-turn .ensures) (c .before .before .before .before .before .before .before .before .loop .inv .6) _ _ (c .before .before .before .before .enum-told2 .given .1) (c .before .before .advance .ensures .0) (c .before .before .advance .ensures .1 .0),
+)
+
+enum-told-3 : tie.Need-enum-told-3 Inv-loop μ-loop
+enum-told-3 c = search needs
+
+-- an old entry has a headword and a body
+old-some : (c : tie.After-enum-told3 Inv-loop μ-loop) → 1 ≤ c .before .before .before .before .loop .cur .length
+old-some c = old-length _ _ _ _ _ (c .before .before .next-turn .ensures) (c .enum-told3 .given .1)
+
+old-body : (c : tie.After-enum-told3 Inv-loop μ-loop) → c .before .before .before .before .loop .cur .zero + 2 ≤ c .before .before .before .before .loop .cur .next
+old-body c = c .before .before .before .before .loop .inv .5 .body (old-some c)
+
+slice-aggregate-append : tie.Need-slice-aggregate-append Inv-loop μ-loop
+slice-aggregate-append c = omega arith
+
+slice-reshare-prefix-append : tie.Need-slice-reshare-prefix-append Inv-loop μ-loop
+slice-reshare-prefix-append c = search needs
+
+slice-aggregate-append-2 : tie.Need-slice-aggregate-append-2 Inv-loop μ-loop
+slice-aggregate-append-2 c = first-bytes _ _ (omega arith)
+
+add-append : tie.Need-add-append Inv-loop μ-loop
+add-append c = omega (arith, old-body (c .before .before .before))
+
+sub-append : tie.Need-sub-append Inv-loop μ-loop
+sub-append c = omega (arith, old-body (c .before .before .before))
+
+part-append-start : tie.Need-part-append-start Inv-loop μ-loop
+part-append-start c = omega (arith, old-body (c .before .before .before))
+
+part-append-end : tie.Need-part-append-end Inv-loop μ-loop
+part-append-end c = search needs
+
+append-requires : tie.Need-append-requires Inv-loop μ-loop
+append-requires c κs =
+    let w = word-few _ _ (c .before .before .before .before .before .before .before .before .loop .inv .5 .room) (old-some (c .before .before .before .before)) (c .before .before .before .before .before .before .before .before .loop .inv .5 .short) in
+    ((w .0, w .1, body-few _ _ _ (c .before .before .before .before .before .before .before .before .loop .inv .5 .body-short)), (c .before .before .before .before .before .before .before .before .loop .inv .0, omega arith, omega arith, c .before .before .before .before .before .before .before .before .loop .inv .1))
+
+same-length-3 : tie.Need-same-length-3 Inv-loop μ-loop
+same-length-3 c = search needs
+
+same-length-4 : tie.Need-same-length-4 Inv-loop μ-loop
+same-length-4 c = search needs
+
+returns-2 : tie.Need-returns-2 Inv-loop μ-loop
+returns-2 c =
+    let f = part-full-old _ _ _ _ _ _ _ _ _ _ _ (c .before .before .before .before .before .before .before .before .before .before .before .next-turn .ensures) (c .before .before .before .before .before .before .before .before .before .before .before .before .before .loop .inv .6) _ _ _ (c .before .before .before .before .before .before .before .before .before .enum-told3 .given .1) (c .before .before .before .before .append .ensures .0) (c .if1 .taken) in
+    (f .whole, (f .size, (f .behind, (c .before .before .before .before .before .before .before .before .before .before .before .before .before .loop .inv .5, (c .before .before .before .before .before .before .before .before .before .before .before .before .before .loop .inv .1, c .before .before .before .before .append .ensures .1 .0 ∙ c .before .before .before .before .before .before .before .before .before .before .before .before .before .loop .inv .4, c .before .before .before .before .before .before .before .before .before .before .before .before .before .loop .inv .3)))))
+
+advance-requires-2 : tie.Need-advance-requires-2 Inv-loop μ-loop
+advance-requires-2 c κs = (c .before .before .before .before .before .before .before .before .before .before .before .before .before .before .loop .inv .5 .inside, (c .before .before .before .before .before .before .before .before .before .before .before .before .before .before .loop .inv .5 .room, c .before .before .before .before .before .before .before .before .before .before .before .before .before .before .loop .inv .5 .short, c .before .before .before .before .before .before .before .before .before .before .before .before .before .before .loop .inv .5 .clean))
+
+loop-less-2 : tie.Need-loop-less-2 Inv-loop μ-loop
+loop-less-2 c = old-less _ _ _ _ _ (c .before .before .before .before .before .before .before .before .before .before .before .before .before .before .before .next-turn .ensures) _ _ (c .before .before .before .before .before .before .before .before .before .before .before .before .before .enum-told3 .given .1) (c .before .before .advance2 .ensures .0) (c .before .before .advance2 .ensures .1 .0)
+
+loop-again-2 : tie.Need-loop-again-2 Inv-loop μ-loop
+loop-again-2 c = (
+  c .before .before .before .before .before .before .before .before .before .before .before .before .before .before .before .before .before .loop .inv .5 .short,
+  c .before .before .before .before .before .before .before .before .append .ensures .1 .2,
+  c .before .before .before .before .before .before .before .before .append .ensures .1 .1 ∙ c .before .before .before .before .before .before .before .before .before .before .before .before .before .before .before .before .before .loop .inv .2,
+  c .before .before .advance2 .ensures .1 .1 .1 ∙ c .before .before .before .before .before .before .before .before .before .before .before .before .before .before .before .before .before .loop .inv .3,
+  c .before .before .before .before .before .before .before .before .append .ensures .1 .0 ∙ c .before .before .before .before .before .before .before .before .before .before .before .before .before .before .before .before .before .loop .inv .4,
+  c .before .before .advance2 .ensures .1 .1 .0,
+  part-keeps _ _ _ _ _ _ _ _ _ _ _ (c .before .before .before .before .before .before .before .before .before .before .before .before .before .before .before .next-turn .ensures) (c .before .before .before .before .before .before .before .before .before .before .before .before .before .before .before .before .before .loop .inv .6) _ _ _ _ _ (c .before .before .before .before .before .before .before .before .before .before .before .before .before .enum-told3 .given .1) (c .before .before .before .before .before .before .before .before .append .ensures .0) (c .before .before .before .before .if1 .left) (omega (arith, c .before .before .before .before .before .before .before .before .before .before .before .before .before .before .before .before .before .loop .inv .1, c .before .before .before .before .before .before .before .before .before .before .before .before .before .before .before .before .before .loop .inv .4, c .before .before .before .before .before .before .before .before .before .before .before .before .before .before .before .before .before .before .before .before .before .before .before .pre .1 .2)) (omega (arith, c .before .before .before .before .before .before .before .before .before .before .before .before .before .before .before .before .before .loop .inv .5 .short, c .before .before .before .before .before .before .before .before .before .before .before .before .before .before .before .before .before .loop .inv .5 .room)) (c .before .before .advance2 .ensures .0) (c .before .before .advance2 .ensures .1 .0),
+)
+
+enum-told-4 : tie.Need-enum-told-4 Inv-loop μ-loop
+enum-told-4 c = search needs
+
+slice-aggregate-append-3 : tie.Need-slice-aggregate-append-3 Inv-loop μ-loop
+slice-aggregate-append-3 c = omega arith
+
+append-requires-2 : tie.Need-append-requires-2 Inv-loop μ-loop
+append-requires-2 c κs =
+    let b = head-bounds _ (c .before .before .before .before .before .before .before .before .before .before .before .before .pre .1 .0) in
+    ((b .0, b .1, c .before .before .before .before .before .before .before .before .before .before .before .before .pre .1 .1), (c .before .before .before .before .before .before .loop .inv .0, omega arith, omega arith, c .before .before .before .before .before .before .loop .inv .1))
+
+same-length-5 : tie.Need-same-length-5 Inv-loop μ-loop
+same-length-5 c = search needs
+
+same-length-6 : tie.Need-same-length-6 Inv-loop μ-loop
+same-length-6 c = search needs
+
+returns-3 : tie.Need-returns-3 Inv-loop μ-loop
+returns-3 c =
+    let f = part-full-new _ _ _ _ _ _ _ _ _ _ _ (c .before .before .before .before .before .before .before .before .before .next-turn .ensures) (c .before .before .before .before .before .before .before .before .before .before .before .loop .inv .6) _ _ _ (c .before .before .before .before .before .before .before .enum-told4 .given .1) (c .before .before .before .before .append2 .ensures .0) (c .if2 .taken) in
+    (f .whole, (f .size, (f .behind, (c .before .before .before .before .before .before .before .before .before .before .before .loop .inv .5, (c .before .before .before .before .before .before .before .before .before .before .before .loop .inv .1, c .before .before .before .before .append2 .ensures .1 .0 ∙ c .before .before .before .before .before .before .before .before .before .before .before .loop .inv .4, c .before .before .before .before .before .before .before .before .before .before .before .loop .inv .3)))))
+
+loop-less-3 : tie.Need-loop-less-3 Inv-loop μ-loop
+loop-less-3 c = new-less _ _ _ _ _ (c .before .before .before .before .before .before .before .before .before .next-turn .ensures) (c .before .before .before .before .before .before .before .enum-told4 .given .1)
+
+loop-again-3 : tie.Need-loop-again-3 Inv-loop μ-loop
+loop-again-3 c = (
+  head-bounds _ (c .before .before .before .before .before .before .before .before .before .before .before .before .before .before .before .before .before .pre .1 .0) .1,
+  c .before .before .before .before .append2 .ensures .1 .2,
+  c .before .before .before .before .append2 .ensures .1 .1 ∙ c .before .before .before .before .before .before .before .before .before .before .before .loop .inv .2,
+  c .before .before .before .before .before .before .before .before .before .before .before .loop .inv .3,
+  c .before .before .before .before .append2 .ensures .1 .0 ∙ c .before .before .before .before .before .before .before .before .before .before .before .loop .inv .4,
+  cursor-taken _ _ _ (c .before .before .before .before .before .before .before .before .before .before .before .loop .inv .5),
+  part-enters _ _ _ _ _ _ _ _ _ _ _ (c .before .before .before .before .before .before .before .before .before .next-turn .ensures) (c .before .before .before .before .before .before .before .before .before .before .before .loop .inv .6) _ _ _ (c .before .before .before .before .before .before .before .enum-told4 .given .1) (c .before .before .before .before .append2 .ensures .0) (c .if2 .left) (omega (arith, c .before .before .before .before .before .before .before .before .before .before .before .loop .inv .1, c .before .before .before .before .before .before .before .before .before .before .before .loop .inv .4, c .before .before .before .before .before .before .before .before .before .before .before .before .before .before .before .before .before .pre .1 .2)),
+)
+
+pub encode-part-spec : {M : Type 1} → statement M
+encode-part-spec =
+    tie.close
+    (tie.spec
+    Inv-loop
+    μ-loop
+    loop-holds
+    next-turn-requires
+    enum-told
+    same-length
+    same-length-2
+    returns
+    enum-told-2
+    advance-requires
+    loop-less
+    loop-again
+    enum-told-3
+    slice-aggregate-append
+    slice-reshare-prefix-append
+    slice-aggregate-append-2
+    add-append
+    sub-append
+    part-append-start
+    part-append-end
+    append-requires
+    same-length-3
+    same-length-4
+    returns-2
+    advance-requires-2
+    loop-less-2
+    loop-again-2
+    enum-told-4
+    slice-aggregate-append-3
+    append-requires-2
+    same-length-5
+    same-length-6
+    returns-3
+    loop-less-3
+    loop-again-3)

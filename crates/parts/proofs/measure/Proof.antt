@@ -1,0 +1,99 @@
+-- `measure` meets its contract.
+use Prim.Native.Nat.{_≤_}
+use mathlib.Core.Path.{_≡_, refl, sym, _∙_}
+use native.Mathlib.Omega.{arith}
+use lib.ListN.{length}
+use Rattle.parts.specs.Merge.{todo, changed-entries, CursorOk}
+use Rattle.parts.proofs.MeasureLaws.{parts-of, bytes-of, blocks-of, Counting, counted, counting-less, used-some, parts-more, bytes-more, blocks-more}
+use Rattle.parts.proofs.Laws.{none-zero, todo-short, measure-start, measure-bounds}
+use Rattle.parts.proofs.measure.Statement.{statement}
+use Rattle.parts.proofs.measure.Tie as tie
+
+abbrev Inv-loop : tie.InvT-loop
+Inv-loop run h body fresh word₀ part₀ cur₀ parts₀ bytes₀ blocks₀ word part cur parts bytes blocks =
+    (length word ≡ 256) × (length part ≡ 3328) × CursorOk run word cur × Counting (changed-entries run h body fresh) (todo run word h body cur) parts bytes blocks
+    × (parts-of (changed-entries run h body fresh) ≤ 8388609) × (bytes-of (changed-entries run h body fresh) ≤ 2105540859) × (blocks-of (changed-entries run h body fresh) ≤ 109051917)
+
+abbrev μ-loop : tie.MeasureT-loop
+μ-loop run h body fresh word₀ part₀ cur₀ parts₀ bytes₀ blocks₀ word part cur parts bytes blocks = length (todo run word h body cur)
+
+slice-aggregate-advance : tie.Need-slice-aggregate-advance Inv-loop μ-loop
+slice-aggregate-advance c = refl
+
+advance-requires : tie.Need-advance-requires Inv-loop μ-loop
+advance-requires c κs = (omega arith, (omega arith, omega arith, none-zero))
+
+loop-holds : tie.Need-loop-holds Inv-loop μ-loop
+loop-holds c =
+    let b = measure-bounds _ _ _ _ _ _ (c .before .advance .ensures .0) (c .before .advance .ensures .1 .0) (c .before .advance .ensures .1 .1 .0) (c .before .before .before .before .before .before .pre .0) (c .before .before .before .before .before .before .pre .1) (c .before .before .before .before .before .before .pre .2) in
+    (c .before .advance .ensures .1 .1 .1, refl, c .before .advance .ensures .1 .1 .0, measure-start _ _ _ _ _ _ (c .before .advance .ensures .0) (c .before .advance .ensures .1 .0), b .0, b .1, b .2)
+
+slice-aggregate-encode-part : tie.Need-slice-aggregate-encode-part Inv-loop μ-loop
+slice-aggregate-encode-part c = omega arith
+
+slice-aggregate-encode-part-2 : tie.Need-slice-aggregate-encode-part-2 Inv-loop μ-loop
+slice-aggregate-encode-part-2 c = omega arith
+
+encode-part-requires : tie.Need-encode-part-requires Inv-loop μ-loop
+encode-part-requires c κs = (c .before .before .loop .inv .2, (c .before .before .before .before .before .before .before .before .before .pre .0, c .before .before .before .before .before .before .before .before .before .pre .1, omega arith))
+
+returns : tie.Need-returns Inv-loop μ-loop
+returns c = counted _ _ _ _ _ _ (c .before .before .before .before .before .before .before .loop .inv .3) (c .before .before .before .before .encode-part .ensures .1 .0) (c .if1 .taken)
+
+add-parts : tie.Need-add-parts Inv-loop μ-loop
+add-parts c = omega (arith, parts-more _ _ _ _ _ _ (c .before .before .before .before .before .before .before .loop .inv .3) (c .before .before .before .before .encode-part .ensures .1 .0) (c .if1 .left) _ (c .before .before .before .before .encode-part .ensures .1 .1 .0), c .before .before .before .before .before .before .before .loop .inv .4)
+
+slice-aggregate-head-end : tie.Need-slice-aggregate-head-end Inv-loop μ-loop
+slice-aggregate-head-end c = sym (c .before .before .before .before .before .encode-part .ensures .1 .1 .1 .1 .1 ∙ c .before .before .before .before .before .before .before .before .loop .inv .1)
+
+head-end-requires : tie.Need-head-end-requires Inv-loop μ-loop
+head-end-requires c κs = (omega (arith, used-some _ _ _ _ _ _ (c .before .before .before .before .before .before .before .before .loop .inv .3) (c .before .before .before .before .before .encode-part .ensures .1 .0) (c .before .if1 .left)), omega (arith, c .before .before .before .before .before .encode-part .ensures .1 .1 .1 .1 .0, c .before .before .before .before .before .encode-part .ensures .1 .1 .1 .1 .1, c .before .before .before .before .before .before .before .before .loop .inv .1))
+
+add-bytes : tie.Need-add-bytes Inv-loop μ-loop
+add-bytes c = omega (arith, bytes-more _ _ _ _ _ _ (c .before .before .before .before .before .before .before .before .before .loop .inv .3) (c .before .before .before .before .before .before .encode-part .ensures .1 .0) (c .before .before .if1 .left) _ (c .before .before .before .before .before .before .encode-part .ensures .1 .1 .0) _ _ _ (todo-short _ _ _ _ _ (c .before .before .before .before .before .before .before .before .before .loop .inv .2) (c .before .before .before .before .before .before .before .before .before .before .before .before .before .before .before .before .pre .0) (c .before .before .before .before .before .before .before .before .before .before .before .before .before .before .before .before .pre .1)) (c .before .before .before .before .before .before .encode-part .ensures .0) (omega (arith, c .before .before .before .before .before .before .encode-part .ensures .1 .1 .1 .1 .0, c .before .before .before .before .before .before .before .before .before .loop .inv .1)) (c .head-end .ensures .1), c .before .before .before .before .before .before .before .before .before .loop .inv .5)
+
+run-blocks-requires : tie.Need-run-blocks-requires Inv-loop μ-loop
+run-blocks-requires c κs = c .before .before .before .before .before .before .encode-part .ensures .1 .1 .1 .1 .0
+
+add-blocks : tie.Need-add-blocks Inv-loop μ-loop
+add-blocks c = omega (arith, blocks-more _ _ _ _ _ _ (c .before .before .before .before .before .before .before .before .before .before .loop .inv .3) (c .before .before .before .before .before .before .before .encode-part .ensures .1 .0) (c .before .before .before .if1 .left) _ (c .before .before .before .before .before .before .before .encode-part .ensures .1 .1 .0) _ (c .run-blocks .ensures .0), c .before .before .before .before .before .before .before .before .before .before .loop .inv .6)
+
+loop-less : tie.Need-loop-less Inv-loop μ-loop
+loop-less c = counting-less _ _ _ _ _ _ (c .before .before .before .before .before .before .before .before .before .before .before .loop .inv .3) (c .before .before .before .before .before .before .before .before .encode-part .ensures .1 .0) (c .before .before .before .before .if1 .left) _ (c .before .before .before .before .before .before .before .before .encode-part .ensures .1 .1 .0)
+
+loop-again : tie.Need-loop-again Inv-loop μ-loop
+loop-again c = (
+  c .before .before .before .before .before .before .before .before .encode-part .ensures .1 .1 .1 .1 .2 ∙ c .before .before .before .before .before .before .before .before .before .before .before .loop .inv .0,
+  c .before .before .before .before .before .before .before .before .encode-part .ensures .1 .1 .1 .1 .1 ∙ c .before .before .before .before .before .before .before .before .before .before .before .loop .inv .1,
+  c .before .before .before .before .before .before .before .before .encode-part .ensures .1 .1 .1 .0,
+  record {
+    parts-all = parts-more _ _ _ _ _ _ (c .before .before .before .before .before .before .before .before .before .before .before .loop .inv .3) (c .before .before .before .before .before .before .before .before .encode-part .ensures .1 .0) (c .before .before .before .before .if1 .left) _ (c .before .before .before .before .before .before .before .before .encode-part .ensures .1 .1 .0);
+    bytes-all = bytes-more _ _ _ _ _ _ (c .before .before .before .before .before .before .before .before .before .before .before .loop .inv .3) (c .before .before .before .before .before .before .before .before .encode-part .ensures .1 .0) (c .before .before .before .before .if1 .left) _ (c .before .before .before .before .before .before .before .before .encode-part .ensures .1 .1 .0) _ _ _ (todo-short _ _ _ _ _ (c .before .before .before .before .before .before .before .before .before .before .before .loop .inv .2) (c .before .before .before .before .before .before .before .before .before .before .before .before .before .before .before .before .before .before .pre .0) (c .before .before .before .before .before .before .before .before .before .before .before .before .before .before .before .before .before .before .pre .1)) (c .before .before .before .before .before .before .before .before .encode-part .ensures .0) (omega (arith, c .before .before .before .before .before .before .before .before .encode-part .ensures .1 .1 .1 .1 .0, c .before .before .before .before .before .before .before .before .before .before .before .loop .inv .1)) (c .before .before .head-end .ensures .1);
+    blocks-all = blocks-more _ _ _ _ _ _ (c .before .before .before .before .before .before .before .before .before .before .before .loop .inv .3) (c .before .before .before .before .before .before .before .before .encode-part .ensures .1 .0) (c .before .before .before .before .if1 .left) _ (c .before .before .before .before .before .before .before .before .encode-part .ensures .1 .1 .0) _ (c .before .run-blocks .ensures .0);
+  },
+  c .before .before .before .before .before .before .before .before .before .before .before .loop .inv .4,
+  c .before .before .before .before .before .before .before .before .before .before .before .loop .inv .5,
+  c .before .before .before .before .before .before .before .before .before .before .before .loop .inv .6,
+)
+
+pub measure-spec : {M : Type 1} → statement M
+measure-spec =
+    tie.close
+    (tie.spec
+    Inv-loop
+    μ-loop
+    slice-aggregate-advance
+    advance-requires
+    loop-holds
+    slice-aggregate-encode-part
+    slice-aggregate-encode-part-2
+    encode-part-requires
+    returns
+    add-parts
+    slice-aggregate-head-end
+    head-end-requires
+    add-bytes
+    run-blocks-requires
+    add-blocks
+    loop-less
+    loop-again)

@@ -1,0 +1,5 @@
+pub mod RunsWritten
+pub mod Whole
+pub mod Grown
+pub mod Finish
+pub mod Counted

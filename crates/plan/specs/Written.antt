@@ -1,0 +1,43 @@
+-- A changed image in the order in which code writes it.
+use Prim.Native.Nat.{ℕ, _+_, _-_, _*_}
+use mathlib.Core.List.{List, [], _∷_}
+use lib.ListN.{length}
+use Rattle.spec.specs.Bytes.{write}
+use Rattle.spec.specs.Header.{format4}
+use Rattle.spec.specs.Entry.{Entry}
+use Rattle.spec.specs.Run.{Run, run-bytes}
+use Rattle.spec.specs.Index.{Element, element-bytes}
+use Rattle.spec.specs.Place.{first-headword, at-block, new-run}
+
+-- the index element of a part at block b
+unfoldable pub part-element : ℕ → List Entry → Element
+part-element b p = record { block = b; headword = first-headword p }
+
+-- Parts written at their places, counted from `start` on, and their elements from `at` on; the elements' numbers are g lower.
+unfoldable pub parts-written : ℕ → ℕ → ℕ → List ℕ → List (List Entry) → List ℕ → List ℕ
+parts-written start g at [] ps s = s
+parts-written start g at (b ∷ bs) [] s = s
+parts-written start g at (b ∷ bs) (p ∷ ps) s =
+    parts-written
+    start
+    g
+    (at + length (element-bytes format4 (part-element (b - g) p)))
+    bs
+    ps
+    (write at (element-bytes format4 (part-element (b - g) p)) (write (start + 256 * b) (run-bytes p) s))
+
+-- parts as runs at their places, numbered g lower
+unfoldable pub part-runs : ℕ → List ℕ → List (List Entry) → List Run
+part-runs g [] ps = []
+part-runs g (b ∷ bs) [] = []
+part-runs g (b ∷ bs) (p ∷ ps) = at-block (b - g) (new-run p) ∷ part-runs g bs ps
+
+-- runs written one after the other, the first one first
+unfoldable pub runs-put : List Run → List ℕ → List ℕ
+runs-put [] area = area
+runs-put (r ∷ rs) area = runs-put rs (write (256 * r .block) (r .bytes) area)
+
+-- names all definitions of this module: who unfolds it unfolds them
+unfoldable pub open-written : Unit {0}
+unfolding part-element parts-written part-runs runs-put
+open-written = tt
