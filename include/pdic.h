@@ -3,7 +3,13 @@
  * An image is the first `len` bytes of a lent slice. Nothing is allocated, nothing is kept between
  * calls, and each call tests the whole image before it answers: no byte of an answer comes from an
  * image that breaks a rule. A slice is a pointer and a length; it may be empty but not null, and no
- * two slices or lent numbers of a call may overlap. The calls write nothing but the outputs.
+ * two slices or lent numbers of a call may overlap. Check, look up and walk write nothing but their
+ * outputs. Create, insert, delete and optimise write the image and return its new length; bytes of
+ * the slice past the length keep their contents, but optimise zeroes what it gives up.
+ *
+ * Insert, delete and optimise also borrow a working slice, at least as long as the image slice. What
+ * it holds does not matter. It is all zero after the call, whatever the number returned, but 1 and 2
+ * leave it untouched.
  *
  * Every call returns one number:
  *
@@ -12,7 +18,8 @@
  *   1 to 99             refused: nothing is written, and the number says why. It is the first in
  *                       this order that applies:
  *
- *    1  `len` is under 256, no multiple of 256, or over the slice
+ *    1  `len` is under 256, no multiple of 256, or over the slice (create: the slice is under 256)
+ *    2  the working slice is shorter than the image slice
  *    3  header: high version byte, block_size, header_size or attrlen is wrong
  *    4  header: dicorder, dictype, os, index_blkbit or extheader is not 0
  *    5  header: index_block is over 32,767 or past `len`, or there are more than 65,536 data blocks
@@ -22,8 +29,13 @@
  *    9  a data block lies in two runs, in a run and on the free list, twice on the list or in
  *       neither; or the list leaves the data blocks or names a block that is not free
  *   10  nword or nblock2 does not count the entries or the blocks in runs
+ *   11  the version's low byte is over 15: the image may only be read
  *   12  the headword is empty (walk allows that), over 248 bytes long, or has a zero byte
+ *   13  the text is over 3,000 bytes long or has a zero byte, or the attribute has 0x80 clear or 0x10
+ *       set
  *   14  an output slice is too short for the answer (then none of the outputs is written)
+ *   15  the changed image would be longer than its slice, or have over 65,536 data blocks or over
+ *       32,767 index blocks
  *
  * These promises, and that the calls end and stay inside the lent memory whatever the bytes are,
  * are proved of the compiled program's source; docs/CLAIMS.md names each theorem.
@@ -72,6 +84,34 @@ uint32_t pdic_walk(const uint8_t *image, size_t image_size, size_t len,
                    const uint8_t *headword, size_t headword_size, uint8_t above,
                    uint8_t *headword_out, size_t headword_out_size, uint8_t *text, size_t text_size,
                    uint8_t *attribute, size_t *headword_len, size_t *text_len);
+
+/* Makes an empty image of 256 bytes at the start of the slice.
+ *
+ * Returns PDIC_DONE or 1. With PDIC_DONE *new_len is 256. */
+uint32_t pdic_create(uint8_t *image, size_t image_size, size_t *new_len);
+
+/* Adds an entry, or replaces the one with this headword. A plain entry's attribute is 0x80.
+ *
+ * Returns PDIC_DONE or 1 to 13, 15. With PDIC_DONE the image's length is *new_len; it never gets
+ * shorter. Any other number leaves image and *new_len as they were. */
+uint32_t pdic_insert(uint8_t *image, size_t image_size, size_t len, uint8_t *work, size_t work_size,
+                     const uint8_t *headword, size_t headword_size, uint8_t attribute,
+                     const uint8_t *text, size_t text_size, size_t *new_len);
+
+/* Removes the entry with this headword.
+ *
+ * Returns PDIC_DONE, PDIC_ABSENT, or 1 to 12, 15 (the index can grow where a run gets a longer first
+ * headword). With PDIC_DONE the image's length is *new_len; it never gets shorter, blocks no longer
+ * used are free. Any other number leaves image and *new_len as they were. */
+uint32_t pdic_delete(uint8_t *image, size_t image_size, size_t len, uint8_t *work, size_t work_size,
+                     const uint8_t *headword, size_t headword_size, size_t *new_len);
+
+/* Puts the runs in headword order without a free block, and the index at the size it needs.
+ *
+ * Returns PDIC_DONE or 1 to 11. With PDIC_DONE the image's length is *new_len, and the bytes from there
+ * to `len` are zero. Any other number leaves image and *new_len as they were. */
+uint32_t pdic_optimise(uint8_t *image, size_t image_size, size_t len, uint8_t *work, size_t work_size,
+                       size_t *new_len);
 
 #ifdef __cplusplus
 }

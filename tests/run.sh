@@ -1,6 +1,6 @@
 #!/bin/sh
-# Everything that is tested beside the proofs, on the proved engine: the C example, the list program, and the second
-# reader's comparison. Arguments: seed and number of images for the comparison.
+# Everything that is tested beside the proofs, on the proved engine: the C examples, the list program, and the second
+# reader's and editor's comparisons. Arguments: seed, number of images for the one and of histories for the other.
 set -eu
 cd "$(dirname "$0")/.."
 rt staticlib pdic
@@ -12,3 +12,4 @@ cargo build --release --offline --quiet
 cargo test --release --offline --quiet
 wrong/try.sh
 "$CARGO_TARGET_DIR/release/compare" "${1:-1}" "${2:-200000}" 900
+"$CARGO_TARGET_DIR/release/histories" "${1:-1}" "${3:-2500}" 900

@@ -2,14 +2,17 @@
 use Prim.Native.Nat.{ℕ}
 use mathlib.Core.Path.{_≡_}
 use mathlib.Core.List.{List}
+use mathlib.Core.Option.{Option}
 use Rattle.spec.specs.Outcome.{Outcome}
-use Rattle.spec.specs.Calls.{Figures, LookUpResult, WalkResult}
+use Rattle.spec.specs.Calls.{CreateResult, Figures, LookUpResult, WalkResult, ChangeResult}
 use Rattle.spec.specs.Answers as Answers
-use Rattle.spec.specs.Answers.{check-answer, look-up-answer, walk-answer}
+use Rattle.spec.specs.Answers.{length-answer, check-answer, look-up-answer, walk-answer, delete-answer}
+use Rattle.spec.specs.declared.LengthAnswer.{LengthAnswer}
 use Rattle.spec.specs.declared.CheckAnswer.{CheckAnswer}
 use Rattle.spec.specs.declared.LookUpAnswer.{LookUpAnswer}
 use Rattle.spec.specs.declared.WalkAnswer.{WalkAnswer}
-use Rattle.pdic.specs.Lent.{check-lent, look-up-lent, walk-lent}
+use Rattle.spec.specs.declared.DeleteAnswer.{DeleteAnswer}
+use Rattle.pdic.specs.Lent.{create-lent, check-lent, look-up-lent, walk-lent, change-lent, delete-lent}
 
 module _ (r : CheckAnswer) (o : Outcome Figures) (e : check-answer r ≡ o) (h₀ i₀ d₀ f₀ : ℕ) where
   -- a refusal returns its number alone
@@ -53,3 +56,41 @@ module _ (r : WalkAnswer) (h t : List ℕ) (o : WalkResult) (e : record { answer
   pub walk-found : (a m n : ℕ) → r ≡ WalkAnswer.Found a m n → record { returned = 0; headword = h; text = t; attribute = a; headword-length = m; text-length = n } ≡ walk-lent o a₀ m₀ n₀
   unfolding walk-lent Answers.walk-answer Answers.code-or-absent Answers.lent-number-or-absent
   walk-found a m n q = rw (← e, q)
+
+module _ (r : LengthAnswer) (s : List ℕ) (o : CreateResult) (e : record { answer = length-answer r; image = s } ≡ o) (n₀ : ℕ) where
+  -- a refusal's number
+  pub create-refused : (k : ℕ) → r ≡ LengthAnswer.Refused k → record { returned = k; image = s; new-length = n₀ } ≡ create-lent o n₀
+  unfolding create-lent Answers.length-answer Answers.code Answers.lent-number
+  create-refused k q = rw (← e, q)
+
+  -- done: 0 and the new length
+  pub create-done : (n : ℕ) → r ≡ LengthAnswer.Done n → record { returned = 0; image = s; new-length = n } ≡ create-lent o n₀
+  unfolding create-lent Answers.length-answer Answers.code Answers.lent-number
+  create-done n q = rw (← e, q)
+
+module _ (r : LengthAnswer) (s w : List ℕ) (o : ChangeResult ℕ) (e : record { answer = length-answer r; image = s; work = w } ≡ o) (n₀ : ℕ) where
+  -- a refusal's number
+  pub change-refused : (k : ℕ) → r ≡ LengthAnswer.Refused k → record { returned = k; image = s; work = w; new-length = n₀ } ≡ change-lent o n₀
+  unfolding change-lent Answers.length-answer Answers.code Answers.lent-number
+  change-refused k q = rw (← e, q)
+
+  -- done: 0 and the new length
+  pub change-done : (n : ℕ) → r ≡ LengthAnswer.Done n → record { returned = 0; image = s; work = w; new-length = n } ≡ change-lent o n₀
+  unfolding change-lent Answers.length-answer Answers.code Answers.lent-number
+  change-done n q = rw (← e, q)
+
+module _ (r : DeleteAnswer) (s w : List ℕ) (o : ChangeResult (Option ℕ)) (e : record { answer = delete-answer r; image = s; work = w } ≡ o) (n₀ : ℕ) where
+  -- a refusal's number
+  pub delete-refused : (k : ℕ) → r ≡ DeleteAnswer.Refused k → record { returned = k; image = s; work = w; new-length = n₀ } ≡ delete-lent o n₀
+  unfolding delete-lent Answers.delete-answer Answers.code-or-absent Answers.lent-number-or-absent
+  delete-refused k q = rw (← e, q)
+
+  -- absent: 100
+  pub delete-absent : r ≡ DeleteAnswer.Absent → record { returned = 100; image = s; work = w; new-length = n₀ } ≡ delete-lent o n₀
+  unfolding delete-lent Answers.delete-answer Answers.code-or-absent Answers.lent-number-or-absent
+  delete-absent q = rw (← e, q)
+
+  -- removed: 0 and the new length
+  pub delete-removed : (n : ℕ) → r ≡ DeleteAnswer.Removed n → record { returned = 0; image = s; work = w; new-length = n } ≡ delete-lent o n₀
+  unfolding delete-lent Answers.delete-answer Answers.code-or-absent Answers.lent-number-or-absent
+  delete-removed n q = rw (← e, q)

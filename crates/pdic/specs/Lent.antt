@@ -1,9 +1,20 @@
 -- The calls from C: the number returned, and what every slice and number lent for writing holds then.
 use Prim.Native.Nat.{ℕ}
 use mathlib.Core.List.{List}
+use mathlib.Core.Option.{Option}
 use Rattle.spec.specs.Outcome.{Outcome}
-use Rattle.spec.specs.Calls.{Figures, check, LookUpResult, WalkResult, walk}
+use Rattle.spec.specs.Calls.{CreateResult, Figures, LookUpResult, WalkResult, ChangeResult}
 use Rattle.spec.specs.Answers.{code, code-or-absent, lent-number, lent-number-or-absent}
+
+-- create from C
+pub record CreateLent : Type 0 where
+  pub returned : ℕ
+  pub image : List ℕ
+  pub new-length : ℕ
+
+-- by create's result and what the lent number held
+unfoldable pub create-lent : CreateResult → ℕ → CreateLent
+create-lent r n = record { returned = code (r .answer); image = r .image; new-length = lent-number (λ l. l) n (r .answer) }
 
 -- check from C
 pub record CheckLent : Type 0 where
@@ -62,7 +73,22 @@ walk-lent r a m n =
       text-length = lent-number-or-absent (λ f. f .text-length) n (r .answer);
     }
 
+-- insert, delete and optimise from C
+pub record ChangeLent : Type 0 where
+  pub returned : ℕ
+  pub image : List ℕ
+  pub work : List ℕ
+  pub new-length : ℕ
+
+-- by the result of insert or optimise and what the lent number held
+unfoldable pub change-lent : ChangeResult ℕ → ℕ → ChangeLent
+change-lent r n = record { returned = code (r .answer); image = r .image; work = r .work; new-length = lent-number (λ l. l) n (r .answer) }
+
+-- by delete's result and what the lent number held
+unfoldable pub delete-lent : ChangeResult (Option ℕ) → ℕ → ChangeLent
+delete-lent r n = record { returned = code-or-absent (r .answer); image = r .image; work = r .work; new-length = lent-number-or-absent (λ l. l) n (r .answer) }
+
 -- names all definitions of this module: who unfolds it unfolds them
 unfoldable pub open-lent : Unit {0}
-unfolding check-lent look-up-lent walk-lent
+unfolding create-lent check-lent look-up-lent walk-lent change-lent delete-lent
 open-lent = tt

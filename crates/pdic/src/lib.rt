@@ -2,14 +2,30 @@
 ghost use mathlib.Core.Path.{_≡_};
 ghost use mathlib.Core.Bool.{not};
 ghost use lib.Dec.{eqb};
-ghost use Rattle.spec.specs.Calls.{check, look-up, walk};
-ghost use Rattle.pdic.specs.Lent.{check-lent, look-up-lent, walk-lent};
+ghost use Rattle.spec.specs.Calls.{create, check, look-up, walk, insert, delete, optimise};
+ghost use Rattle.pdic.specs.Lent.{create-lent, check-lent, look-up-lent, walk-lent, change-lent, delete-lent};
 use spec::CheckAnswer;
+use spec::DeleteAnswer;
+use spec::LengthAnswer;
 use spec::LookUpAnswer;
 use spec::WalkAnswer;
 
 // What a call returns where there is no such entry.
 const ABSENT: u32 = 100;
+
+#[no_mangle]
+pub extern "C" fn pdic_create(image: &mut [u8], length: &mut usize) -> u32
+    ensures { λ r. ⌜ record { returned = r; image = now (image .exit); new-length = now (length .exit) } ≡ create-lent (create (now (image .entry))) (now (length .entry)) ⌝ }
+{
+    let r = editor::create(image);
+    match r {
+        LengthAnswer::Refused(k) => k,
+        LengthAnswer::Done(n) => {
+            *length = n;
+            0
+        }
+    }
+}
 
 #[no_mangle]
 pub extern "C" fn pdic_check(
@@ -79,6 +95,68 @@ pub extern "C" fn pdic_walk(
         WalkAnswer::Found(a, m, n) => {
             *attribute = a;
             *written = m;
+            *length = n;
+            0
+        }
+    }
+}
+
+#[no_mangle]
+pub extern "C" fn pdic_insert(
+    image: &mut [u8],
+    len: usize,
+    work: &mut [u8],
+    headword: &[u8],
+    attribute: u8,
+    text: &[u8],
+    length: &mut usize,
+) -> u32
+    ensures { λ r. ⌜ record { returned = r; image = now (image .exit); work = now (work .exit); new-length = now (length .exit) } ≡ change-lent (insert (now (image .entry)) len (now (work .entry)) (now (headword .entry)) attribute (now (text .entry))) (now (length .entry)) ⌝ }
+{
+    let r = editor::insert(image, len, work, headword, attribute, text);
+    match r {
+        LengthAnswer::Refused(k) => k,
+        LengthAnswer::Done(n) => {
+            *length = n;
+            0
+        }
+    }
+}
+
+#[no_mangle]
+pub extern "C" fn pdic_delete(
+    image: &mut [u8],
+    len: usize,
+    work: &mut [u8],
+    headword: &[u8],
+    length: &mut usize,
+) -> u32
+    ensures { λ r. ⌜ record { returned = r; image = now (image .exit); work = now (work .exit); new-length = now (length .exit) } ≡ delete-lent (delete (now (image .entry)) len (now (work .entry)) (now (headword .entry))) (now (length .entry)) ⌝ }
+{
+    let r = editor::delete(image, len, work, headword);
+    match r {
+        DeleteAnswer::Refused(k) => k,
+        DeleteAnswer::Absent => ABSENT,
+        DeleteAnswer::Removed(n) => {
+            *length = n;
+            0
+        }
+    }
+}
+
+#[no_mangle]
+pub extern "C" fn pdic_optimise(
+    image: &mut [u8],
+    len: usize,
+    work: &mut [u8],
+    length: &mut usize,
+) -> u32
+    ensures { λ r. ⌜ record { returned = r; image = now (image .exit); work = now (work .exit); new-length = now (length .exit) } ≡ change-lent (optimise (now (image .entry)) len (now (work .entry))) (now (length .entry)) ⌝ }
+{
+    let r = editor::optimise(image, len, work);
+    match r {
+        LengthAnswer::Refused(k) => k,
+        LengthAnswer::Done(n) => {
             *length = n;
             0
         }

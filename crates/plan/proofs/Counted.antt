@@ -1,16 +1,20 @@
 -- How many runs a plan has, and how many blocks they take.
-use Prim.Native.Nat.{ℕ, _+_, _-_, max}
+use Prim.Native.Nat.{ℕ, _+_, _-_, _*_, _≤_, max}
+use mathlib.Core.Bool.{not}
 use mathlib.Core.Path.{_≡_, refl, sym, ap, ap₂, _∙_}
 use mathlib.Core.List.{List, [], _∷_, _++_, map}
 use native.Mathlib.Omega.{arith}
 use lib.ListN.{length, length-append, length-map}
-use Rattle.spec.specs.Header.{Format}
+use Rattle.spec.specs.Lists.{filter}
+use Rattle.spec.specs.Header.{Format, format4}
 use Rattle.spec.specs.Entry.{Entry}
 use Rattle.spec.specs.Run.{Run}
 use Rattle.spec.specs.Index.{index-need}
 use Rattle.spec.specs.Blocks.{place-for, run-blocks}
-use Rattle.spec.specs.Check.{Image}
-use Rattle.spec.specs.Place.{Target, Placed, Move, Grown, target-run, cut, new-run, at-block, with-run, place, element-of, renumbered, grown, plan-change}
+use Rattle.spec.specs.Check.{Image, data-start, frame-length}
+use Rattle.spec.specs.Place.{Target, Placed, Move, Grown, target-run, cut, new-run, at-block, with-run, place, element-of, in-number-order, touches, renumbered, grown, plan-change}
+use Rattle.spec.specs.Calls.{plan-length}
+use Rattle.placing.proofs.SpreadLaws.{place-grows}
 
 -- the blocks of two lists of runs
 pub blocks-joined : (x y : List Run) → run-blocks (x ++ y) ≡ run-blocks x + run-blocks y
@@ -73,3 +77,19 @@ change-blocks F i h f =
     let p : Placed = place 0 (m .data-blocks) (m .before ++ m .after) ps in
     let (a, b) = grown-blocks g (i .frame .data-blocks) (c .before) (c .after) in
     omega (arith, blocks-joined (m .before ++ p .runs) (m .after), blocks-joined (m .before) (p .runs), blocks-joined (c .before) (c .after), a, b, place-blocks 0 (m .data-blocks) (m .before ++ m .after) ps)
+
+-- the growing index and the displaced runs take no block from the end
+grown-blocks-kept : (g D : ℕ) (before after : List Run) → D ≤ g + grown g D before after .data-blocks
+unfolding grown
+grown-blocks-kept g D before after =
+    omega (arith, place-grows g (max D g) (filter (λ r. not (touches g r)) (before ++ after)) (in-number-order (filter (touches g) (before ++ after))))
+
+-- an insertion or a deletion never shortens the image
+pub change-longer : (i : Image) (h : List ℕ) (f : List Entry → List Entry) → 256 + 256 * i .frame .index-blocks + 256 * i .frame .data-blocks ≤ plan-length (plan-change format4 i h f)
+unfolding plan-change plan-length frame-length data-start format4
+change-longer i h f =
+    let c : Target = target-run format4 h (i .runs) in
+    let ps : List Run = map new-run (cut 1_024 (f (c .entries))) in
+    let g : ℕ = index-need format4 (map element-of (c .before ++ ps ++ c .after)) - i .frame .index-blocks in
+    let m : Grown = grown g (i .frame .data-blocks) (c .before) (c .after) in
+    omega (arith, grown-blocks-kept g (i .frame .data-blocks) (c .before) (c .after), place-grows 0 (m .data-blocks) (m .before ++ m .after) ps)

@@ -43,10 +43,11 @@ pub fn find_run(index: &[u8], n: usize, area: &[u8], d: usize, h: &[u8]) -> Targ
     }
     let p = index::concerned(index, n, h);
     let after = p.left - 1;
+    let next = element_end(index, p.at) + 1;
     let b = read_u16(index, p.at);
     Target {
         at: p.at,
-        end: element_end(index, p.at) + 1,
+        end: next,
         before: n - p.left,
         after: after,
         block: b,

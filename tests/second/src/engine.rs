@@ -39,6 +39,38 @@ extern "C" {
         headword_len: *mut usize,
         text_len: *mut usize,
     ) -> u32;
+    fn pdic_create(image: *mut u8, image_size: usize, new_len: *mut usize) -> u32;
+    fn pdic_insert(
+        image: *mut u8,
+        image_size: usize,
+        len: usize,
+        work: *mut u8,
+        work_size: usize,
+        headword: *const u8,
+        headword_size: usize,
+        attribute: u8,
+        text: *const u8,
+        text_size: usize,
+        new_len: *mut usize,
+    ) -> u32;
+    fn pdic_delete(
+        image: *mut u8,
+        image_size: usize,
+        len: usize,
+        work: *mut u8,
+        work_size: usize,
+        headword: *const u8,
+        headword_size: usize,
+        new_len: *mut usize,
+    ) -> u32;
+    fn pdic_optimise(
+        image: *mut u8,
+        image_size: usize,
+        len: usize,
+        work: *mut u8,
+        work_size: usize,
+        new_len: *mut usize,
+    ) -> u32;
 }
 
 /// A slice to lend: its bytes stand between guard bytes in one larger buffer. Two lent
@@ -74,6 +106,10 @@ impl Lent {
 
     pub fn contents(&self) -> &[u8] {
         &self.buffer[self.start..self.start + self.size]
+    }
+
+    pub fn contents_mut(&mut self) -> &mut [u8] {
+        &mut self.buffer[self.start..self.start + self.size]
     }
 
     /// Writes an answer at the start of the slice; the bytes past it keep their contents.
@@ -174,6 +210,71 @@ pub fn walk(
             attribute.pointer(),
             lengths.add(3),
             lengths.add(1),
+        )
+    }
+}
+
+/// The new L is lent at place 1 of `lengths`, here and below.
+pub fn create(image: &mut Lent, lengths: &mut LengthCells) -> u32 {
+    unsafe { pdic_create(image.pointer(), image.size, lengths.as_mut_ptr().add(1)) }
+}
+
+pub fn insert(
+    image: &mut Lent,
+    len: usize,
+    work: &mut Lent,
+    headword: &mut Lent,
+    attribute: u8,
+    text: &mut Lent,
+    lengths: &mut LengthCells,
+) -> u32 {
+    unsafe {
+        pdic_insert(
+            image.pointer(),
+            image.size,
+            len,
+            work.pointer(),
+            work.size,
+            headword.pointer(),
+            headword.size,
+            attribute,
+            text.pointer(),
+            text.size,
+            lengths.as_mut_ptr().add(1),
+        )
+    }
+}
+
+pub fn delete(
+    image: &mut Lent,
+    len: usize,
+    work: &mut Lent,
+    headword: &mut Lent,
+    lengths: &mut LengthCells,
+) -> u32 {
+    unsafe {
+        pdic_delete(
+            image.pointer(),
+            image.size,
+            len,
+            work.pointer(),
+            work.size,
+            headword.pointer(),
+            headword.size,
+            lengths.as_mut_ptr().add(1),
+        )
+    }
+}
+
+pub fn optimise(image: &mut Lent, len: usize, work: &mut Lent, lengths: &mut LengthCells) -> u32 {
+    unsafe {
+        pdic_optimise(
+            image.pointer(),
+            image.size,
+            len,
+            work.pointer(),
+            work.size,
+            lengths.as_mut_ptr().add(1),
         )
     }
 }

@@ -522,7 +522,7 @@ fn entries(random: &mut Random, number: usize, budget: usize, high: bool) -> Vec
     list
 }
 
-fn plain(runs: Vec<Wanted>) -> Sketch {
+pub fn plain(runs: Vec<Wanted>) -> Sketch {
     Sketch {
         header: empty_header(),
         runs,

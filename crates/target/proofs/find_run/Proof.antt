@@ -14,21 +14,21 @@ concerned-requires c κs = search run-laws
 sub-after : tie.Need-sub-after
 sub-after c = search run-laws
 
--- src/lib.rt:46:9
-read-u16-requires : tie.Need-read-u16-requires
-read-u16-requires c κs = search run-laws
-
 -- src/lib.rt:49:14
 element-end-requires : tie.Need-element-end-requires
 element-end-requires c κs = search run-laws
 
 -- src/lib.rt:49:14
-add-t11 : tie.Need-add-t11
-add-t11 c = search run-laws
+add-next : tie.Need-add-next
+add-next c = search run-laws
+
+-- src/lib.rt:46:9
+read-u16-requires : tie.Need-read-u16-requires
+read-u16-requires c κs = search run-laws
 
 -- src/lib.rt:50:17
-sub-t12 : tie.Need-sub-t12
-sub-t12 c = search run-laws
+sub-t11 : tie.Need-sub-t11
+sub-t11 c = search run-laws
 
 -- src/lib.rt:53:15
 run-size-requires : tie.Need-run-size-requires
@@ -45,9 +45,9 @@ find-run-spec =
     returns
     concerned-requires
     sub-after
-    read-u16-requires
     element-end-requires
-    add-t11
-    sub-t12
+    add-next
+    read-u16-requires
+    sub-t11
     run-size-requires
     returns-2)

@@ -8,25 +8,17 @@
 //! difference, if a number that must be seen was not (not asked where FIRST is given), or if
 //! images were left over.
 
+use second::both::{Both, Differs};
 use second::calls::{self, Answer, Read, ABSENT};
 use second::cases::{case, Case, Expected};
 use second::damage::DAMAGES;
-use second::engine::{self, Lent};
+use second::drive::{self, drive, Found, Plan};
 use second::make::KINDS;
 use second::random::Random;
-use second::reader::{read, BLOCK, MOST_HEADWORD, MOST_TEXT};
-use std::fmt::Write;
-use std::sync::atomic::{AtomicU64, Ordering};
-use std::sync::Mutex;
-use std::time::{Duration, Instant};
+use second::reader::{read, MOST_HEADWORD, MOST_TEXT};
+use second::words::{bad, lengths_to_try, near};
 
-const THREADS: usize = 2;
-/// An image that takes longer counts as one on which a call does not return.
-const PATIENCE: u64 = 120;
-/// Images up to this size are printed in a report, larger ones are stored in a file.
-const PRINTED: usize = 4_096;
-
-/// The calls compared. Calls that change an image are added here, and to MUST.
+/// The calls compared; those that change an image are compared by `histories`.
 const CALLS: [&str; 3] = ["check", "look up", "walk"];
 const CHECK: usize = 0;
 const LOOK_UP: usize = 1;
@@ -67,7 +59,7 @@ struct Tally {
     most_blocks: usize,
 }
 
-impl Tally {
+impl drive::Tally for Tally {
     fn new() -> Tally {
         Tally {
             images: 0,
@@ -106,73 +98,21 @@ impl Tally {
 
 /// One image under comparison.
 struct Bench<'a> {
-    image: Lent,
-    before: Lent,
+    both: Both,
     random: Random,
     kind: usize,
     tally: &'a mut Tally,
 }
 
-/// A difference in words.
-type Differs = String;
-
-fn same(what: &str, ours: &Lent, engine: &Lent) -> Result<(), Differs> {
-    match ours.first_difference(engine) {
-        None => Ok(()),
-        Some((place, right, wrong)) => Err(format!(
-            "{} of {} bytes: byte {} is {:#04x} instead of {:#04x}",
-            what,
-            ours.size(),
-            place,
-            wrong,
-            right
-        )),
-    }
-}
-
 impl Bench<'_> {
-    fn lend(&mut self, contents: &[u8]) -> Lent {
-        let (pattern, shift) = (self.random.byte(), self.random.below(16));
-        Lent::new(contents, pattern, shift)
-    }
-
-    fn lend_output(&mut self, size: usize) -> Lent {
-        let (content, pattern) = (self.random.byte(), self.random.byte());
-        Lent::filled(size, content, pattern, self.random.below(16))
-    }
-
-    fn lengths(&mut self) -> [usize; 5] {
-        [(); 5].map(|_| self.random.next() as usize)
-    }
-
-    /// The number and the image, which every call compares.
-    fn compare(&mut self, call: usize, ours: u32, engine: u32) -> Result<(), Differs> {
+    fn count(&mut self, call: usize, number: u32) {
         self.tally.calls += 1;
-        self.tally.seen[self.kind][call][answer_place(ours)] += 1;
-        if engine != ours {
-            return Err(format!("answers {} instead of {}", engine, ours));
-        }
-        same("image slice", &self.before, &self.image)
+        self.tally.seen[self.kind][call][answer_place(number)] += 1;
     }
 
     fn check(&mut self, read: &Read, len: usize) -> Result<(), Differs> {
-        let mut cells = [(); 9].map(|_| self.random.next());
-        let mut expected = cells;
-        let answer = calls::check(read);
-        if let Answer::Done(counts) = answer {
-            expected[1] = counts.headwords;
-            expected[3] = counts.index_blocks;
-            expected[5] = counts.data_blocks;
-            expected[7] = counts.free_blocks;
-        }
-        let number = engine::check(&mut self.image, len, &mut cells);
-        let story = |differs| format!("check, L {}: {}", len, differs);
-        self.compare(CHECK, answer.number(), number)
-            .map_err(story)?;
-        if cells != expected {
-            let differs = format!("numbers {:?} instead of {:?}", cells, expected);
-            return Err(story(differs));
-        }
+        let number = self.both.check(read, len)?;
+        self.count(CHECK, number);
         Ok(())
     }
 
@@ -183,43 +123,9 @@ impl Bench<'_> {
         word: &[u8],
         text_size: usize,
     ) -> Result<(), Differs> {
-        let mut headword = self.lend(word);
-        let mut text = self.lend_output(text_size);
-        let mut attribute = self.lend_output(1);
-        let mut lengths = self.lengths();
-        let headword_before = headword.clone();
-        let mut text_expected = text.clone();
-        let mut attribute_expected = attribute.clone();
-        let mut lengths_expected = lengths;
-        let answer = calls::look_up(read, word, text_size);
-        if let Answer::Done(entry) = answer {
-            text_expected.put(&entry.text);
-            attribute_expected.put(&[entry.attribute]);
-            lengths_expected[1] = entry.text.len();
-        }
-        let number = engine::look_up(
-            &mut self.image,
-            len,
-            &mut headword,
-            &mut text,
-            &mut attribute,
-            &mut lengths,
-        );
-        let differs = self
-            .compare(LOOK_UP, answer.number(), number)
-            .and(same("headword slice", &headword_before, &headword))
-            .and(same("text slice", &text_expected, &text))
-            .and(same("attribute", &attribute_expected, &attribute))
-            .and(same_lengths(&lengths_expected, &lengths));
-        differs.map_err(|differs| {
-            format!(
-                "look up, L {}, headword {}, text slice {}: {}",
-                len,
-                hex(word),
-                text_size,
-                differs
-            )
-        })
+        let number = self.both.look_up(read, len, word, text_size)?;
+        self.count(LOOK_UP, number);
+        Ok(())
     }
 
     fn walk(
@@ -230,53 +136,9 @@ impl Bench<'_> {
         above: u8,
         sizes: (usize, usize),
     ) -> Result<(), Differs> {
-        let mut headword = self.lend(word);
-        let mut headword_out = self.lend_output(sizes.0);
-        let mut text = self.lend_output(sizes.1);
-        let mut attribute = self.lend_output(1);
-        let mut lengths = self.lengths();
-        let headword_before = headword.clone();
-        let mut headword_expected = headword_out.clone();
-        let mut text_expected = text.clone();
-        let mut attribute_expected = attribute.clone();
-        let mut lengths_expected = lengths;
-        // "above: 0 means not below, anything else above".
-        let answer = calls::walk(read, word, above != 0, sizes.0, sizes.1);
-        if let Answer::Done(entry) = answer {
-            headword_expected.put(&entry.headword);
-            text_expected.put(&entry.text);
-            attribute_expected.put(&[entry.attribute]);
-            lengths_expected[1] = entry.text.len();
-            lengths_expected[3] = entry.headword.len();
-        }
-        let number = engine::walk(
-            &mut self.image,
-            len,
-            &mut headword,
-            above,
-            &mut headword_out,
-            &mut text,
-            &mut attribute,
-            &mut lengths,
-        );
-        let differs = self
-            .compare(WALK, answer.number(), number)
-            .and(same("headword slice", &headword_before, &headword))
-            .and(same("headword output", &headword_expected, &headword_out))
-            .and(same("text slice", &text_expected, &text))
-            .and(same("attribute", &attribute_expected, &attribute))
-            .and(same_lengths(&lengths_expected, &lengths));
-        differs.map_err(|differs| {
-            format!(
-                "walk, L {}, headword {}, above {}, output slices {} and {}: {}",
-                len,
-                hex(word),
-                above,
-                sizes.0,
-                sizes.1,
-                differs
-            )
-        })
+        let number = self.both.walk(read, len, word, above, sizes)?;
+        self.count(WALK, number);
+        Ok(())
     }
 
     /// Look up with the text slice long enough, exact, one byte short, empty.
@@ -334,95 +196,6 @@ impl Bench<'_> {
     }
 }
 
-fn same_lengths(ours: &[usize; 5], engine: &[usize; 5]) -> Result<(), Differs> {
-    if ours == engine {
-        return Ok(());
-    }
-    Err(format!("lengths {:?} instead of {:?}", engine, ours))
-}
-
-/// Every L around 0, 256, the image's and the slice's length, and far ones.
-fn lengths_to_try(slice: usize, len: usize) -> Vec<usize> {
-    let mut list = vec![0, 1, 2, 128, 255, 256, 257, 258, 511, 512, 513];
-    for near in [len, slice, slice / BLOCK * BLOCK] {
-        for far in [0, 1, 2, 255, 256, 257, 512] {
-            list.push(near + far);
-            list.push(near.wrapping_sub(far));
-        }
-    }
-    list.extend([
-        len + (1 << 16),
-        len + (1 << 32),
-        (1 << 32) + 256,
-        1 << 63,
-        usize::MAX,
-        usize::MAX - 255,
-        usize::MAX - 511,
-    ]);
-    list.sort();
-    list.dedup();
-    list
-}
-
-/// Headwords that are near those of the image, mostly absent.
-fn near(random: &mut Random, words: &[Vec<u8>]) -> Vec<u8> {
-    let mut word = match words.len() {
-        0 => vec![random.byte().max(1)],
-        _ => random.pick(words).clone(),
-    };
-    match random.below(8) {
-        // A prefix.
-        0 => word.truncate(random.range(1, word.len().max(1))),
-        // Continuations.
-        1 if word.len() < MOST_HEADWORD => word.push(1),
-        2 if word.len() < MOST_HEADWORD => word.push(random.byte().max(1)),
-        3 => {
-            let size = random.range(word.len(), MOST_HEADWORD.max(word.len()));
-            word.resize(size, 0xFF);
-        }
-        // Neighbours.
-        4 => {
-            if let Some(last) = word.last_mut() {
-                *last = last.wrapping_add(1).max(1);
-            }
-        }
-        5 => {
-            if let Some(last) = word.last_mut() {
-                *last = last.wrapping_sub(1).max(1);
-            }
-        }
-        // Below and above all.
-        6 => word = vec![1],
-        _ => word = vec![0xFF; random.range(1, MOST_HEADWORD)],
-    }
-    word
-}
-
-/// Headwords outside their rule; for walk the empty one is good.
-fn bad(random: &mut Random, words: &[Vec<u8>]) -> Vec<u8> {
-    let mut word = match words.len() {
-        0 => vec![b'A'],
-        _ => random.pick(words).clone(),
-    };
-    let size = word.len();
-    match random.below(9) {
-        0 => word.clear(),
-        1 => word.resize(MOST_HEADWORD + 1, b'A'),
-        2 => word.resize(*random.pick(&[250, 255, 256, 257, 300]), b'A'),
-        // Its length is a present one's if only the low byte or two are looked at.
-        3 => word.resize(256 + size, b'A'),
-        4 => word.resize(65_536 + size, b'A'),
-        5 => word.push(0),
-        6 => word.insert(random.range(0, size), 0),
-        7 => word = vec![0; random.range(1, 249)],
-        _ => {
-            word.resize(MOST_HEADWORD, b'A');
-            word[MOST_HEADWORD - 1] = 0;
-        }
-    }
-    word
-}
-
 /// All calls on one image.
 fn compare_case(case: Case, tally: &mut Tally) -> Result<(), Differs> {
     let Case {
@@ -469,11 +242,8 @@ fn compare_case(case: Case, tally: &mut Tally) -> Result<(), Differs> {
         tally.most_blocks = tally.most_blocks.max(image.data_blocks);
     }
 
-    let (pattern, shift) = (random.byte(), random.below(16));
-    let image = Lent::new(&slice, pattern, shift);
     let mut bench = Bench {
-        before: image.clone(),
-        image,
+        both: Both::new(&slice, Random::of(random.next(), 1)),
         random: Random::of(random.next(), 0),
         kind,
         tally,
@@ -555,146 +325,31 @@ fn compare_case(case: Case, tally: &mut Tally) -> Result<(), Differs> {
     Ok(())
 }
 
-fn hex(bytes: &[u8]) -> String {
-    let mut line = String::new();
-    for byte in bytes.iter().take(600) {
-        let _ = write!(line, "{:02x}", byte);
-    }
-    match bytes.len() {
-        0 => "(empty)".to_string(),
-        0..=600 => line,
-        size => format!("{}... ({} bytes)", line, size),
-    }
-}
-
-/// The numbers of the images under comparison, for a report when a call does not return.
-static CURRENT: [AtomicU64; THREADS] = [const { AtomicU64::new(NO_IMAGE) }; THREADS];
-const NO_IMAGE: u64 = u64::MAX;
-
-extern "C" {
-    fn signal(number: i32, handler: extern "C" fn(i32)) -> usize;
-    fn _exit(status: i32) -> !;
-}
-
-extern "C" fn ended(number: i32) {
-    eprintln!("signal {} at one of the images {:?}", number, under_way());
-    unsafe { _exit(1) }
-}
-
-fn under_way() -> Vec<u64> {
-    CURRENT
-        .iter()
-        .map(|current| current.load(Ordering::Relaxed))
-        .filter(|current| *current != NO_IMAGE)
-        .collect()
-}
-
-struct Found {
-    number: u64,
-    differs: Differs,
-}
-
-fn report(seed: u64, found: &Found) {
-    let case = case(seed, found.number);
-    println!("DIFFERENCE: seed {}, image {}", seed, found.number);
+fn report(plan: &Plan, found: &Found) {
+    let case = case(plan.seed, found.number);
+    println!("DIFFERENCE: seed {}, image {}", plan.seed, found.number);
     println!("  kind: {}", KINDS[case.kind].1);
     println!("  image: {}", case.story);
     println!("  L {}, slice of {} bytes", case.len, case.slice.len());
     println!("  {}", found.differs);
-    println!("  again: compare {} 1 60 {}", seed, found.number);
-    if case.slice.len() <= PRINTED {
-        for (i, line) in case.slice.chunks(32).enumerate() {
-            println!("  {:6} {}", 32 * i, hex(line));
-        }
-    } else {
-        let file = std::env::temp_dir().join(format!("image-{}-{}.bin", seed, found.number));
-        match std::fs::write(&file, &case.slice) {
-            Ok(()) => println!("  the slice is stored in {}", file.display()),
-            Err(error) => println!("  the slice could not be stored: {}", error),
-        }
-    }
-}
-
-fn argument(place: usize, otherwise: u64) -> u64 {
-    match std::env::args().nth(place) {
-        None => otherwise,
-        Some(word) => word.replace('_', "").parse().unwrap_or_else(|_| {
-            eprintln!("compare [SEED] [IMAGES] [SECONDS] [FIRST]");
-            std::process::exit(2)
-        }),
-    }
+    println!("  {}", plan.again(found.number));
+    drive::print_slice(plan, found.number, &case.slice);
 }
 
 fn main() {
-    let seed = argument(1, 1);
-    let images = argument(2, 200_000);
-    let seconds = argument(3, 600);
-    let first = argument(4, 0);
-    let whole = std::env::args().len() <= 4;
-    let start = Instant::now();
-    for number in [4, 6, 7, 8, 11] {
-        unsafe { signal(number, ended) };
-    }
-    let hook = std::panic::take_hook();
-    std::panic::set_hook(Box::new(move |panic| {
-        hook(panic);
-        eprintln!("panic at one of the images {:?}", under_way());
-        std::process::exit(1);
-    }));
-
-    let next = AtomicU64::new(first);
-    // Images from here on need not be compared.
-    let end = AtomicU64::new(first + images);
-    let found: Mutex<Option<Found>> = Mutex::new(None);
-    let total = Mutex::new(Tally::new());
-    let running = AtomicU64::new(THREADS as u64);
-    let late = AtomicU64::new(0);
-    std::thread::scope(|scope| {
-        for current in &CURRENT {
-            let (next, end, found, total) = (&next, &end, &found, &total);
-            let (running, late) = (&running, &late);
-            scope.spawn(move || {
-                let mut tally = Tally::new();
-                loop {
-                    let number = next.fetch_add(1, Ordering::SeqCst);
-                    if number >= end.load(Ordering::SeqCst) {
-                        break;
-                    }
-                    if start.elapsed().as_secs() >= seconds {
-                        late.store(1, Ordering::SeqCst);
-                        break;
-                    }
-                    current.store(number, Ordering::Relaxed);
-                    if let Err(differs) = compare_case(case(seed, number), &mut tally) {
-                        // Images below this one are still compared, so that the first
-                        // difference does not depend on the threads.
-                        end.fetch_min(number, Ordering::SeqCst);
-                        let mut found = found.lock().expect("no thread panics with it");
-                        if found.as_ref().map_or(true, |found| number < found.number) {
-                            *found = Some(Found { number, differs });
-                        }
-                    }
-                }
-                current.store(NO_IMAGE, Ordering::Relaxed);
-                total.lock().expect("no thread panics with it").add(&tally);
-                running.fetch_sub(1, Ordering::SeqCst);
-            });
-        }
-        watch(seed, &running);
-    });
-    let total = total.into_inner().expect("no thread panics with it");
-    let found = found.into_inner().expect("no thread panics with it");
-    let elapsed = start.elapsed().as_secs_f64();
-
-    print_tables(&total);
+    let plan = Plan::read("compare", "image", 200_000);
+    let one = |number, tally: &mut Tally| compare_case(case(plan.seed, number), tally);
+    let outcome = drive(&plan, one, |found| report(&plan, found));
+    let total = &outcome.total;
+    print_tables(total);
     println!(
         "seed {}, images {} to {}: {} compared in {:.1} s, {:.0} a second, {} MB",
-        seed,
-        first,
-        first + images,
+        plan.seed,
+        plan.first,
+        plan.first + plan.cases,
         total.images,
-        elapsed,
-        total.images as f64 / elapsed,
+        outcome.elapsed,
+        total.images as f64 / outcome.elapsed,
         total.bytes >> 20
     );
     println!(
@@ -702,45 +357,27 @@ fn main() {
         total.longest_run, total.most_blocks
     );
     let mut wrong = false;
-    if let Some(found) = &found {
-        report(seed, found);
+    if let Some(found) = &outcome.found {
+        report(&plan, found);
         wrong = true;
     }
-    if late.load(Ordering::SeqCst) == 1 {
-        println!("the limit of {} s was reached", seconds);
+    if outcome.late {
+        println!("the limit of {} s was reached", plan.seconds);
     }
-    if total.images < images {
-        println!("{} images wanted, {} compared", images, total.images);
+    if total.images < plan.cases {
+        println!("{} images wanted, {} compared", plan.cases, total.images);
         wrong = true;
     }
-    if found.is_none() && whole && missing(&total) {
+    if outcome.found.is_none() && plan.whole && missing(total) {
         wrong = true;
     }
     println!(
         "{} images, {} calls compared, {} differences",
         total.images,
         total.calls,
-        found.is_some() as u32
+        outcome.found.is_some() as u32
     );
     std::process::exit(wrong as i32);
-}
-
-/// Waits for the threads; reports an image that takes too long and ends the program.
-fn watch(seed: u64, running: &AtomicU64) {
-    let mut since: Vec<(u64, Instant)> = vec![(NO_IMAGE, Instant::now()); THREADS];
-    while running.load(Ordering::SeqCst) > 0 {
-        std::thread::sleep(Duration::from_millis(20));
-        for (current, since) in CURRENT.iter().zip(&mut since) {
-            let number = current.load(Ordering::Relaxed);
-            if number != since.0 {
-                *since = (number, Instant::now());
-            } else if number != NO_IMAGE && since.1.elapsed().as_secs() >= PATIENCE {
-                let differs = format!("no return within {} s", PATIENCE);
-                report(seed, &Found { number, differs });
-                std::process::exit(1);
-            }
-        }
-    }
 }
 
 /// Prints what must have been seen and was not.

@@ -1,0 +1,69 @@
+-- The steps of a change as code takes them.
+use Prim.Native.Nat.{ℕ, suc, _+_, _-_, _*_, _/_, _≤_, _<_, max}
+use mathlib.Core.Path.{_≡_, sym, ap, ap₂, _∙_}
+use mathlib.Core.Bool.{Bool}
+use mathlib.Core.List.{List, [], _∷_, _++_, map, append-assoc, append-nil}
+use native.Mathlib.Omega.{arith}
+use lib.ListN.{length, getD, set, take, drop, drop-of-length-le}
+use lib.Seq.{take-suc-set, take-all, drop-cons}
+use borrow.Author.Tests.{eq-eqb, ne-eqb}
+use Rattle.spec.specs.Bytes.{blocks-for}
+use Rattle.spec.specs.Header.{layout4, changed-header}
+use Rattle.spec.specs.Blocks.{free-list-start, free-list-written}
+use Rattle.index.specs.Elements.{elements-at}
+use Rattle.placing.specs.Spread.{spread, Within}
+use Rattle.moves.specs.Moved.{noted, starts, size-at, freed, tabled}
+use Rattle.target.specs.declared.Target.{Target}
+use Rattle.change.specs.Ready.{growth, Displaced, Sealed}
+use Rattle.change.specs.declared.Outline.{Outline}
+use Rattle.change.proofs.Laws.{lent-rest}
+
+-- ---- growth
+pub growth-none : (n k b : ℕ) → k ≡ 0 → 0 ≡ growth n k b
+unfolding growth
+growth-none n k b h = sym (rw (eq-eqb k 0 h, growth))
+
+pub growth-still : (n k b x : ℕ) → (k ≡ 0 → ⊥) → x ≡ (b + 259) / 256 → x ≤ n → 0 ≡ growth n k b
+unfolding growth blocks-for
+growth-still n k b x h e p = sym (rw (ne-eqb k 0 h, growth) (omega arith))
+
+pub growth-more : (n k b x : ℕ) → (k ≡ 0 → ⊥) → x ≡ (b + 259) / 256 → n < x → x - n ≡ growth n k b
+unfolding growth blocks-for
+growth-more n k b x h e p = sym (rw (ne-eqb k 0 h, growth) (omega arith))
+
+-- ---- displace
+pub displaced : (index area : List ℕ) (d g : ℕ) (t : Target) (T T₁ T₂ T₃ : List ℕ) (ms ms₁ ms₂ : List Bool) (top end : ℕ)
+    → T₁ ≡ noted g (map (λ e. e .block) (elements-at index 0 (t .before))) T
+    → T₂ ≡ noted g (map (λ e. e .block) (elements-at index (t .end) (t .after))) T₁
+    → ms₁ ≡ freed area d (starts 0 g T₂) ms
+    → top ≡ max d g
+    → Within (65_536 + g) (spread g top ms₁ (map (size-at area d) (starts 0 g T₂))) end ms₂
+    → (end ≤ 65_536 + g → T₃ ≡ tabled (starts 0 g T₂) (spread g top ms₁ (map (size-at area d) (starts 0 g T₂)) .places) T₂)
+    → Displaced index area d g t T ms end T₃ ms₂
+displaced index area d g t T T₁ T₂ T₃ ms ms₁ ms₂ top end e₁ e₂ e₃ e₄ w k T₀ m₁ f₁ f₂ =
+    let a : T₀ ≡ T₂ = f₁ ∙ sym (e₂ ∙ ap (noted g (map (λ e. e .block) (elements-at index (t .end) (t .after)))) e₁) in
+    let b : m₁ ≡ ms₁ = f₂ ∙ ap (λ (x : List ℕ). freed area d (starts 0 g x) ms) a ∙ sym e₃ in
+    rw (a, b, ← e₄) (w, k)
+
+-- ---- copy_marks: what is copied, then what is left, is all
+pub marks-turn : (dst src : List ℕ) (i : ℕ) → take i dst ++ drop i src ≡ src → i < length src → length dst ≡ length src → take (i + 1) (set dst i (getD src i 0)) ++ drop (i + 1) src ≡ src
+marks-turn dst src i e h l =
+    let s : i + 1 ≡ suc i = omega arith in
+    rw (s, take-suc-set dst i (getD src i 0) (omega arith))
+    (append-assoc (take i dst) (getD src i 0 ∷ []) (drop (suc i) src) ∙ ap (λ (x : List ℕ). take i dst ++ x) (sym (drop-cons src i 0 h)) ∙ e)
+
+pub marks-end : (dst src : List ℕ) (i : ℕ) → take i dst ++ drop i src ≡ src → length src ≤ i → length dst ≡ length src → dst ≡ src
+marks-end dst src i e h l =
+    sym (append-nil dst)
+    ∙ ap₂ (λ (x y : List ℕ). x ++ y) (sym (take-all i dst (omega arith))) (sym (drop-of-length-le src {i = i} h))
+    ∙ e
+
+-- ---- write_rest
+pub rest-sealed : (s s′ x bs : List ℕ) (front : ℕ) (v : Outline) (first : ℕ) → x ≡ free-list-written bs (take (length s - front) (drop front s)) → first ≡ free-list-start bs
+    → s′ ≡ changed-header layout4 (record { index-blocks = v .n + v .g; entries = v .words; first-free = first; elements = v .elements; run-blocks = v .blocks }) (take front s ++ (x ++ drop (length s - front) (drop front s)))
+    → Sealed s s′ front v bs
+rest-sealed s s′ x bs front v first ex ef e =
+    e
+    ∙ ap (λ (k : ℕ). changed-header layout4 (record { index-blocks = v .n + v .g; entries = v .words; first-free = k; elements = v .elements; run-blocks = v .blocks }) (take front s ++ (x ++ drop (length s - front) (drop front s)))) ef
+    ∙ ap (λ (y : List ℕ). changed-header layout4 (record { index-blocks = v .n + v .g; entries = v .words; first-free = free-list-start bs; elements = v .elements; run-blocks = v .blocks }) (take front s ++ (y ++ drop (length s - front) (drop front s)))) ex
+    ∙ ap (λ (y : List ℕ). changed-header layout4 (record { index-blocks = v .n + v .g; entries = v .words; first-free = free-list-start bs; elements = v .elements; run-blocks = v .blocks }) (take front s ++ y)) (lent-rest front s (free-list-written bs))

@@ -1,0 +1,5 @@
+pub mod Laws
+pub mod ReadyLaws
+pub mod CodeLaws
+pub mod AreasLaws
+pub mod FinishLaws

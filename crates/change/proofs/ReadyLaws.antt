@@ -1,0 +1,320 @@
+-- An accepted image and the run concerned: what a change starts from.
+use Prim.Native.Nat.{ℕ, zero, suc, _+_, _-_, _*_, _≤_, _<_, max}
+use mathlib.Core.Path.{_≡_, refl, sym, ap, ap₂, subst, _∙_}
+use mathlib.Core.Logic.{_⊎_, inl, inr, ⊎-elim}
+use mathlib.Core.Bool.{Bool, true, false, not}
+use mathlib.Core.List.{List, [], _∷_, _++_, map, append-nil}
+use native.Mathlib.Omega.{arith}
+use lib.ListN.{length, take, drop, getD, replicate, length-append, length-map, length-replicate, getD-replicate, List·getD-append}
+use lib.Seq.{getD-append-add}
+use lib.Dec.{eqb}
+use borrow.Author.Tests.{eqb-true, ne-eqb}
+use Rattle.spec.specs.Outcome.{ok}
+use Rattle.spec.specs.Lists.{any, count}
+use Rattle.spec.specs.Bytes.{from-little-endian, bytes-at, blocks-for}
+use Rattle.spec.specs.Header as Header
+use Rattle.spec.specs.Header.{layout4, format4, get}
+use Rattle.spec.specs.Entry.{Entry, headword-ok}
+use Rattle.spec.specs.Run.{Run}
+use Rattle.spec.specs.Index.{Element, elements-bytes, index-need}
+use Rattle.spec.specs.Blocks.{covers, is-free, run-blocks, free-marks, each-once}
+use Rattle.spec.specs.Check as Check
+use Rattle.spec.specs.Check.{Image, image-from, runs-from, counts-ok, all-entries}
+use Rattle.spec.specs.Place as Place
+use Rattle.spec.specs.Place.{target-run, cut, new-run, place, element-of, grown, plan-full}
+use Rattle.spec.proofs.ListsLaws.{All, and-right, all-map, all-append, all-front, all-back, one, count-once, less-or}
+use Rattle.spec.proofs.BlocksLaws.{Laid}
+use Rattle.spec.proofs.PlanLaws.{plan-of, SoundPlan}
+use Rattle.spec.proofs.LaidLaws.{Sized, laid-without}
+use Rattle.spec.proofs.CountLaws.{block-once}
+use Rattle.spec.proofs.FreeListLaws.{Stands}
+use Rattle.spec.proofs.ReadLaws.{ImageTold, image-told, run-told}
+use Rattle.spec.proofs.ChangeLaws.{Sound, image-sound}
+use Rattle.index.specs.Elements.{elements-at}
+use Rattle.marks.specs.Marks.{with-range}
+use Rattle.marks.proofs.Words.{range-none}
+use Rattle.marks.proofs.Laws.{length-range}
+use Rattle.freelist.proofs.Laws.{length-free-marks, get-free-marks}
+use Rattle.inspect.specs.Overview.{AcceptedImage}
+use Rattle.inspect.proofs.Laws.{index-part, data-part}
+use Rattle.inspect.proofs.Accepted.{accepted-runs}
+use Rattle.placing.proofs.SpreadLaws.{Marked, place-grows}
+use Rattle.target.specs.declared.Target.{Target}
+use Rattle.target.specs.Told.{NoRun, OneRun, TargetTold}
+use Rattle.target.proofs.Laws.{Known, runs-known, told-before, told-after, told-blocks}
+use Rattle.placing.specs.Spread.{spread}
+use Rattle.moves.specs.Moved.{noted, starts, size-at, freed, tabled}
+use Rattle.plan.proofs.Grown.{Growing, freed-between, index-still, index-grown, noted-both, index-over}
+use Rattle.change.specs.declared.Outline.{Outline}
+use Rattle.elements.specs.Renewed.{elements-end}
+use Rattle.parts.specs.Part.{Measured}
+use Rattle.plan.proofs.Whole.{elements-parts}
+use Rattle.plan.proofs.Finish.{plan-parts, full-index, full-blocks}
+use Rattle.plan.proofs.Counted.{change-length, change-blocks}
+use Rattle.change.specs.Ready.{growth, edited, planned, parts-of, Ready}
+use Rattle.change.proofs.Laws.{parts-same}
+
+-- a block on the free list is one that no run covers
+free-list-free : (D : ℕ) (rs : List Run) (fl : List ℕ) → each-once D rs fl ≡ true → (b : ℕ) → b < D → any (eqb b) fl ≡ is-free rs b
+unfolding is-free
+free-list-free D rs fl o b h = other (any (covers b) rs) (any (eqb b) fl) ones
+  where
+    other : (s t : Bool) → one s + one t ≡ 1 → t ≡ not s
+    other true true e = absurd (omega arith)
+    other true false e = refl
+    other false true e = refl
+    other false false e = absurd (omega arith)
+
+    ones : one (any (covers b) rs) + one (any (eqb b) fl) ≡ 1
+    ones =
+        let e : count (covers b) rs + count (eqb b) fl ≡ 1 = block-once D rs fl o b h in
+        rw (count-once (covers b) rs (omega arith), count-once (eqb b) fl (omega arith)) e
+
+-- the marks of a free list are those of the blocks that no run covers
+pub list-marked : (D k : ℕ) (rs : List Run) (fl : List ℕ) → each-once D rs fl ≡ true → Marked 0 0 D (free-marks D fl ++ replicate k false) rs
+list-marked D k rs fl o = record { inside = λ b p q. inner b q; beyond = λ b p. past b p }
+  where
+    inner : (b : ℕ) → b < D → getD (free-marks D fl ++ replicate k false) (0 + b) false ≡ is-free rs b
+    inner b q =
+        let z : 0 + b ≡ b = omega arith in
+        rw z (List·getD-append (free-marks D fl) (replicate k false) false b (omega (arith, length-free-marks D fl)) ∙ get-free-marks D fl b q ∙ free-list-free D rs fl o b q)
+
+    replicated : (j n : ℕ) → getD (replicate n false) j false ≡ false
+    replicated j zero = refl
+    replicated zero (suc n) = refl
+    replicated (suc j) (suc n) = replicated j n
+
+    past : (b : ℕ) → D ≤ b → getD (free-marks D fl ++ replicate k false) (0 + b) false ≡ false
+    past b p =
+        let e : 0 + b ≡ length (free-marks D fl) + (b - D) = omega (arith, length-free-marks D fl) in
+        ap (λ (j : ℕ). getD (free-marks D fl ++ replicate k false) j false) e ∙ getD-append-add (free-marks D fl) (replicate k false) (b - D) false ∙ replicated (b - D) k
+
+-- the growth of an index for some elements
+growth-some : (n k b : ℕ) → (k ≡ 0 → ⊥) → growth n k b ≡ blocks-for (b + 4) - n
+unfolding growth
+growth-some n k b h = rw (ne-eqb k 0 h, growth)
+
+-- it is what these need beyond its blocks
+growth-need : (n : ℕ) (es : List Element) → growth n (length es) (length (elements-bytes format4 es)) ≡ index-need format4 es - n
+unfolding growth index-need
+growth-need n [] = omega arith
+growth-need n (e ∷ es) = growth-some n (suc (length es)) (length (elements-bytes format4 (e ∷ es))) (λ z. omega arith)
+
+-- ---- an accepted image
+module _ (o : List ℕ) (n d : ℕ) (a : AcceptedImage o n d) where
+  abbrev i : Image
+  i = a .image
+
+  abbrev index : List ℕ
+  index = index-part o n
+
+  abbrev area : List ℕ
+  area = data-part o n
+
+  told : ImageTold format4 o i
+  unfolding Check.image-from Header.format-of
+  told = image-told format4 o i (a .is)
+
+  sound : Sound format4 o i
+  unfolding Check.image-from Header.format-of
+  sound = image-sound format4 o i (a .is)
+
+  laid : Laid d (i .runs)
+  laid = subst (λ (x : ℕ). Laid x (i .runs)) (sym (a .data-blocks)) (sound .laid)
+
+  sized : All Sized (i .runs)
+  sized = all-map _ _ (λ r h. (h .some-blocks, h .whole)) (i .runs) (sound .holds)
+
+  pub runs-read : runs-from format4 d area (elements-at index 0 (get (layout4 .nindex2) o)) ≡ ok (i .runs)
+  runs-read = accepted-runs o n d a (get (layout4 .nindex2) o) refl
+
+  known : All (Known format4 d area) (i .runs)
+  known = runs-known format4 d area (elements-at index 0 (get (layout4 .nindex2) o)) (i .runs) runs-read .1
+
+  -- each run's bytes stand in the data area
+  stands : Stands area (i .runs)
+  stands = all-map _ _ (λ r k. sym (run-told format4 d area (element-of r) (k .next) r (k .read) .bytes)) (i .runs) known
+
+  -- each run starts with its number of blocks
+  counted : All (λ r. from-little-endian (bytes-at (256 * r .block) 2 area) ≡ r .size) (i .runs)
+  unfolding element-of
+  counted = all-map _ _ (λ r k. sym (run-told format4 d area (element-of r) (k .next) r (k .read) .size)) (i .runs) known
+
+  -- the blocks in runs that the header counts
+  pub blocks-counted : get (layout4 .nblock2) o ≡ run-blocks (i .runs)
+  unfolding counts-ok format4
+  blocks-counted = eqb-true (get (layout4 .nblock2) o) (run-blocks (i .runs)) (and-right (eqb (get (layout4 .nword) o) (length (all-entries (i .runs)))) (eqb (get (layout4 .nblock2) o) (run-blocks (i .runs))) (told .counts))
+
+  once : each-once d (i .runs) (i .free-list) ≡ true
+  once = subst (λ (x : ℕ). each-once x (i .runs) (i .free-list) ≡ true) (sym (a .data-blocks)) (told .once)
+
+  -- ---- the run concerned
+  module _ (h : List ℕ) (t : Target) (k : TargetTold index area (get (layout4 .nindex2) o) h (i .runs) t) where
+    abbrev c : Place.Target
+    c = target-run format4 h (i .runs)
+
+    -- the other runs are among those of the image
+    others : (P : Run → Type 0) → All P (i .runs) → All P (c .before ++ c .after)
+    others P all = go c (k .run)
+      where
+        go : (c : Place.Target) → NoRun area (i .runs) c t ⊎ OneRun area (i .runs) c t → All P (c .before ++ c .after)
+        go c (inl x) = rw (x .before, x .after) tt
+        go c (inr x) =
+            let y : All P (c .before ++ x .run ∷ c .after) = subst (All P) (x .among) all in
+            all-append P (c .before) (c .after) (all-front P (c .before) (x .run ∷ c .after) y) (all-back P (c .before) (x .run ∷ c .after) y .1)
+
+    -- and lie apart
+    others-laid : Laid d (c .before ++ c .after)
+    others-laid = go c (k .run)
+      where
+        go : (c : Place.Target) → NoRun area (i .runs) c t ⊎ OneRun area (i .runs) c t → Laid d (c .before ++ c .after)
+        go c (inl x) = rw (x .before, x .after) tt
+        go c (inr x) = laid-without d (c .before) (x .run) (c .after) (subst (Laid d) (x .among) laid)
+
+    -- the run's blocks freed, the marks are those of the blocks that the others leave free
+    freed-first : (ms : List Bool) → Marked 0 0 d ms (i .runs) → d ≤ length ms → Marked 0 0 d (with-range (t .block) (t .size) true ms) (c .before ++ c .after)
+    freed-first ms m l = go c (k .run)
+      where
+        go : (c : Place.Target) → NoRun area (i .runs) c t ⊎ OneRun area (i .runs) c t → Marked 0 0 d (with-range (t .block) (t .size) true ms) (c .before ++ c .after)
+        go c (inl x) = rw (x .before, x .after, x .block, x .size, range-none true ms) (subst (Marked 0 0 d ms) (x .none) m)
+        go c (inr x) =
+            subst (λ (b : ℕ). Marked 0 0 d (with-range b (t .size) true ms) (c .before ++ c .after)) (x .block)
+            (freed-between d (t .size) ms (c .before) (x .run) (c .after) (subst (Laid d) (x .among) laid) (sym (x .size)) l (subst (Marked 0 0 d ms) (x .among) m))
+
+    module _ (free : List Bool) (free-is : free ≡ free-marks d (i .free-list) ++ replicate (163_840 - d) false) (few : d ≤ 65_536) where
+      free-long : length free ≡ 163_840
+      free-long = rw free-is (omega (arith, length-append (free-marks d (i .free-list)) (replicate (163_840 - d) false), length-free-marks d (i .free-list), length-replicate (163_840 - d) false))
+
+      -- the marks that a change starts with
+      pub start-marked : Marked 0 0 d (with-range (t .block) (t .size) true free) (c .before ++ c .after)
+      start-marked = freed-first free (subst (λ (x : List Bool). Marked 0 0 d x (i .runs)) (sym free-is) (list-marked d (163_840 - d) (i .runs) (i .free-list) once)) (omega (arith, free-long))
+
+      pub start-long : t .block + t .size ≤ d → length (with-range (t .block) (t .size) true free) ≡ 163_840
+      start-long p = length-range (t .block) (t .size) true free (omega (arith, free-long)) ∙ free-long
+
+      -- an index that does not grow
+      pub still : t .block + t .size ≤ d → (T : List ℕ) → Growing area d 0 (c .before) (c .after) 163_840 T d (with-range (t .block) (t .size) true free)
+      still p T =
+          subst (λ (x : ℕ). Growing area d 0 (c .before) (c .after) x T d (with-range (t .block) (t .size) true free)) (start-long p)
+          (index-still area d (c .before) (c .after) (with-range (t .block) (t .size) true free) T others-laid (others _ stands) start-marked)
+
+      -- one that grows
+      pub grows : t .block + t .size ≤ d → (g : ℕ) → 1 ≤ g → g ≤ 32_768
+          → (T₀ T : List ℕ) (ms₁ ms₂ : List Bool) (end : ℕ)
+          → T₀ ≡ noted g (map (λ e. e .block) (elements-at index (t .end) (t .after))) (noted g (map (λ e. e .block) (elements-at index 0 (t .before))) (replicate 32_768 0))
+          → ms₁ ≡ freed area d (starts 0 g T₀) (with-range (t .block) (t .size) true free)
+          → end ≡ spread g (max d g) ms₁ (map (size-at area d) (starts 0 g T₀)) .end
+          → ms₂ ≡ spread g (max d g) ms₁ (map (size-at area d) (starts 0 g T₀)) .free
+          → T ≡ tabled (starts 0 g T₀) (spread g (max d g) ms₁ (map (size-at area d) (starts 0 g T₀)) .places) T₀
+          → end ≤ 163_840 → Growing area d g (c .before) (c .after) 163_840 T end ms₂
+      grows p g one most T₀ T ms₁ ms₂ end e₁ e₂ e₃ e₄ e₅ fits =
+          let x : List Bool = with-range (t .block) (t .size) true free in
+          let f : T₀ ≡ noted g (map (λ r. r .block) (c .before ++ c .after)) (replicate 32_768 0)
+          = e₁ ∙ ap₂ (λ (y z : List Element). noted g (map (λ e. e .block) y) (noted g (map (λ e. e .block) z) (replicate 32_768 0))) (k .after) (k .before) ∙ noted-both g (c .before) (c .after) (replicate 32_768 0) in
+          subst (λ (y : ℕ). Growing area d g (c .before) (c .after) y T end ms₂) (start-long p)
+          (index-grown area d g 32_768 (c .before) (c .after) x one most others-laid (others _ sized) (others _ stands) (others _ counted) start-marked T₀ T ms₁ ms₂ end f e₂ e₃ e₄ e₅ (omega (arith, start-long p)) (omega (arith, start-long p)))
+
+      -- and one for which there are too many blocks
+      pub grows-over : t .block + t .size ≤ d → (g : ℕ) → 1 ≤ g → g ≤ 32_767
+          → (T₀ : List ℕ) (ms₁ : List Bool)
+          → T₀ ≡ noted g (map (λ e. e .block) (elements-at index (t .end) (t .after))) (noted g (map (λ e. e .block) (elements-at index 0 (t .before))) (replicate 32_768 0))
+          → ms₁ ≡ freed area d (starts 0 g T₀) (with-range (t .block) (t .size) true free)
+          → 65_536 + g < spread g (max d g) ms₁ (map (size-at area d) (starts 0 g T₀)) .end → 65_536 < grown g d (c .before) (c .after) .data-blocks
+      grows-over p g one few′ T₀ ms₁ e₁ e₂ h =
+          let x : List Bool = with-range (t .block) (t .size) true free in
+          let f : T₀ ≡ noted g (map (λ r. r .block) (c .before ++ c .after)) (replicate 32_768 0)
+          = e₁ ∙ ap₂ (λ (y z : List Element). noted g (map (λ e. e .block) y) (noted g (map (λ e. e .block) z) (replicate 32_768 0))) (k .after) (k .before) ∙ noted-both g (c .before) (c .after) (replicate 32_768 0) in
+          let q : 65_536 + g < g + grown g d (c .before) (c .after) .data-blocks
+          = index-over area d g 32_768 (c .before) (c .after) x one (omega arith) others-laid (others _ sized) (others _ stands) (others _ counted) start-marked T₀ ms₁ (65_536 + g) f e₂ (omega arith) (omega (arith, start-long p)) few h in
+          omega arith
+
+    -- ---- the numbers
+    module _ (body : List ℕ) (fresh : Bool) (parts bytes blocks : ℕ) (m : Measured (map new-run (parts-of o n t h body fresh)) parts bytes blocks) where
+      abbrev ps : List Run
+      ps = map new-run (parts-of o n t h body fresh)
+
+      -- how many elements there are then
+      count-is : t .before + t .after + parts ≡ length (map element-of (c .before ++ ps ++ c .after))
+      count-is =
+          omega
+          (arith, m .0, told-before index area (get (layout4 .nindex2) o) h (i .runs) t k, told-after index area (get (layout4 .nindex2) o) h (i .runs) t k, length-map (c .before ++ ps ++ c .after) element-of, length-append (c .before ++ ps) (c .after), length-append (c .before) ps)
+
+      -- and how many bytes they take
+      bytes-are : elements-end index 0 (get (layout4 .nindex2) o) - (t .end - t .at) + bytes ≡ length (elements-bytes format4 (map element-of (c .before ++ ps ++ c .after)))
+      bytes-are =
+          let B : List ℕ = elements-bytes format4 (map element-of (c .before)) in
+          let P : List ℕ = elements-bytes format4 (map element-of ps) in
+          let A : List ℕ = elements-bytes format4 (map element-of (c .after)) in
+          let e : length (elements-bytes format4 (map element-of (c .before ++ ps ++ c .after))) ≡ length B + length P + length A
+          = ap length (elements-parts (c .before) ps (c .after)) ∙ length-append (B ++ P) A ∙ ap (λ (x : ℕ). x + length A) (length-append B P) in
+          let x : length (elements-bytes format4 (elements-at index 0 (t .before))) ≡ length B = ap (λ (es : List Element). length (elements-bytes format4 es)) (k .before) in
+          let y : length (elements-bytes format4 (elements-at index (t .end) (t .after))) ≡ length A = ap (λ (es : List Element). length (elements-bytes format4 es)) (k .after) in
+          omega (arith, m .1, k .bytes)
+
+      -- so this is the growth of the plan
+      pub growth-is : growth n (t .before + t .after + parts) (elements-end index 0 (get (layout4 .nindex2) o) - (t .end - t .at) + bytes) ≡ index-need format4 (map element-of (c .before ++ ps ++ c .after)) - n
+      growth-is = ap₂ (λ (x y : ℕ). growth n x y) count-is bytes-are ∙ growth-need n (map element-of (c .before ++ ps ++ c .after))
+
+      -- the plan by its numbers
+      plan-at : (g : ℕ) → g ≡ growth n (t .before + t .after + parts) (elements-end index 0 (get (layout4 .nindex2) o) - (t .end - t .at) + bytes)
+          → planned i h body fresh ≡ plan-of format4 (n + g) (place 0 (grown g d (c .before) (c .after) .data-blocks) (grown g d (c .before) (c .after) .before ++ grown g d (c .before) (c .after) .after) ps .data-blocks) (grown g d (c .before) (c .after) .before ++ place 0 (grown g d (c .before) (c .after) .data-blocks) (grown g d (c .before) (c .after) .before ++ grown g d (c .before) (c .after) .after) ps .runs ++ grown g d (c .before) (c .after) .after)
+      plan-at g e =
+          let q : parts-of o n t h body fresh ≡ cut 1_024 (edited h body fresh (c .entries)) = parts-same o n t h body fresh (i .runs) (get (layout4 .nindex2) o) k in
+          plan-parts i h (edited h body fresh) n d g (a .index-blocks) (a .data-blocks) (parts-of o n t h body fresh) (sym q) (e ∙ growth-is)
+
+      -- row 15: an index of too many blocks
+      pub index-full : (s : List ℕ) (g : ℕ) → g ≡ growth n (t .before + t .after + parts) (elements-end index 0 (get (layout4 .nindex2) o) - (t .end - t .at) + bytes) → 32_767 < n + g → plan-full s (planned i h body fresh) ≡ true
+      index-full s g e p = ap (plan-full s) (plan-at g e) ∙ full-index s (n + g) _ _ p
+
+      -- row 15: too many data blocks when the displaced runs are placed
+      pub moved-full : (s : List ℕ) (g : ℕ) → g ≡ growth n (t .before + t .after + parts) (elements-end index 0 (get (layout4 .nindex2) o) - (t .end - t .at) + bytes)
+          → 65_536 < grown g d (c .before) (c .after) .data-blocks → plan-full s (planned i h body fresh) ≡ true
+      moved-full s g e p =
+          ap (plan-full s) (plan-at g e)
+          ∙ full-blocks s (n + g) _ _ (omega (arith, place-grows 0 (grown g d (c .before) (c .after) .data-blocks) (grown g d (c .before) (c .after) .before ++ grown g d (c .before) (c .after) .after) ps))
+
+      -- the elements of the plan
+      elements-counted : t .before + t .after + parts ≡ length (planned i h body fresh .runs)
+      unfolding format4
+      elements-counted =
+          let q : parts-of o n t h body fresh ≡ cut 1_024 (edited h body fresh (c .entries)) = parts-same o n t h body fresh (i .runs) (get (layout4 .nindex2) o) k in
+          let e : length ps ≡ length (map new-run (cut 1_024 (edited h body fresh (c .entries)))) = ap (λ (x : List (List Entry)). length (map new-run x)) q in
+          omega (arith, m .0, told-before index area (get (layout4 .nindex2) o) h (i .runs) t k, told-after index area (get (layout4 .nindex2) o) h (i .runs) t k, change-length format4 i h (edited h body fresh))
+
+      -- and its blocks
+      runs-counted : get (layout4 .nblock2) o - t .size + blocks ≡ run-blocks (planned i h body fresh .runs)
+      unfolding format4
+      runs-counted =
+          let q : parts-of o n t h body fresh ≡ cut 1_024 (edited h body fresh (c .entries)) = parts-same o n t h body fresh (i .runs) (get (layout4 .nindex2) o) k in
+          let e : run-blocks ps ≡ run-blocks (map new-run (cut 1_024 (edited h body fresh (c .entries)))) = ap (λ (x : List (List Entry)). run-blocks (map new-run x)) q in
+          omega (arith, m .2, blocks-counted, told-blocks index area (get (layout4 .nindex2) o) h (i .runs) t k, change-blocks format4 i h (edited h body fresh))
+
+      -- a change whose growth is planned
+      pub ready : (g end words : ℕ) (T : List ℕ) (ms : List Bool) → 256 + 256 * n + 256 * d ≡ length o → d ≤ 65_536 → headword-ok h ≡ true → length body ≤ 3_001 → t .block + t .size ≤ d
+          → g ≡ growth n (t .before + t .after + parts) (elements-end index 0 (get (layout4 .nindex2) o) - (t .end - t .at) + bytes)
+          → n + g ≤ 32_767 → g ≤ length T → end ≤ 65_536 + g
+          → Growing area d g (c .before) (c .after) 163_840 T end ms
+          → SoundPlan format4 (planned i h body fresh) → words ≡ length (all-entries (planned i h body fresh .runs))
+          → Ready o (record { n = n; d = d; g = g; end = end; words = words; elements = t .before + t .after + parts; blocks = get (layout4 .nblock2) o - t .size + blocks }) T ms t h body fresh
+      ready g end words T ms whole few hok short p eg fi table fe growing plan words-are =
+          record {
+            image = i;
+            is = a .is;
+            index-blocks = a .index-blocks;
+            data-blocks = a .data-blocks;
+            whole = whole;
+            few-blocks = few;
+            few-index = fi;
+            headword = hok;
+            body-short = short;
+            told = k;
+            inside = p;
+            grows = eg ∙ growth-is;
+            table = table;
+            end-few = fe;
+            under = growing;
+            sound = plan;
+            words-are = words-are;
+            elements-are = elements-counted;
+            blocks-are = runs-counted;
+          }

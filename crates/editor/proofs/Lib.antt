@@ -1,0 +1,4 @@
+pub mod Found
+pub mod Rows
+pub mod Counts
+pub mod Changes

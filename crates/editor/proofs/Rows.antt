@@ -1,0 +1,324 @@
+-- What the returns of the changing calls show, in the terms of the code: rows 1 to 11, the working slice, create and optimise.
+use Prim.Native.Nat.{ℕ, _+_, _-_, _*_, _%_, _^_, _<_, _≤_}
+use mathlib.Core.Path.{_≡_, refl, sym, ap, subst, _∙_}
+use mathlib.Core.Bool.{Bool, true, false, not}
+use mathlib.Core.List.{List, [], _++_, append-nil}
+use native.Mathlib.Omega.{arith}
+use lib.ListN.{length, getD, take, drop, replicate, drop-of-length-le}
+use lib.Seq.{length-take-le, take-length, take-at}
+use lib.Dec.{T, eqb}
+use lib.Pow.{areBytes}
+use borrow.Author.Tests.{lt-ltb, le-ltb, eqb-true, eq-eqb, not-true, not-false}
+use Rattle.spec.specs.Outcome.{refused, ok, accepted, _>>=_, _>>_, refuse_when_}
+use Rattle.spec.specs.Bytes as Bytes
+use Rattle.spec.specs.Bytes.{from-little-endian, write, zeros, bytes-at}
+use Rattle.spec.specs.Header as Header
+use Rattle.spec.specs.Header.{layout4, format4, empty-image, get, writable}
+use Rattle.spec.specs.Blocks.{run-blocks, free-marks}
+use Rattle.spec.specs.Check as Check
+use Rattle.spec.specs.Check.{Frame, Image, slice-ok, image-from, image-in, all-entries, entries-of}
+use Rattle.spec.specs.Place.{plan-packed, plan-written}
+use Rattle.spec.specs.Calls as Calls
+use Rattle.spec.specs.Calls.{ChangeResult, create, changeable, insert-plan, insert, delete-plan, delete, optimise-plan, optimise, plan-length, given-up-zeroed}
+use Rattle.spec.specs.Answers as Answers
+use Rattle.spec.specs.Answers.{length-answer, delete-answer}
+use Rattle.spec.specs.Claim as Claim
+use Rattle.spec.specs.Rows as RowsSpec
+use Rattle.spec.specs.Rows.{SliceRule}
+use Rattle.spec.specs.CallRows.{ChangeRows}
+use Rattle.spec.specs.Slices.{WorkZeroed}
+use Rattle.spec.specs.declared.LengthAnswer.{LengthAnswer}
+use Rattle.spec.specs.declared.DeleteAnswer.{DeleteAnswer}
+use Rattle.spec.proofs.ListsLaws.{and-left}
+use Rattle.spec.proofs.BytesLaws.{length-zeros, small-of, bytes-of, small-take, small-at, from-small, small-part}
+use Rattle.spec.proofs.PartLaws.{length-bytes-at}
+use Rattle.spec.proofs.ReadLaws.{ImageTold, image-told}
+use Rattle.spec.proofs.SlicesLaws.{work-after-calls}
+use Rattle.spec.proofs.OutcomeLaws.{same-value}
+use Rattle.spec.proofs.CallRowsLaws.{first-numbers}
+use Rattle.spec.proofs.ClaimLaws.{packed-room}
+use Rattle.header.proofs.Laws.{read-nword, slice-refused, slice-accepted, slice-has-header, slice-in-blocks, slice-holds}
+use Rattle.inspect.specs.Overview.{overview, viewed, AcceptedImage}
+use Rattle.inspect.specs.declared.Inspected.{Inspected}
+use Rattle.inspect.proofs.Laws.{SoundImage, overview-refused, overview-sound}
+use Rattle.inspect.proofs.Accepted.{accepted-frame, accepted-whole}
+
+-- ---- create
+-- row 1
+pub create-short : (s : List ℕ) → length s < 256 → record { answer = length-answer (LengthAnswer.Refused 1); image = s } ≡ create s
+unfolding Calls.create Calls.create-bytes Calls.create-result Answers.length-answer
+create-short s p = rw (lt-ltb (length s) 256 p)
+
+-- the empty image is written
+pub create-done : (s : List ℕ) → 256 ≤ length s → (s′ : List ℕ) → s′ ≡ write 0 (empty-image layout4) s → record { answer = length-answer (LengthAnswer.Done 256); image = s′ } ≡ create s
+unfolding Calls.create Calls.create-bytes Calls.create-result Answers.length-answer
+create-done s p s′ e = rw (le-ltb (length s) 256 p, e)
+
+-- ---- rows 1 and 2 of a changing call
+-- bytes as code knows them
+pub all-bytes : (s : List ℕ) → ((k : ℕ) → getD s k 0 < 256) → T (areBytes s)
+unfolding Bytes.bytes-at
+all-bytes s h = bytes-of s (rw (take-length s) at (small-part s h (length s) 0))
+
+-- a slice filled with zeros
+pub zeros-filled : (work w w′ : List ℕ) → length w ≡ length work → w′ ≡ write 0 (zeros (length w)) w → w′ ≡ zeros (length work)
+unfolding Bytes.write
+zeros-filled work w w′ l e =
+    let d : drop (0 + length (zeros (length w))) w ≡ [] = drop-of-length-le w {i = (0 + length (zeros (length w)))} (omega (arith, length-zeros (length w))) in
+    e ∙ ap (λ (x : List ℕ). zeros (length w) ++ x) d ∙ append-nil (zeros (length w)) ∙ ap zeros l
+
+-- what the code has tested before it looks at the image
+abbrev pub Tested : List ℕ → ℕ → List ℕ → Type 0
+Tested s L work = (256 ≤ L) × (L % 256 ≡ 0) × (L ≤ length s) × (length s ≤ length work)
+
+-- the image in front of a slice is as long as it says,
+pub front-long : (s : List ℕ) (L : ℕ) → L ≤ length s → L ≡ length (take L s)
+front-long s L p = sym (length-take-le L s p)
+
+-- at least a header long
+pub front-header : (s : List ℕ) (L : ℕ) → L ≤ length s → 256 ≤ L → 256 ≤ length (take L s)
+front-header s L p q = rw (← front-long s L p) q
+
+-- and in whole blocks
+pub front-blocks : (s : List ℕ) (L : ℕ) → L ≤ length s → L % 256 ≡ 0 → length (take L s) % 256 ≡ 0
+front-blocks s L p q = rw (← front-long s L p) q
+
+-- an image has no more entries than four bytes count
+pub words-few : (s : List ℕ) (L : ℕ) → L ≤ length s → 256 ≤ L → ((k : ℕ) → getD s k 0 < 256) → (n d : ℕ) (a : AcceptedImage (take L s) n d) (w : ℕ) → ((i : Image) → image-from (take L s) ≡ ok i → w ≡ length (entries-of i))
+    → w < 4294967296
+unfolding Check.image-from Header.format-of Check.counts-ok Check.entries-of Header.format4
+words-few s L p q bytes n d a w counted =
+    let x : List ℕ = take L s in
+    let told : ImageTold format4 x (a .image) = image-told format4 x (a .image) (a .is) in
+    let c = and-left (eqb (get (layout4 .nword) x) (length (all-entries (a .image .runs)))) (eqb (get (layout4 .nblock2) x) (run-blocks (a .image .runs))) (told .counts) in
+    let e : get (layout4 .nword) x ≡ length (entries-of (a .image)) = eqb-true (get (layout4 .nword) x) (length (all-entries (a .image .runs))) c in
+    let g : from-little-endian (bytes-at 160 4 x) ≡ get (layout4 .nword) x = read-nword x (from-little-endian (bytes-at 160 4 x)) refl in
+    let l : length (bytes-at 160 4 x) ≡ 4 = length-bytes-at x 160 4 (omega (arith, front-header s L p q)) in
+    let b : from-little-endian (bytes-at 160 4 x) < 256 ^ 4 = subst (λ (k : ℕ). from-little-endian (bytes-at 160 4 x) < 256 ^ k) l (from-small (bytes-at 160 4 x) (small-at 160 4 x (small-take L s (small-of s (all-bytes s bytes))))) in
+    rw (counted (a .image) (a .is) ∙ sym e ∙ sym g) b
+
+-- a copy of the image in front of another slice
+module _ (s : List ℕ) (L : ℕ) (p : L ≤ length s) (w w′ : List ℕ) (copied : w′ ≡ write 0 (bytes-at 0 L s) w) where
+  -- it is the image
+  pub copy-is : take L w′ ≡ take L s
+  unfolding Bytes.write Bytes.bytes-at
+  copy-is = ap (take L) copied ∙ take-at (take L s) (drop (0 + length (take L s)) w) L (length-take-le L s p)
+
+  -- as long as the image
+  copy-long : length (take L w′) ≡ L
+  copy-long = ap length copy-is ∙ length-take-le L s p
+
+  -- the slice still holds it
+  pub copy-front : take (length (take L w′)) s ≡ take L w′
+  copy-front = ap (λ (k : ℕ). take k s) copy-long ∙ sym copy-is
+
+  -- which is no shorter
+  pub copy-inside : length (take L w′) ≤ length s
+  copy-inside = rw copy-long p
+
+  -- it is accepted
+  pub copy-accepted : (n d : ℕ) → AcceptedImage (take L s) n d → AcceptedImage (take L w′) n d
+  copy-accepted n d a = rw copy-is a
+
+  -- its blocks are all of it
+  pub copy-whole : (n d : ℕ) → AcceptedImage (take L s) n d → L % 256 ≡ 0 → 256 + 256 * n + 256 * d ≡ length (take L w′)
+  copy-whole n d a m = rw copy-is (accepted-whole (take L s) n d a (front-blocks s L p m))
+
+  -- it has as many entries
+  pub copy-words : (k : ℕ) → ((i : Image) → image-from (take L s) ≡ ok i → k ≡ length (entries-of i)) → (i : Image) → image-from (take L w′) ≡ ok i → k ≡ length (entries-of i)
+  copy-words k h i o = h i (ap image-from (sym copy-is) ∙ o)
+
+module _ (s : List ℕ) (L : ℕ) (work : List ℕ) where
+  module _ (t : Bool) (slice : t ≡ accepted (slice-ok s L)) where
+    -- row 1
+    change-slice : not t ≡ true → changeable s L work ≡ refused 1
+    unfolding Calls.changeable
+    change-slice q = rw (slice-refused s L (sym slice ∙ not-true t q))
+
+    -- row 2
+    change-work : not t ≡ false → length work < length s → changeable s L work ≡ refused 2
+    unfolding Calls.changeable Check.work-ok
+    change-work q l = rw (slice-accepted s L (sym slice ∙ not-false t q), lt-ltb (length work) (length s) l)
+
+    -- neither
+    pub now-tested : not t ≡ false → length s ≤ length work → Tested s L work
+    now-tested q l = let e = sym slice ∙ not-false t q in (slice-has-header s L e, slice-in-blocks s L e, slice-holds s L e, l)
+
+    -- row 1 of an insertion
+    pub insert-slice : not t ≡ true → (h : List ℕ) (a : ℕ) (x : List ℕ) → record { answer = length-answer (LengthAnswer.Refused 1); image = s; work = work } ≡ insert s L work h a x
+    unfolding Calls.insert Calls.insert-plan Calls.insert-result Calls.changed Calls.work-after Answers.length-answer
+    insert-slice q h a x = sym (rw (change-slice q))
+
+    -- row 2 of an insertion
+    pub insert-short : not t ≡ false → length work < length s → (h : List ℕ) (a : ℕ) (x : List ℕ) → record { answer = length-answer (LengthAnswer.Refused 2); image = s; work = work } ≡ insert s L work h a x
+    unfolding Calls.insert Calls.insert-plan Calls.insert-result Calls.changed Calls.work-after Answers.length-answer
+    insert-short q l h a x = sym (rw (change-work q l))
+
+    -- row 1 of a deletion
+    pub delete-slice : not t ≡ true → (h : List ℕ) → record { answer = delete-answer (DeleteAnswer.Refused 1); image = s; work = work } ≡ delete s L work h
+    unfolding Calls.delete Calls.delete-plan Calls.delete-result Calls.changed Calls.work-after Answers.delete-answer
+    delete-slice q h = sym (rw (change-slice q))
+
+    -- row 2 of a deletion
+    pub delete-short : not t ≡ false → length work < length s → (h : List ℕ) → record { answer = delete-answer (DeleteAnswer.Refused 2); image = s; work = work } ≡ delete s L work h
+    unfolding Calls.delete Calls.delete-plan Calls.delete-result Calls.changed Calls.work-after Answers.delete-answer
+    delete-short q l h = sym (rw (change-work q l))
+
+    -- row 1 of an optimising
+    pub optimise-slice : not t ≡ true → record { answer = length-answer (LengthAnswer.Refused 1); image = s; work = work } ≡ optimise s L work
+    unfolding Calls.optimise Calls.optimise-plan Calls.optimise-result Calls.changed Calls.work-after Answers.length-answer
+    optimise-slice q = sym (rw (change-slice q))
+
+    -- row 2 of an optimising
+    pub optimise-short : not t ≡ false → length work < length s → record { answer = length-answer (LengthAnswer.Refused 2); image = s; work = work } ≡ optimise s L work
+    unfolding Calls.optimise Calls.optimise-plan Calls.optimise-result Calls.changed Calls.work-after Answers.length-answer
+    optimise-short q l = sym (rw (change-work q l))
+
+    module _ (q : not t ≡ false) (enough : length s ≤ length work) where
+      -- row 1 does not apply
+      rule : SliceRule s L
+      rule = let p = now-tested q enough in record { long-enough = p .0; whole-blocks = p .1; in-slice = p .2 }
+
+      -- the working slice is all zero then
+      zeroed-by : {A : Type 0} (r : ChangeResult A) → ChangeRows s L work (r .answer) → WorkZeroed work r → r .work ≡ zeros (length work)
+      unfolding RowsSpec.No
+      zeroed-by r rows z = z .zeroed (λ e. rows .row-1 .0 e rule) (λ e. let l = rows .row-2 .0 e .1 in absurd (omega arith))
+
+      module _ (bytes : (k : ℕ) → getD s k 0 < 256) (w w′ : List ℕ) (long : length w ≡ length work) (filled : w′ ≡ write 0 (zeros (length w)) w) (s′ : List ℕ) where
+        -- an insertion by its answer and its image
+        pub insert-whole : (h : List ℕ) (a : ℕ) (x : List ℕ) (r : LengthAnswer) → length-answer r ≡ insert s L work h a x .answer → s′ ≡ insert s L work h a x .image
+            → record { answer = length-answer r; image = s′; work = w′ } ≡ insert s L work h a x
+        insert-whole h a x r e f =
+            let z : w′ ≡ insert s L work h a x .work =
+            zeros-filled work w w′ long filled ∙ sym (zeroed-by (insert s L work h a x) (first-numbers .insert-rows s L work h a x (all-bytes s bytes) .change-rows) (work-after-calls .insert-work s L work h a x)) in
+            rw (e, f, z)
+
+        -- a deletion by its answer and its image
+        pub delete-whole : (h : List ℕ) (r : DeleteAnswer) → delete-answer r ≡ delete s L work h .answer → s′ ≡ delete s L work h .image
+            → record { answer = delete-answer r; image = s′; work = w′ } ≡ delete s L work h
+        delete-whole h r e f =
+            let z : w′ ≡ delete s L work h .work =
+            zeros-filled work w w′ long filled ∙ sym (zeroed-by (delete s L work h) (first-numbers .delete-rows s L work h (all-bytes s bytes) .change-rows) (work-after-calls .delete-work s L work h)) in
+            rw (e, f, z)
+
+        -- an optimising by its answer and its image
+        pub optimise-whole : (r : LengthAnswer) → length-answer r ≡ optimise s L work .answer → s′ ≡ optimise s L work .image → record { answer = length-answer r; image = s′; work = w′ } ≡ optimise s L work
+        optimise-whole r e f =
+            let z : w′ ≡ optimise s L work .work =
+            zeros-filled work w w′ long filled ∙ sym (zeroed-by (optimise s L work) (first-numbers .optimise-rows s L work (all-bytes s bytes) .change-rows) (work-after-calls .optimise-work s L work)) in
+            rw (e, f, z)
+
+  -- ---- what is left when rows 1 and 2 do not apply
+  module _ (p₁ : 256 ≤ L) (p₂ : L % 256 ≡ 0) (p₃ : L ≤ length s) (p₄ : length s ≤ length work) where
+    -- the image decides
+    change-read : changeable s L work ≡ (image-from (take L s) >>= λ i. refuse 11 when not (writable (i .frame .format .layout) s) >> ok i)
+    unfolding Calls.changeable Check.slice-ok Check.work-ok
+    change-read = rw (le-ltb L 256 p₁, eq-eqb (L % 256) 0 p₂, le-ltb (length s) L p₃, le-ltb (length work) (length s) p₄)
+
+    -- rows 3 to 10
+    pub change-refused : (j : ℕ) → image-from (take L s) ≡ refused j → changeable s L work ≡ refused j
+    change-refused j e = change-read ∙ rw e
+
+    -- an accepted image
+    module _ (n d : ℕ) (a : AcceptedImage (take L s) n d) (t : Bool) (version : t ≡ writable layout4 s) where
+      -- the version is tested in the whole slice
+      version-of : writable (a .image .frame .format .layout) s ≡ t
+      unfolding Header.format4
+      version-of = ap (λ (f : Frame). writable (f .format .layout) s) (accepted-frame (take L s) n d a) ∙ sym version
+
+      -- row 11
+      pub change-eleven : not t ≡ true → changeable s L work ≡ refused 11
+      change-eleven q = change-read ∙ rw (a .is, version-of, q)
+
+      -- it may be changed
+      pub change-may : not t ≡ false → changeable s L work ≡ ok (a .image)
+      change-may q = change-read ∙ rw (a .is, version-of, q)
+
+    module _ (k : ℕ) (ms : List Bool) (r : Inspected) (seen : overview r ms ≡ viewed k (image-from (take L s))) where
+      -- the image is refused
+      image-refused : (j : ℕ) → r ≡ Inspected.Refused j → image-from (take L s) ≡ refused j
+      image-refused j h = overview-refused k ms (image-from (take L s)) j (ap (λ (x : Inspected). overview x ms) (sym h) ∙ seen)
+
+      module _ (j : ℕ) (e : r ≡ Inspected.Refused j) where
+        -- rows 3 to 10 of an insertion
+        pub insert-refused : (h : List ℕ) (a : ℕ) (x : List ℕ) → length-answer (LengthAnswer.Refused j) ≡ insert s L work h a x .answer
+        unfolding Calls.insert Calls.insert-plan Calls.insert-result Calls.changed Answers.length-answer
+        insert-refused h a x = sym (rw (change-refused j (image-refused j e)))
+
+        -- they leave the image
+        pub insert-refused-image : (h : List ℕ) (a : ℕ) (x : List ℕ) → s ≡ insert s L work h a x .image
+        unfolding Calls.insert Calls.insert-plan Calls.insert-result Calls.changed
+        insert-refused-image h a x = sym (rw (change-refused j (image-refused j e)))
+
+        -- of a deletion
+        pub delete-refused : (h : List ℕ) → delete-answer (DeleteAnswer.Refused j) ≡ delete s L work h .answer
+        unfolding Calls.delete Calls.delete-plan Calls.delete-result Calls.changed Answers.delete-answer
+        delete-refused h = sym (rw (change-refused j (image-refused j e)))
+
+        -- they leave the image
+        pub delete-refused-image : (h : List ℕ) → s ≡ delete s L work h .image
+        unfolding Calls.delete Calls.delete-plan Calls.delete-result Calls.changed
+        delete-refused-image h = sym (rw (change-refused j (image-refused j e)))
+
+        -- of an optimising
+        pub optimise-refused : length-answer (LengthAnswer.Refused j) ≡ optimise s L work .answer
+        unfolding Calls.optimise Calls.optimise-plan Calls.optimise-result Calls.changed Answers.length-answer
+        optimise-refused = sym (rw (change-refused j (image-refused j e)))
+
+        -- they leave the image
+        pub optimise-refused-image : s ≡ optimise s L work .image
+        unfolding Calls.optimise Calls.optimise-plan Calls.optimise-result Calls.changed
+        optimise-refused-image = sym (rw (change-refused j (image-refused j e)))
+
+      module _ (w n d : ℕ) (e : r ≡ Inspected.Sound w n d) where
+        -- the image, its numbers and its free blocks
+        pub sound-is : SoundImage k ms (image-from (take L s)) w n d
+        sound-is = overview-sound k ms (image-from (take L s)) w n d (ap (λ (x : Inspected). overview x ms) (sym e) ∙ seen)
+
+        -- the image is accepted
+        pub is-accepted : AcceptedImage (take L s) n d
+        is-accepted = record { image = sound-is .image; is = sound-is .is; index-blocks = sound-is .index-blocks; data-blocks = sound-is .data-blocks }
+
+        -- with that many entries
+        pub words-are : (i : Image) → image-from (take L s) ≡ ok i → w ≡ length (entries-of i)
+        words-are i o = sound-is .words ∙ ap (λ (j : Image). length (entries-of j)) (same-value (sound-is .image) i (sym (sound-is .is) ∙ o))
+
+        -- and these free blocks
+        pub free-are : k ≡ 163_840 → (i : Image) → image-from (take L s) ≡ ok i → ms ≡ free-marks (i .frame .data-blocks) (i .free-list) ++ replicate (163_840 - i .frame .data-blocks) false
+        free-are long i o =
+            let j : sound-is .image ≡ i = same-value (sound-is .image) i (sym (sound-is .is) ∙ o) in
+            rw (← j, ← long) (sound-is .free)
+
+    -- ---- optimise
+    module _ (n d : ℕ) (a : AcceptedImage (take L s) n d) (t : Bool) (version : t ≡ writable layout4 s) where
+      -- row 11
+      pub optimise-eleven : not t ≡ true → length-answer (LengthAnswer.Refused 11) ≡ optimise s L work .answer
+      unfolding Calls.optimise Calls.optimise-plan Calls.optimise-result Calls.changed Answers.length-answer
+      optimise-eleven q = sym (rw (change-eleven n d a t version q))
+
+      -- it leaves the image
+      pub optimise-eleven-image : not t ≡ true → s ≡ optimise s L work .image
+      unfolding Calls.optimise Calls.optimise-plan Calls.optimise-result Calls.changed
+      optimise-eleven-image q = sym (rw (change-eleven n d a t version q))
+
+      module _ (q : not t ≡ false) (bytes : (k : ℕ) → getD s k 0 < 256) where
+        -- an optimising has room
+        fits : optimise-plan s L work ≡ ok (plan-packed (a .image .frame .format) (a .image .runs))
+        unfolding Calls.optimise-plan Calls.fitting Claim.optimise-placing Check.image-in Check.slice-ok
+        fits =
+            let got : image-in s L ≡ ok (a .image) = rw (le-ltb L 256 p₁, eq-eqb (L % 256) 0 p₂, le-ltb (length s) L p₃, a .is) in
+            rw (change-may n d a t version q, packed-room s L (a .image) got (all-bytes s bytes))
+
+        -- the new length
+        pub optimise-done : (old : List ℕ) → old ≡ take L s → (r : ℕ) → ((i : Image) → image-from old ≡ ok i → r ≡ plan-length (plan-packed (i .frame .format) (i .runs)))
+            → length-answer (LengthAnswer.Done r) ≡ optimise s L work .answer
+        unfolding Calls.optimise Calls.optimise-result Calls.changed Answers.length-answer
+        optimise-done old o r f = sym (rw (fits, f (a .image) (ap image-from o ∙ a .is)))
+
+        -- and the image
+        pub optimise-done-image : (old s′ : List ℕ) → old ≡ take L s
+            → ((i : Image) → image-from old ≡ ok i → s′ ≡ given-up-zeroed (length old) (plan-packed (i .frame .format) (i .runs)) (plan-written (plan-packed (i .frame .format) (i .runs)) s)) → s′ ≡ optimise s L work .image
+        unfolding Calls.optimise Calls.optimise-result Calls.changed
+        optimise-done-image old s′ o f =
+            let l : length old ≡ L = ap length o ∙ sym (front-long s L p₃) in
+            rw (fits) (rw l at (f (a .image) (ap image-from o ∙ a .is)))

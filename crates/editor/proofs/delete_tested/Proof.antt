@@ -1,0 +1,75 @@
+use mathlib.Core.Path.{_≡_, refl}
+use lib.ListN.{length, take}
+use Rattle.spec.specs.Outcome.{ok}
+use Rattle.spec.specs.Check.{Image, image-from, entries-of}
+use Rattle.marks.proofs.Laws.{marks-zero}
+use Rattle.inspect.specs.Overview.{AcceptedImage}
+use Rattle.editor.proofs.Rows.{front-long, front-header, front-blocks, is-accepted, words-are, free-are, delete-refused, delete-refused-image}
+use borrow.Author.Needs.{needs}
+use Rattle.editor.proofs.delete_tested.Statement.{statement}
+use Rattle.editor.proofs.delete_tested.Tie as tie
+
+-- the image is accepted
+accepted : (c : tie.After-known-told2) → AcceptedImage (take (c .before .before .before .before .before .before .before .before .before .before .args .len) (c .before .before .before .before .before .before .before .before .before .before .args .image .now)) (c .before .r2 .given .0 .1 .0) (c .before .r2 .given .0 .1 .1 .0)
+accepted c = search is-accepted
+
+-- with so many entries
+counted : (c : tie.After-known-told2) (i : Image) → image-from (take (c .before .before .before .before .before .before .before .before .before .before .args .len) (c .before .before .before .before .before .before .before .before .before .before .args .image .now)) ≡ ok i → c .before .r2 .given .0 .0 ≡ length (entries-of i)
+counted c = search words-are
+
+slice-reshare-prefix-inspect : tie.Need-slice-reshare-prefix-inspect
+slice-reshare-prefix-inspect c = search needs
+
+slice-aggregate-inspect : tie.Need-slice-aggregate-inspect
+slice-aggregate-inspect c = search front-long
+
+slice-aggregate-inspect-2 : tie.Need-slice-aggregate-inspect-2
+slice-aggregate-inspect-2 c = search needs
+
+inspect-requires : tie.Need-inspect-requires
+inspect-requires c κs = ((search front-header, search front-blocks, search needs), marks-zero 2560)
+
+enum-known-r : tie.Need-enum-known-r
+enum-known-r c = search needs
+
+enum-known-r-2 : tie.Need-enum-known-r-2
+enum-known-r-2 c = search needs
+
+slice-aggregate-delete-in : tie.Need-slice-aggregate-delete-in
+slice-aggregate-delete-in c = search needs
+
+delete-in-requires : tie.Need-delete-in-requires
+delete-in-requires c κs = (accepted (c .before .before .before), ((c .before .before .before .before .before .before .before .before .before .before .before .before .before .pre .0, c .before .before .before .before .before .before .before .before .before .before .before .before .before .pre .1, c .before .before .before .before .before .before .before .before .before .before .before .before .before .pre .2, c .before .before .before .before .before .before .before .before .before .before .before .before .before .pre .3, search needs), (search free-are, counted (c .before .before .before))))
+
+same-length : tie.Need-same-length
+same-length c = search needs
+
+returns : tie.Need-returns
+returns c = (search delete-refused, (search delete-refused-image, refl))
+
+same-length-2 : tie.Need-same-length-2
+same-length-2 c = search needs
+
+same-length-3 : tie.Need-same-length-3
+same-length-3 c = search needs
+
+returns-2 : tie.Need-returns-2
+returns-2 c = search needs
+
+pub delete-tested-spec : {M : Type 1} → statement M
+delete-tested-spec =
+    tie.close
+    (tie.spec
+    slice-reshare-prefix-inspect
+    slice-aggregate-inspect
+    slice-aggregate-inspect-2
+    inspect-requires
+    enum-known-r
+    enum-known-r-2
+    slice-aggregate-delete-in
+    delete-in-requires
+    same-length
+    returns
+    same-length-2
+    same-length-3
+    returns-2)

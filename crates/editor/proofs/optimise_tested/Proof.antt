@@ -1,0 +1,96 @@
+use mathlib.Core.Path.{_≡_, refl}
+use lib.ListN.{length, take}
+use Rattle.spec.specs.Outcome.{ok}
+use Rattle.spec.specs.Check.{Image, image-from, entries-of}
+use Rattle.inspect.specs.Overview.{AcceptedImage}
+use native.Mathlib.Omega.{arith}
+use Rattle.marks.proofs.Laws.{marks-zero}
+use Rattle.editor.proofs.Rows.{copy-is, copy-front, copy-inside, copy-accepted, copy-whole, copy-words, front-long, front-header, front-blocks, is-accepted, words-are, optimise-refused, optimise-refused-image, optimise-eleven, optimise-eleven-image, optimise-done, optimise-done-image}
+use borrow.Author.Needs.{needs}
+use Rattle.editor.proofs.optimise_tested.Statement.{statement}
+use Rattle.editor.proofs.optimise_tested.Tie as tie
+
+-- the image is accepted
+accepted : (c : tie.After-known-told2) → AcceptedImage (take (c .before .before .before .before .before .before .before .before .before .args .len) (c .before .before .before .before .before .before .before .before .before .args .image .now)) (c .before .r2 .given .0 .1 .0) (c .before .r2 .given .0 .1 .1 .0)
+accepted c = search is-accepted
+
+-- with so many entries
+counted : (c : tie.After-known-told2) (i : Image) → image-from (take (c .before .before .before .before .before .before .before .before .before .args .len) (c .before .before .before .before .before .before .before .before .before .args .image .now)) ≡ ok i → c .before .r2 .given .0 .0 ≡ length (entries-of i)
+counted c = search words-are
+
+slice-reshare-prefix-inspect : tie.Need-slice-reshare-prefix-inspect
+slice-reshare-prefix-inspect c = search needs
+
+slice-aggregate-inspect : tie.Need-slice-aggregate-inspect
+slice-aggregate-inspect c = search front-long
+
+slice-aggregate-inspect-2 : tie.Need-slice-aggregate-inspect-2
+slice-aggregate-inspect-2 c = search needs
+
+inspect-requires : tie.Need-inspect-requires
+inspect-requires c κs = ((search front-header, search front-blocks, search needs), marks-zero 1024)
+
+enum-known-r : tie.Need-enum-known-r
+enum-known-r c = search needs
+
+enum-known-r-2 : tie.Need-enum-known-r-2
+enum-known-r-2 c = search needs
+
+writable-requires : tie.Need-writable-requires
+writable-requires c κs = search needs
+
+same-length : tie.Need-same-length
+same-length c = search needs
+
+returns : tie.Need-returns
+returns c = (optimise-eleven _ _ _ (c .before .before .before .before .before .before .before .before .before .before .before .before .pre .0) (c .before .before .before .before .before .before .before .before .before .before .before .before .pre .1) (c .before .before .before .before .before .before .before .before .before .before .before .before .pre .2) (c .before .before .before .before .before .before .before .before .before .before .before .before .pre .3) _ _ (accepted (c .before .before .before)) _ (c .before .writable .ensures) (c .if1 .taken), (optimise-eleven-image _ _ (c .before .before .before .before .before .before .before .before .before .before .before .before .args .work .now) (c .before .before .before .before .before .before .before .before .before .before .before .before .pre .0) (c .before .before .before .before .before .before .before .before .before .before .before .before .pre .1) (c .before .before .before .before .before .before .before .before .before .before .before .before .pre .2) (c .before .before .before .before .before .before .before .before .before .before .before .before .pre .3) _ _ (accepted (c .before .before .before)) _ (c .before .writable .ensures) (c .if1 .taken), refl))
+
+copy-requires : tie.Need-copy-requires
+copy-requires c κs = search needs
+
+slice-reshare-prefix-pack : tie.Need-slice-reshare-prefix-pack
+slice-reshare-prefix-pack c = search needs
+
+slice-aggregate-pack : tie.Need-slice-aggregate-pack
+slice-aggregate-pack c = front-long (c .before .before .before .before .copy .last .0) (c .before .before .before .before .before .before .before .before .before .before .before .before .before .before .before .before .before .before .before .args .len) (omega arith)
+
+pack-requires : tie.Need-pack-requires
+pack-requires c κs = (copy-accepted _ _ (c .before .before .before .before .before .before .before .before .before .before .before .before .before .before .before .before .before .before .before .pre .2) _ _ (c .before .before .before .before .copy .ensures .0) _ _ (accepted (c .before .before .before .before .before .before .before .before .before .before)), ((copy-front _ _ (c .before .before .before .before .before .before .before .before .before .before .before .before .before .before .before .before .before .before .before .pre .2) _ _ (c .before .before .before .before .copy .ensures .0), copy-whole _ _ (c .before .before .before .before .before .before .before .before .before .before .before .before .before .before .before .before .before .before .before .pre .2) _ _ (c .before .before .before .before .copy .ensures .0) _ _ (accepted (c .before .before .before .before .before .before .before .before .before .before)) (c .before .before .before .before .before .before .before .before .before .before .before .before .before .before .before .before .before .before .before .pre .1), copy-inside _ _ (c .before .before .before .before .before .before .before .before .before .before .before .before .before .before .before .before .before .before .before .pre .2) _ _ (c .before .before .before .before .copy .ensures .0)), copy-words _ _ (c .before .before .before .before .before .before .before .before .before .before .before .before .before .before .before .before .before .before .before .pre .2) _ _ (c .before .before .before .before .copy .ensures .0) _ (counted (c .before .before .before .before .before .before .before .before .before .before))))
+
+same-length-2 : tie.Need-same-length-2
+same-length-2 c = search needs
+
+returns-2 : tie.Need-returns-2
+returns-2 c = (search optimise-refused, (search optimise-refused-image, refl))
+
+same-length-3 : tie.Need-same-length-3
+same-length-3 c = search needs
+
+same-length-4 : tie.Need-same-length-4
+same-length-4 c = search needs
+
+returns-3 : tie.Need-returns-3
+returns-3 c = (optimise-done _ _ _ (c .before .before .before .before .before .before .before .before .before .before .before .before .before .before .before .before .before .before .before .before .before .before .pre .0) (c .before .before .before .before .before .before .before .before .before .before .before .before .before .before .before .before .before .before .before .before .before .before .pre .1) (c .before .before .before .before .before .before .before .before .before .before .before .before .before .before .before .before .before .before .before .before .before .before .pre .2) (c .before .before .before .before .before .before .before .before .before .before .before .before .before .before .before .before .before .before .before .before .before .before .pre .3) _ _ (accepted (c .before .before .before .before .before .before .before .before .before .before .before .before .before)) _ (c .before .before .before .before .before .before .before .before .before .before .before .writable .ensures) (c .before .before .before .before .before .before .before .before .before .before .if1 .left) (λ k. omega (arith, c .before .before .before .before .before .before .before .before .before .before .before .before .before .before .before .before .before .before .before .before .before .slice-known .given k)) _ (copy-is _ _ (c .before .before .before .before .before .before .before .before .before .before .before .before .before .before .before .before .before .before .before .before .before .before .pre .2) _ _ (c .before .before .before .before .before .before .before .copy .ensures .0)) _ (c .before .before .pack .ensures .1 .0), (optimise-done-image _ _ (c .before .before .before .before .before .before .before .before .before .before .before .before .before .before .before .before .before .before .before .before .before .before .args .work .now) (c .before .before .before .before .before .before .before .before .before .before .before .before .before .before .before .before .before .before .before .before .before .before .pre .0) (c .before .before .before .before .before .before .before .before .before .before .before .before .before .before .before .before .before .before .before .before .before .before .pre .1) (c .before .before .before .before .before .before .before .before .before .before .before .before .before .before .before .before .before .before .before .before .before .before .pre .2) (c .before .before .before .before .before .before .before .before .before .before .before .before .before .before .before .before .before .before .before .before .before .before .pre .3) _ _ (accepted (c .before .before .before .before .before .before .before .before .before .before .before .before .before)) _ (c .before .before .before .before .before .before .before .before .before .before .before .writable .ensures) (c .before .before .before .before .before .before .before .before .before .before .if1 .left) (λ k. omega (arith, c .before .before .before .before .before .before .before .before .before .before .before .before .before .before .before .before .before .before .before .before .before .slice-known .given k)) _ _ (copy-is _ _ (c .before .before .before .before .before .before .before .before .before .before .before .before .before .before .before .before .before .before .before .before .before .before .pre .2) _ _ (c .before .before .before .before .before .before .before .copy .ensures .0)) (c .before .before .pack .ensures .0), c .before .before .before .before .before .before .before .copy .ensures .1))
+
+pub optimise-tested-spec : {M : Type 1} → statement M
+optimise-tested-spec =
+    tie.close
+    (tie.spec
+    slice-reshare-prefix-inspect
+    slice-aggregate-inspect
+    slice-aggregate-inspect-2
+    inspect-requires
+    enum-known-r
+    enum-known-r-2
+    writable-requires
+    same-length
+    returns
+    copy-requires
+    slice-reshare-prefix-pack
+    slice-aggregate-pack
+    pack-requires
+    same-length-2
+    returns-2
+    same-length-3
+    same-length-4
+    returns-3)

@@ -1,0 +1,301 @@
+// The changing calls: create, insert, delete and optimise.
+ghost use mathlib.Core.Path.{_≡_};
+ghost use mathlib.Core.Bool.{false};
+ghost use mathlib.Core.List.{_++_};
+ghost use Prim.Native.Nat.{_+_, _-_, _*_, _%_, _<_, _≤_};
+ghost use lib.ListN.{length, take, replicate};
+ghost use Rattle.spec.specs.Outcome.{ok};
+ghost use Rattle.spec.specs.Blocks.{free-marks};
+ghost use Rattle.spec.specs.Check.{Image, image-from, entries-of};
+ghost use Rattle.spec.specs.SortedList.{lookup};
+ghost use Rattle.spec.specs.Calls.{create, insert, delete, optimise};
+ghost use Rattle.spec.specs.Answers.{length-answer, delete-answer};
+ghost use Rattle.marks.specs.Marks.{marks};
+ghost use Rattle.inspect.specs.Overview.{AcceptedImage};
+ghost use Rattle.editor.specs.Entered.{is-there, words-after};
+use inspect::Inspected;
+use seek::Spot;
+use spec::DeleteAnswer;
+use spec::LengthAnswer;
+
+// Create: an empty image.
+pub fn create(image: &mut [u8]) -> LengthAnswer
+    ensures { λ r. ⌜ record { answer = length-answer r; image = now (image .exit) } ≡ create (now (image .entry)) ⌝ }
+{
+    if image.len() < 256 {
+        return LengthAnswer::Refused(1);
+    }
+    header::write_empty(image);
+    LengthAnswer::Done(256)
+}
+
+// Whether an accepted image of n index blocks and d data blocks has an entry with that headword.
+fn has_entry(image: &[u8], n: usize, d: usize, headword: &[u8]) -> bool
+    requires { ⌜ AcceptedImage (now image) n d ⌝ }
+    requires { ⌜ (256 ≤ length (now image)) × (length (now image) % 256 ≡ 0) × (256 + 256 * n ≤ length (now image)) ⌝ }
+    ensures { λ r. ⌜ ((i : Image) → image-from (now (image .entry)) ≡ ok i → r ≡ is-there (lookup (now (headword .entry)) (entries-of i))) ⌝ }
+{
+    let start = 256 + 256 * n;
+    let mut word = [0u8; 256];
+    let found = seek::seek(
+        &image[256..start],
+        header::nindex2(image),
+        &image[start..],
+        d,
+        false,
+        headword,
+        &mut word,
+    );
+    match found {
+        Spot::Absent => false,
+        Spot::At {
+            length,
+            zero: _,
+            next: _,
+        } => scans::is_equal(&word[..length], headword),
+    }
+}
+
+// How many entries there are after an insertion.
+fn words_after(words: usize, replaced: bool) -> usize
+    requires { ⌜ words < 4294967296 ⌝ }
+    ensures { λ r. ⌜ r ≡ words-after words replaced ⌝ }
+{
+    if replaced {
+        return words;
+    }
+    words + 1
+}
+
+// Insert in an accepted image: rows 11, 12, 13 and 15, and the insertion.
+fn insert_in(
+    image: &mut [u8],
+    len: usize,
+    work: &mut [u8],
+    n: usize,
+    d: usize,
+    words: usize,
+    free: &mut [u64],
+    headword: &[u8],
+    attribute: u8,
+    text: &[u8],
+) -> LengthAnswer
+    requires { ⌜ AcceptedImage (take len (now image)) n d ⌝ }
+    requires { ⌜ (256 ≤ len) × (len % 256 ≡ 0) × (len ≤ length (now image)) × (length (now image) ≤ length (now work)) × (length (now free) ≡ 2560) ⌝ }
+    requires { ⌜ ((i : Image) → image-from (take len (now image)) ≡ ok i → marks (now free) ≡ free-marks (i .frame .data-blocks) (i .free-list) ++ replicate (163840 - i .frame .data-blocks) false) ⌝ }
+    requires { ⌜ ((i : Image) → image-from (take len (now image)) ≡ ok i → words ≡ length (entries-of i)) ⌝ }
+    requires { ⌜ words < 4294967296 ⌝ }
+    ensures { λ r. ⌜ length-answer r ≡ insert (now (image .entry)) len (now (work .entry)) (now (headword .entry)) attribute (now (text .entry)) .answer ⌝ }
+    ensures { λ r. ⌜ now (image .exit) ≡ insert (now (image .entry)) len (now (work .entry)) (now (headword .entry)) attribute (now (text .entry)) .image ⌝ }
+    ensures { λ r. ⌜ length (now (work .exit)) ≡ length (now (work .entry)) ⌝ }
+{
+    if !header::writable(image) {
+        return LengthAnswer::Refused(11);
+    }
+    if !runs::headword_ok(headword) {
+        return LengthAnswer::Refused(12);
+    }
+    if !runs::text_ok(text) {
+        return LengthAnswer::Refused(13);
+    }
+    if !runs::attribute_ok(attribute) {
+        return LengthAnswer::Refused(13);
+    }
+    let mut body = [0u8; 3001];
+    byteops::write_u8(&mut body, 0, attribute);
+    byteops::copy(&mut body, 1, text, 0, text.len());
+    let all = words_after(words, has_entry(&image[..len], n, d, headword));
+    let r = change::change(
+        image,
+        len,
+        work,
+        n,
+        d,
+        free,
+        headword,
+        &body[..1 + text.len()],
+        true,
+        all,
+    );
+    if r == 0 {
+        return LengthAnswer::Refused(15);
+    }
+    LengthAnswer::Done(r)
+}
+
+// Insert: rows 3 on.
+fn insert_tested(
+    image: &mut [u8],
+    len: usize,
+    work: &mut [u8],
+    headword: &[u8],
+    attribute: u8,
+    text: &[u8],
+) -> LengthAnswer
+    requires { ⌜ (256 ≤ len) × (len % 256 ≡ 0) × (len ≤ length (now image)) × (length (now image) ≤ length (now work)) ⌝ }
+    ensures { λ r. ⌜ length-answer r ≡ insert (now (image .entry)) len (now (work .entry)) (now (headword .entry)) attribute (now (text .entry)) .answer ⌝ }
+    ensures { λ r. ⌜ now (image .exit) ≡ insert (now (image .entry)) len (now (work .entry)) (now (headword .entry)) attribute (now (text .entry)) .image ⌝ }
+    ensures { λ r. ⌜ length (now (work .exit)) ≡ length (now (work .entry)) ⌝ }
+{
+    let mut free = [0u64; 2560];
+    let r = inspect::inspect(&image[..len], &mut free);
+    match r {
+        Inspected::Refused(k) => LengthAnswer::Refused(k),
+        Inspected::Sound { words, index, area } => insert_in(
+            image,
+            len,
+            work,
+            index,
+            area,
+            words,
+            &mut free,
+            headword,
+            attribute,
+            text,
+        ),
+    }
+}
+
+// Insert: the entry with that headword is added or replaced.
+pub fn insert(
+    image: &mut [u8],
+    len: usize,
+    work: &mut [u8],
+    headword: &[u8],
+    attribute: u8,
+    text: &[u8],
+) -> LengthAnswer
+    ensures { λ r. ⌜ record { answer = length-answer r; image = now (image .exit); work = now (work .exit) } ≡ insert (now (image .entry)) len (now (work .entry)) (now (headword .entry)) attribute (now (text .entry)) ⌝ }
+{
+    if !header::slice_ok(image, len) {
+        return LengthAnswer::Refused(1);
+    }
+    if work.len() < image.len() {
+        return LengthAnswer::Refused(2);
+    }
+    let r = insert_tested(image, len, work, headword, attribute, text);
+    byteops::fill_zero(work, 0, work.len());
+    r
+}
+
+// Delete in an accepted image: rows 11, 12 and 15, and the deletion.
+fn delete_in(
+    image: &mut [u8],
+    len: usize,
+    work: &mut [u8],
+    n: usize,
+    d: usize,
+    words: usize,
+    free: &mut [u64],
+    headword: &[u8],
+) -> DeleteAnswer
+    requires { ⌜ AcceptedImage (take len (now image)) n d ⌝ }
+    requires { ⌜ (256 ≤ len) × (len % 256 ≡ 0) × (len ≤ length (now image)) × (length (now image) ≤ length (now work)) × (length (now free) ≡ 2560) ⌝ }
+    requires { ⌜ ((i : Image) → image-from (take len (now image)) ≡ ok i → marks (now free) ≡ free-marks (i .frame .data-blocks) (i .free-list) ++ replicate (163840 - i .frame .data-blocks) false) ⌝ }
+    requires { ⌜ ((i : Image) → image-from (take len (now image)) ≡ ok i → words ≡ length (entries-of i)) ⌝ }
+    ensures { λ r. ⌜ delete-answer r ≡ delete (now (image .entry)) len (now (work .entry)) (now (headword .entry)) .answer ⌝ }
+    ensures { λ r. ⌜ now (image .exit) ≡ delete (now (image .entry)) len (now (work .entry)) (now (headword .entry)) .image ⌝ }
+    ensures { λ r. ⌜ length (now (work .exit)) ≡ length (now (work .entry)) ⌝ }
+{
+    if !header::writable(image) {
+        return DeleteAnswer::Refused(11);
+    }
+    if !runs::headword_ok(headword) {
+        return DeleteAnswer::Refused(12);
+    }
+    if !has_entry(&image[..len], n, d, headword) {
+        return DeleteAnswer::Absent;
+    }
+    let none = [0u8; 1];
+    let r = change::change(
+        image,
+        len,
+        work,
+        n,
+        d,
+        free,
+        headword,
+        &none,
+        false,
+        words - 1,
+    );
+    if r == 0 {
+        return DeleteAnswer::Refused(15);
+    }
+    DeleteAnswer::Removed(r)
+}
+
+// Delete: rows 3 on.
+fn delete_tested(image: &mut [u8], len: usize, work: &mut [u8], headword: &[u8]) -> DeleteAnswer
+    requires { ⌜ (256 ≤ len) × (len % 256 ≡ 0) × (len ≤ length (now image)) × (length (now image) ≤ length (now work)) ⌝ }
+    ensures { λ r. ⌜ delete-answer r ≡ delete (now (image .entry)) len (now (work .entry)) (now (headword .entry)) .answer ⌝ }
+    ensures { λ r. ⌜ now (image .exit) ≡ delete (now (image .entry)) len (now (work .entry)) (now (headword .entry)) .image ⌝ }
+    ensures { λ r. ⌜ length (now (work .exit)) ≡ length (now (work .entry)) ⌝ }
+{
+    let mut free = [0u64; 2560];
+    let r = inspect::inspect(&image[..len], &mut free);
+    match r {
+        Inspected::Refused(k) => DeleteAnswer::Refused(k),
+        Inspected::Sound { words, index, area } => delete_in(
+            image,
+            len,
+            work,
+            index,
+            area,
+            words,
+            &mut free,
+            headword,
+        ),
+    }
+}
+
+// Delete: the entry with that headword goes.
+pub fn delete(image: &mut [u8], len: usize, work: &mut [u8], headword: &[u8]) -> DeleteAnswer
+    ensures { λ r. ⌜ record { answer = delete-answer r; image = now (image .exit); work = now (work .exit) } ≡ delete (now (image .entry)) len (now (work .entry)) (now (headword .entry)) ⌝ }
+{
+    if !header::slice_ok(image, len) {
+        return DeleteAnswer::Refused(1);
+    }
+    if work.len() < image.len() {
+        return DeleteAnswer::Refused(2);
+    }
+    let r = delete_tested(image, len, work, headword);
+    byteops::fill_zero(work, 0, work.len());
+    r
+}
+
+// Optimise: rows 3 on.
+fn optimise_tested(image: &mut [u8], len: usize, work: &mut [u8]) -> LengthAnswer
+    requires { ⌜ (256 ≤ len) × (len % 256 ≡ 0) × (len ≤ length (now image)) × (length (now image) ≤ length (now work)) ⌝ }
+    ensures { λ r. ⌜ length-answer r ≡ optimise (now (image .entry)) len (now (work .entry)) .answer ⌝ }
+    ensures { λ r. ⌜ now (image .exit) ≡ optimise (now (image .entry)) len (now (work .entry)) .image ⌝ }
+    ensures { λ r. ⌜ length (now (work .exit)) ≡ length (now (work .entry)) ⌝ }
+{
+    let mut free = [0u64; 1024];
+    let r = inspect::inspect(&image[..len], &mut free);
+    match r {
+        Inspected::Refused(k) => LengthAnswer::Refused(k),
+        Inspected::Sound { words, index, area } => {
+            if !header::writable(image) {
+                return LengthAnswer::Refused(11);
+            }
+            byteops::copy(work, 0, image, 0, len);
+            LengthAnswer::Done(pack::pack(image, &work[..len], index, area, words))
+        }
+    }
+}
+
+// Optimise: the runs one after the other, no free block.
+pub fn optimise(image: &mut [u8], len: usize, work: &mut [u8]) -> LengthAnswer
+    ensures { λ r. ⌜ record { answer = length-answer r; image = now (image .exit); work = now (work .exit) } ≡ optimise (now (image .entry)) len (now (work .entry)) ⌝ }
+{
+    if !header::slice_ok(image, len) {
+        return LengthAnswer::Refused(1);
+    }
+    if work.len() < image.len() {
+        return LengthAnswer::Refused(2);
+    }
+    let r = optimise_tested(image, len, work);
+    byteops::fill_zero(work, 0, work.len());
+    r
+}

@@ -1,0 +1,305 @@
+/* Wrong engines, continued: the calls that change an image. Each is done right on the slices lent,
+   then spoiled in the one way that WRONG names. */
+
+#include <stddef.h>
+#include <stdint.h>
+#include <stdlib.h>
+#include <string.h>
+
+uint32_t right_pdic_create(uint8_t *image, size_t image_size, size_t *new_len);
+uint32_t right_pdic_insert(uint8_t *image, size_t image_size, size_t len, uint8_t *work, size_t work_size,
+                           const uint8_t *headword, size_t headword_size, uint8_t attribute,
+                           const uint8_t *text, size_t text_size, size_t *new_len);
+uint32_t right_pdic_delete(uint8_t *image, size_t image_size, size_t len, uint8_t *work, size_t work_size,
+                           const uint8_t *headword, size_t headword_size, size_t *new_len);
+uint32_t right_pdic_optimise(uint8_t *image, size_t image_size, size_t len, uint8_t *work, size_t work_size,
+                             size_t *new_len);
+
+static int is(const char *name) {
+    const char *way = getenv("WRONG");
+    return way != NULL && strcmp(way, name) == 0;
+}
+
+static uint32_t two(const uint8_t *p) { return p[0] | (uint32_t)p[1] << 8; }
+static uint32_t four(const uint8_t *p) { return two(p) | two(p + 2) << 16; }
+static void put_two(uint8_t *p, uint32_t v) { p[0] = (uint8_t)v, p[1] = (uint8_t)(v >> 8); }
+static void put_four(uint8_t *p, uint32_t v) { put_two(p, v), put_two(p + 2, v >> 16); }
+
+enum { INSERT, DELETE, OPTIMISE };
+#define CHAIN_END 0xFFFFFFFFu
+
+/* A call: what was lent, and copies from before it. */
+typedef struct {
+    int kind;
+    uint8_t *image, *work, *image_before, *work_before;
+    size_t image_size, len, work_size;
+    const uint8_t *headword;
+    size_t headword_size;
+    size_t *new_len, new_len_before;
+} call;
+
+static void take_back(call *c) {
+    memcpy(c->image, c->image_before, c->image_size);
+    *c->new_len = c->new_len_before;
+}
+
+static uint32_t index_blocks(const uint8_t *image) { return two(image + 148); }
+static uint8_t *block(uint8_t *image, uint32_t number) {
+    return image + 256 * (1 + (size_t)index_blocks(image) + number);
+}
+
+/* The element of an image at a place; NULL past the last. */
+static uint8_t *element(uint8_t *image, uint32_t place) {
+    if (place >= four(image + 190)) return NULL;
+    uint8_t *at = image + 256;
+    while (place--) at += 2 + strlen((char *)at + 2) + 1;
+    return at;
+}
+
+/* The place of the last element not above a headword, else 0. */
+static uint32_t concerned(uint8_t *image, const uint8_t *headword, size_t size) {
+    uint32_t found = 0, elements = four(image + 190);
+    const char *word = (const char *)image + 256 + 2;
+    for (uint32_t i = 0; i < elements; i++) {
+        size_t length = strlen(word), common = length < size ? length : size;
+        int order = memcmp(word, headword, common);
+        if (order < 0 || (order == 0 && length <= size)) found = i;
+        word += length + 1 + 2;
+    }
+    return found;
+}
+
+/* Behind a run's end marks. */
+static uint8_t *behind_marks(uint8_t *run) {
+    uint8_t *at = run + 2;
+    while (two(at)) at += 3 + two(at);
+    return at + 2;
+}
+
+static uint8_t *run_end(uint8_t *run) { return run + 256 * (size_t)two(run); }
+
+/* Every number of the chain goes up. */
+static void shift_chain(uint8_t *image, uint32_t by) {
+    uint8_t *link = image + 186;
+    while (four(link) != CHAIN_END) {
+        uint32_t number = four(link);
+        put_four(link, number + by);
+        link = block(image, number) + 2;
+    }
+}
+
+/* The chain from its last block to its first. */
+static void turn_chain(uint8_t *image) {
+    uint32_t before = CHAIN_END, number = four(image + 186);
+    while (number != CHAIN_END) {
+        uint8_t *link = block(image, number) + 2;
+        uint32_t next = four(link);
+        put_four(link, before);
+        before = number;
+        number = next;
+    }
+    put_four(image + 186, before);
+}
+
+/* An entry with a shared front gets one that is a byte shorter, if its run has a byte left. */
+static void shorten_front(uint8_t *run) {
+    uint8_t headword[256];
+    uint8_t *end = behind_marks(run);
+    if (end == run_end(run)) return;
+    for (uint8_t *at = run + 2; two(at); at += 3 + two(at)) {
+        uint8_t front = at[2];
+        if (front > 0) {
+            memmove(at + 4, at + 3, (size_t)(end - (at + 3)));
+            at[3] = headword[front - 1];
+            at[2] = front - 1;
+            put_two(at, two(at) + 1);
+            return;
+        }
+        strcpy((char *)headword + front, (char *)at + 3);
+    }
+}
+
+/* The deleted headword stands in the index again, where the one in its place is as long. */
+static void old_headword(call *c) {
+    uint32_t place = concerned(c->image_before, c->headword, c->headword_size);
+    uint8_t *old = element(c->image_before, place), *now = element(c->image, place);
+    if (now && strlen((char *)now + 2) == c->headword_size && strlen((char *)old + 2) == c->headword_size &&
+        memcmp(old + 2, c->headword, c->headword_size) == 0 &&
+        four(c->image + 190) == four(c->image_before + 190))
+        memcpy(now + 2, c->headword, c->headword_size);
+}
+
+/* The run that was placed goes to the highest stretch that is just as long, if it filled its own. */
+static void place_highest(call *c) {
+    uint8_t *image = c->image, *at = element(image, concerned(image, c->headword, c->headword_size));
+    if (!at) return;
+    uint32_t data = (uint32_t)(*c->new_len / 256) - 1 - index_blocks(image);
+    uint32_t from = two(at), size = two(block(image, from)), to = 0, found = 0;
+    uint8_t *is_free = calloc(data + 1, 1);
+    for (uint32_t n = four(image + 186); n != CHAIN_END; n = four(block(image, n) + 2)) is_free[n] = 1;
+    if (!is_free[from + size])
+        for (uint32_t n = from + size, length = 0; n <= data; n++) {
+            if (is_free[n]) length++;
+            else {
+                if (length == size) to = n - size, found = 1;
+                length = 0;
+            }
+        }
+    if (found) {
+        memcpy(block(image, to), block(image, from), 256 * (size_t)size);
+        memset(is_free + from, 1, size);
+        memset(is_free + to, 0, size);
+        put_two(at, to);
+        uint8_t *link = image + 186;
+        for (uint32_t n = 0; n < data; n++)
+            if (is_free[n]) {
+                put_four(link, n);
+                put_two(block(image, n), 0);
+                link = block(image, n) + 2;
+            }
+        put_four(link, CHAIN_END);
+    }
+    free(is_free);
+}
+
+/* What is spoiled after a call that was done. */
+static uint32_t done_wrong(call *c) {
+    static int insertions;
+    uint8_t *image = c->image;
+    uint32_t grown = index_blocks(image) - index_blocks(c->image_before);
+    uint32_t data = (uint32_t)(*c->new_len / 256) - 1 - index_blocks(image);
+    uint32_t place = c->kind == OPTIMISE ? 0 : concerned(image, c->headword, c->headword_size);
+    uint8_t *at = element(image, place), *run = at ? block(image, two(at)) : NULL;
+    if (c->kind == INSERT) {
+        insertions++;
+        if (is("15-without-placing")) {
+            take_back(c);
+            return 15;
+        }
+        if (is("image-untouched")) memcpy(image, c->image_before, c->image_size);
+        if (is("first-call-only") && insertions > 1) {
+            take_back(c);
+            *c->new_len = c->len;
+        }
+        if (is("same-entry-ignored") && four(image + 160) == four(c->image_before + 160)) {
+            /* Nothing but the update count would differ. */
+            uint8_t count[4];
+            memcpy(count, image + 208, 4);
+            memcpy(image + 208, c->image_before + 208, 4);
+            if (memcmp(image, c->image_before, c->image_size) != 0) memcpy(image + 208, count, 4);
+        }
+        if (is("replaced-counted") && four(image + 160) == four(c->image_before + 160))
+            put_four(image + 160, four(image + 160) + 1);
+        if (is("L-one-block-more")) *c->new_len += 256;
+        if (is("behind-end-marks") && run && behind_marks(run) != run_end(run)) run_end(run)[-1] = 1;
+        if (is("touch-behind-new-L") && *c->new_len < c->image_size) image[*c->new_len] ^= 1;
+        if (is("byte-past-image")) image[c->image_size] ^= 1;
+        if (is("highest-of-equals")) place_highest(c);
+        if (is("full-slice-refused") && *c->new_len == c->image_size) {
+            take_back(c);
+            return 15;
+        }
+    }
+    if (c->kind == DELETE && is("old-headword-in-index")) old_headword(c);
+    if (c->kind != OPTIMISE) {
+        if (is("front-shorter") && run) shorten_front(run);
+        if (is("chain-not-renumbered") && grown > 0) shift_chain(image, grown);
+        if (is("moved-run-trimmed") && grown > 0)
+            for (uint32_t i = 0; (at = element(image, i)); i++) {
+                uint8_t *r = block(image, two(at));
+                memset(behind_marks(r), 0, (size_t)(run_end(r) - behind_marks(r)));
+            }
+        if (is("chain-descending")) turn_chain(image);
+        if (is("free-block-wiped"))
+            for (uint32_t n = four(image + 186); n != CHAIN_END; n = four(block(image, n) + 2))
+                memset(block(image, n) + 6, 0, 250);
+    }
+    if (c->kind == OPTIMISE) {
+        if (is("optimise-zeroes-too-far")) memset(image + *c->new_len, 0, c->image_size - *c->new_len);
+        if (is("optimise-keeps-old-bytes"))
+            memcpy(image + *c->new_len, c->image_before + *c->new_len, c->len - *c->new_len);
+        if (is("optimise-not-counted") && *c->new_len == c->len)
+            memcpy(image + 208, c->image_before + 208, 4);
+    }
+    if (is("count-not-wrapped") && four(image + 208) == 0) put_four(image + 208, CHAIN_END);
+    if (is("empty_block-written")) put_two(image + 154, 0xFFFF);
+    if (is("work-kept-past-L")) memcpy(c->work + c->len, c->work_before + c->len, c->work_size - c->len);
+    if ((is("15-at-index-32767") && index_blocks(image) == 32767) ||
+        (is("15-at-data-65536") && data == 65536)) {
+        take_back(c);
+        return 15;
+    }
+    return 0;
+}
+
+/* What is spoiled after a call that was refused or found nothing. */
+static uint32_t refused_wrong(call *c, uint32_t number) {
+    if (is("L-on-refusal") && number != 100) *c->new_len = c->len;
+    if (is("L-on-absent") && number == 100) *c->new_len = c->len;
+    if (is("absent-counted") && number == 100) put_four(c->image + 208, four(c->image + 208) + 1);
+    if (is("work-zeroed-on-2") && number == 2) memset(c->work, 0, c->work_size);
+    if (is("work-kept-on-12") && number == 12) memcpy(c->work, c->work_before, c->work_size);
+    if (is("work-kept-on-15") && number == 15) memcpy(c->work, c->work_before, c->work_size);
+    if (is("half-done-on-15") && number == 15) c->image[c->len - 1] ^= 1;
+    if (is("12-before-11") && number == 11 && c->kind != OPTIMISE && c->headword_size == 0) return 12;
+    if (is("absent-as-12") && number == 100) return 12;
+    if (is("crash-on-15") && number == 15) *(volatile int *)0 = 0;
+    return number;
+}
+
+static uint8_t *copy(const uint8_t *from, size_t size) {
+    uint8_t *to = malloc(size + 1);
+    memcpy(to, from, size);
+    return to;
+}
+
+static call before(int kind, uint8_t *image, size_t image_size, size_t len, uint8_t *work, size_t work_size,
+                   const uint8_t *headword, size_t headword_size, size_t *new_len) {
+    return (call){ kind, image, work, copy(image, image_size), copy(work, work_size), image_size, len,
+                   work_size, headword, headword_size, new_len, *new_len };
+}
+
+static uint32_t after(call *c, uint32_t number) {
+    number = number == 0 ? done_wrong(c) : refused_wrong(c, number);
+    free(c->image_before);
+    free(c->work_before);
+    return number;
+}
+
+uint32_t pdic_create(uint8_t *image, size_t image_size, size_t *new_len) {
+    if (is("create-in-255") && image_size == 255) return 0;
+    uint32_t number = right_pdic_create(image, image_size, new_len);
+    if (is("create-clears-all") && number == 0) memset(image + 256, 0, image_size - 256);
+    return number;
+}
+
+uint32_t pdic_insert(uint8_t *image, size_t image_size, size_t len, uint8_t *work, size_t work_size,
+                     const uint8_t *headword, size_t headword_size, uint8_t attribute, const uint8_t *text,
+                     size_t text_size, size_t *new_len) {
+    if (is("text-first") && text_size > 3000) return 13;
+    if (is("text-16-bits")) text_size = (uint16_t)text_size;
+    if (is("attribute-high-bit-only")) attribute &= 0xEF;
+    call c = before(INSERT, image, image_size, len, work, work_size, headword, headword_size, new_len);
+    uint32_t number = right_pdic_insert(image, image_size, len, work, work_size, headword, headword_size,
+                                        attribute, text, text_size, new_len);
+    if (is("version-16-changed") && number == 11) {
+        uint8_t version = image[140];
+        image[140] = 0;
+        number = right_pdic_insert(image, image_size, len, work, work_size, headword, headword_size,
+                                   attribute, text, text_size, new_len);
+        image[140] = version;
+    }
+    return after(&c, number);
+}
+
+uint32_t pdic_delete(uint8_t *image, size_t image_size, size_t len, uint8_t *work, size_t work_size,
+                     const uint8_t *headword, size_t headword_size, size_t *new_len) {
+    call c = before(DELETE, image, image_size, len, work, work_size, headword, headword_size, new_len);
+    return after(&c, right_pdic_delete(image, image_size, len, work, work_size, headword, headword_size, new_len));
+}
+
+uint32_t pdic_optimise(uint8_t *image, size_t image_size, size_t len, uint8_t *work, size_t work_size,
+                       size_t *new_len) {
+    call c = before(OPTIMISE, image, image_size, len, work, work_size, NULL, 0, new_len);
+    return after(&c, right_pdic_optimise(image, image_size, len, work, work_size, new_len));
+}
