@@ -1,9 +1,9 @@
 -- The start of a change and its end, as code takes them.
-use Prim.Native.Nat.{ℕ, zero, suc, _+_, _-_, _*_, _%_, _≤_, _<_, max}
-use mathlib.Core.Path.{_≡_, refl, sym, ap, ap₂, subst, _∙_}
+use Prim.Native.Nat.{ℕ, _+_, _-_, _*_, _%_, _≤_, _<_, max}
+use mathlib.Core.Path.{_≡_, refl, sym, ap, subst, _∙_}
 use mathlib.Core.Logic.{_⊎_, inl, inr}
 use mathlib.Core.Bool.{Bool, true, false}
-use mathlib.Core.List.{List, [], _∷_, _++_, map}
+use mathlib.Core.List.{List, _∷_, _++_, map}
 use native.Mathlib.Omega.{arith}
 use lib.ListN.{length, take, drop, replicate, length-take}
 use lib.Seq.{length-take-le}
@@ -18,7 +18,7 @@ use Rattle.spec.specs.Blocks.{free-marks}
 use Rattle.spec.specs.Check as Check
 use Rattle.spec.specs.Check.{Image, image-from, runs-from, all-entries}
 use Rattle.spec.specs.Place as Place
-use Rattle.spec.specs.Place.{Plan, target-run, cut, new-run, element-of, grown, plan-full, plan-written}
+use Rattle.spec.specs.Place.{target-run, cut, new-run, element-of, grown, plan-full}
 use Rattle.spec.specs.Calls.{plan-length}
 use Rattle.spec.proofs.ListsLaws.{All, all-back}
 use Rattle.spec.proofs.OutcomeLaws.{same-value}
@@ -26,7 +26,7 @@ use Rattle.spec.proofs.ReadLaws.{run-told, image-told}
 use Rattle.spec.proofs.PlanLaws.{SoundPlan}
 use Rattle.marks.specs.Marks.{marks, with-range}
 use Rattle.marks.proofs.Laws.{length-marks}
-use Rattle.index.specs.Elements.{elements-at, Inside}
+use Rattle.index.specs.Elements.{elements-at}
 use Rattle.elements.specs.Renewed.{elements-end}
 use Rattle.header.proofs.Laws.{frame-index-few}
 use Rattle.inspect.specs.Overview.{AcceptedImage}
@@ -87,10 +87,7 @@ end-planned o v ws ws₁ t h body fresh from r ms e f w =
 pub marks-long : (ws : List ℕ) → length ws ≡ 2560 → length (marks ws) ≡ 163_840
 marks-long ws e = omega (arith, length-marks ws)
 
-module _ (s : List ℕ) (L : ℕ) (v : Outline) (T : List ℕ) (ms : List Bool) (t : Target) (h body : List ℕ) (fresh : Bool) (r : Ready (take L s) v T ms t h body fresh) where
-  abbrev o : List ℕ
-  o = take L s
-
+module _ (o : List ℕ) (v : Outline) (T : List ℕ) (ms : List Bool) (t : Target) (h body : List ℕ) (fresh : Bool) (r : Ready o v T ms t h body fresh) where
   -- the run concerned has no more blocks than a run can have
   pub run-few : t .size ≤ 32_767
   run-few = go (r .told .run)
@@ -112,6 +109,10 @@ module _ (s : List ℕ) (L : ℕ) (v : Outline) (T : List ℕ) (ms : List Bool) 
   -- the blocks end behind those that the index takes
   pub end-behind : v .g ≤ v .end
   end-behind = omega (arith, r .under .end-is)
+
+module _ (s : List ℕ) (L : ℕ) (v : Outline) (T : List ℕ) (ms : List Bool) (t : Target) (h body : List ℕ) (fresh : Bool) (r : Ready (take L s) v T ms t h body fresh) where
+  abbrev o : List ℕ
+  o = take L s
 
   -- the plan is that of the image
   same-plan : (i : Image) → image-from o ≡ ok i → planned i h body fresh ≡ planned (r .image) h body fresh

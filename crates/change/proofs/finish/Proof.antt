@@ -23,7 +23,7 @@ slice-aggregate-plan-end c = sym (length-take-le _ _ (c .before .before .before 
 plan-end-requires : tie.Need-plan-end-requires
 plan-end-requires c κs =
     let r = c .before .before .before .before .before .before .before .before .pre .0 in
-    ((r .whole, r .inside, run-few (c .before .before .before .before .before .before .before .before .args .image .now) (c .before .before .before .before .before .before .before .before .args .len) _ _ _ _ _ _ _ r, r .few-blocks), ((end-behind (c .before .before .before .before .before .before .before .before .args .image .now) (c .before .before .before .before .before .before .before .before .args .len) _ _ _ _ _ _ _ r, r .end-few, r .few-index, c .before .before .before .before .before .before .before .before .pre .1 .2), (r .headword, r .body-short)))
+    ((r .whole, r .inside, run-few _ _ _ _ _ _ _ _ r, r .few-blocks), ((end-behind _ _ _ _ _ _ _ _ r, r .end-few, r .few-index, c .before .before .before .before .before .before .before .before .pre .1 .2), (r .headword, r .body-short)))
 
 -- src/lib.rt:195:8
 add-if1 : tie.Need-add-if1
