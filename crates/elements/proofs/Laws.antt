@@ -3,7 +3,7 @@ use Prim.Native.Nat.{ℕ, zero, suc, _+_, _-_, _<_, _≤_}
 use mathlib.Core.Path.{_≡_, refl, sym, ap, ap₂, _∙_}
 use mathlib.Core.List.{List, [], _∷_, _++_, map, append-assoc}
 use native.Mathlib.Omega.{arith}
-use lib.ListN.{length, getD, take, drop, length-append, take-append-drop}
+use lib.ListN.{length, getD, take, drop, length-append, length-drop, take-append-drop}
 use lib.Seq.{take-at, take-all, length-take-le}
 use borrow.Author.Needs.{needs}
 use borrow.Author.Tests.{lt-ltb, le-ltb}
@@ -11,7 +11,10 @@ use Rattle.spec.specs.Bytes.{from-little-endian, to-little-endian, write, bytes
 use Rattle.spec.specs.Header as Header
 use Rattle.spec.specs.Header.{format4}
 use Rattle.spec.specs.Index.{Element, element-bytes, elements-bytes}
-use Rattle.spec.proofs.BytesLaws.{length-to-little-endian}
+use Rattle.spec.proofs.BytesLaws.{length-to-little-endian, split-zero-told, small-part, to-from-little-endian}
+use Rattle.spec.proofs.PartLaws.{bytes-at-split, length-bytes-at}
+use Rattle.scans.specs.Scan.{zero-offset}
+use Rattle.scans.proofs.Laws.{split-zero-some}
 use Rattle.spec.proofs.WriteLaws.{drop-past-write}
 use Rattle.index.specs.Elements.{element-end, element-headword, element-at, elements-at, Inside}
 use Rattle.index.proofs.Laws.{element-end-past, element-headword-length, inside-start, inside-end, inside-next, elements-next}
@@ -268,3 +271,65 @@ module _ (index : List ℕ) (pos left out : ℕ) (none : left ≤ 0) where
 
 -- every need of copy_elements
 pub ruleset copy-laws = (inside-start, here-end, here-next, here-fits, room-turn, room-end, copy-turn, copy-end, needs)
+
+-- ---- elements as they are
+-- the headword of an element and its zero byte
+headword-stands : (index : List ℕ) (at : ℕ) → element-end index at < length index → bytes-at (at + 2) (element-end index at + 1 - (at + 2)) index ≡ element-headword index at ++ 0 ∷ []
+unfolding element-end element-headword bytes-at
+headword-stands index at h =
+    let l : List ℕ = drop (at + 2) index in
+    let z : ℕ = zero-offset l in
+    let n : at + 2 + z - (at + 2) ≡ z = omega arith in
+    let m : at + 2 + z + 1 - (at + 2) ≡ suc z = omega arith in
+    let s : l ≡ take z l ++ 0 ∷ drop (suc z) l = split-zero-told l (take z l, drop (suc z) l) (split-zero-some l (omega (arith, length-drop (at + 2) index))) in
+    let k : length (take z l ++ 0 ∷ []) ≡ suc z = omega (arith, length-append (take z l) (0 ∷ []), length-take-le z l (omega (arith, length-drop (at + 2) index))) in
+    rw (m, n) (ap (take (suc z)) (s ∙ sym (append-assoc (take z l) (0 ∷ []) (drop (suc z) l))) ∙ take-at (take z l ++ 0 ∷ []) (drop (suc z) l) (suc z) k)
+
+-- elements end behind their start
+ends-behind : (index : List ℕ) (at n : ℕ) → at ≤ elements-end index at n
+unfolding elements-end
+ends-behind index at zero = omega arith
+ends-behind index at (suc n) = omega (arith, element-end-past index at, ends-behind index (element-end index at + 1) n)
+
+-- an element's bytes stand in the index
+element-stands : (index : List ℕ) (at : ℕ) → ((k : ℕ) → getD index k 0 < 256) → at + 2 ≤ length index → element-end index at < length index
+    → bytes-at at (element-end index at + 1 - at) index ≡ element-bytes format4 (element-at index at)
+unfolding element-bytes element-at Header.format4
+element-stands index at small p h =
+    let n : element-end index at + 1 - at ≡ 2 + (element-end index at + 1 - (at + 2)) = omega (arith, element-end-past index at) in
+    let k : length (bytes-at at 2 index) ≡ 2 = length-bytes-at index at 2 p in
+    let e : to-little-endian 2 (from-little-endian (bytes-at at 2 index)) ≡ bytes-at at 2 index = ap (λ (w : ℕ). to-little-endian w (from-little-endian (bytes-at at 2 index))) (sym k) ∙ to-from-little-endian (bytes-at at 2 index) (small-part index small 2 at) in
+    ap (λ (q : ℕ). bytes-at at q index) n
+    ∙ bytes-at-split index at 2 (element-end index at + 1 - (at + 2))
+    ∙ ap₂ (λ (x y : List ℕ). x ++ y) (sym e) (headword-stands index at h)
+    ∙ sym (append-assoc (to-little-endian 2 (from-little-endian (bytes-at at 2 index))) (element-headword index at) (0 ∷ []))
+
+-- all of them do, one behind the other
+elements-stand : (index : List ℕ) (at n : ℕ) → ((k : ℕ) → getD index k 0 < 256) → Inside index at n → bytes-at at (elements-end index at n - at) index ≡ elements-bytes format4 (elements-at index at n)
+unfolding elements-end elements-at elements-bytes bytes-at
+elements-stand index at zero small i = let e : at - at ≡ 0 = omega arith in rw e
+elements-stand index at (suc n) small (p, h, i) =
+    let e : ℕ = element-end index at + 1 in
+    let l : e ≤ elements-end index e n = ends-behind index e n in
+    let m : elements-end index e n - at ≡ (e - at) + (elements-end index e n - e) = omega (arith, element-end-past index at) in
+    let q : at + (e - at) ≡ e = omega (arith, element-end-past index at) in
+    ap (λ (k : ℕ). bytes-at at k index) m
+    ∙ bytes-at-split index at (e - at) (elements-end index e n - e)
+    ∙ ap₂ (λ (x y : List ℕ). x ++ y) (element-stands index at small p h) (ap (λ (k : ℕ). bytes-at k (elements-end index e n - e) index) q ∙ elements-stand index e n small i)
+
+-- elements end behind their start, by the answer
+pub behind-end : (index : List ℕ) (from n r : ℕ) → r ≡ elements-end index from n → from ≤ r
+behind-end index from n r e = omega (arith, ends-behind index from n)
+
+-- what copy_kept copies
+pub kept-size : (index : List ℕ) (from n r : ℕ) → Inside index from n → r ≡ elements-end index from n → r - from ≡ length (elements-bytes format4 (elements-at index from n))
+kept-size index from n r i e = omega (arith, elements-length index from n i)
+
+-- and what it leaves
+pub kept-written : (dst dst′ index : List ℕ) (at from n r : ℕ) → ((k : ℕ) → getD index k 0 < 256) → Inside index from n → r ≡ elements-end index from n
+    → dst′ ≡ write at (bytes-at from (r - from) index) dst → dst′ ≡ write at (elements-bytes format4 (elements-at index from n)) dst
+kept-written dst dst′ index at from n r small i e h = h ∙ rw e (ap (λ (x : List ℕ). write at x dst) (elements-stand index from n small i))
+
+-- an index that does not grow: the elements are as they are
+pub kept-renewed : (dst dst′ index T : List ℕ) (at from n g : ℕ) → g ≡ 0 → dst′ ≡ write at (elements-bytes format4 (elements-at index from n)) dst → dst′ ≡ write at (elements-bytes format4 (map (renewed T g) (elements-at index from n))) dst
+kept-renewed dst dst′ index T at from n g z h = h ∙ rw (z, renewed-none-all T (elements-at index from n))

@@ -25,19 +25,28 @@ pub fn put_element(dst: &mut [u8], at: usize, number: usize, headword: &[u8]) ->
     at + 3 + n
 }
 
-// Where n elements end.
-pub fn elements_end(index: &[u8], n: usize) -> usize
-    requires { ⌜ Inside (now index) 0 n ⌝ }
-    ensures { λ r. ⌜ r ≡ elements-end (now (index .entry)) 0 n ⌝ }
+// Where the n elements from `from` on end.
+fn end_from(index: &[u8], from: usize, n: usize) -> usize
+    requires { ⌜ Inside (now index) from n ⌝ }
+    ensures { λ r. ⌜ r ≡ elements-end (now (index .entry)) from n ⌝ }
     ensures { λ r. ⌜ r ≤ length (now (index .entry)) ⌝ }
 {
-    let mut at = 0;
+    let mut at = from;
     let mut left = n;
     while 0 < left {
         at = element_end(index, at) + 1;
         left -= 1;
     }
     at
+}
+
+// Where n elements end.
+pub fn elements_end(index: &[u8], n: usize) -> usize
+    requires { ⌜ Inside (now index) 0 n ⌝ }
+    ensures { λ r. ⌜ r ≡ elements-end (now (index .entry)) 0 n ⌝ }
+    ensures { λ r. ⌜ r ≤ length (now (index .entry)) ⌝ }
+{
+    end_from(index, 0, n)
 }
 
 // A number of the table.
@@ -62,6 +71,19 @@ pub fn number_after(numbers: &[u32], g: usize, b: usize) -> usize
     b - g
 }
 
+// Stores the n elements from `from` on of an index at `at`, as they are, and answers where they end.
+fn copy_kept(dst: &mut [u8], at: usize, index: &[u8], from: usize, n: usize) -> usize
+    requires { ⌜ Inside (now index) from n ⌝ }
+    requires { ⌜ at + length (elements-bytes format4 (elements-at (now index) from n)) ≤ length (now dst) ⌝ }
+    ensures { λ r. ⌜ now (dst .exit) ≡ write at (elements-bytes format4 (elements-at (now (index .entry)) from n)) (now (dst .entry)) ⌝ }
+    ensures { λ r. ⌜ r ≡ at + length (elements-bytes format4 (elements-at (now (index .entry)) from n)) ⌝ }
+    ensures { λ r. ⌜ length (now (dst .exit)) ≡ length (now (dst .entry)) ⌝ }
+{
+    let size = end_from(index, from, n) - from;
+    byteops::copy(dst, at, index, from, size);
+    at + size
+}
+
 // Stores the n elements from `from` on of an index at `at`, with their numbers renewed, and answers where they end.
 pub fn copy_elements(
     dst: &mut [u8],
@@ -79,6 +101,9 @@ pub fn copy_elements(
     ensures { λ r. ⌜ r ≡ at + length (elements-bytes format4 (elements-at (now (index .entry)) from n)) ⌝ }
     ensures { λ r. ⌜ length (now (dst .exit)) ≡ length (now (dst .entry)) ⌝ }
 {
+    if g == 0 {
+        return copy_kept(dst, at, index, from, n);
+    }
     let mut out = at;
     let mut pos = from;
     let mut left = n;

@@ -3,14 +3,14 @@ use mathlib.Core.Path.{_≡_}
 use Rattle.index.specs.Elements.{Inside}
 use Rattle.elements.specs.Renewed.{elements-end}
 use Rattle.elements.proofs.Laws.{end-laws}
-use Rattle.elements.proofs.elements_end.Statement.{statement}
-use Rattle.elements.proofs.elements_end.Tie as tie
+use Rattle.elements.proofs.end_from.Statement.{statement}
+use Rattle.elements.proofs.end_from.Tie as tie
 
 abbrev Inv-loop : tie.InvT-loop
-Inv-loop index n at₀ left₀ at left = Inside index at left × (elements-end index at left ≡ elements-end index 0 n)
+Inv-loop index from n at₀ left₀ at left = Inside index at left × (elements-end index at left ≡ elements-end index from n)
 
 abbrev μ-loop : tie.MeasureT-loop
-μ-loop index n at₀ left₀ at left = left
+μ-loop index from n at₀ left₀ at left = left
 
 loop-holds : tie.Need-loop-holds Inv-loop μ-loop
 loop-holds c = search end-laws
@@ -33,8 +33,8 @@ loop-again c = search end-laws
 returns : tie.Need-returns Inv-loop μ-loop
 returns c = search end-laws
 
-pub elements-end-spec : {M : Type 1} → statement M
-elements-end-spec =
+pub end-from-spec : {M : Type 1} → statement M
+end-from-spec =
     tie.close
     (tie.spec
     Inv-loop
