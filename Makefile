@@ -1,6 +1,20 @@
-# make test: everything that the gate runs. make bench: the engine against a C baseline.
-.PHONY: test bench
+# make demo: the engine proved and built, then the main job on a sample glossary and manual.
+# make test: the gate, everything that is proved and tested.
+# make bench: the engine against a C baseline.
+.PHONY: demo test bench
+library = target/staticlib/libpdic.a
+proved = crates.txt $(shell find crates -name '*.rt' -o -name '*.antt')
+
+demo: $(library)
+	@examples/c/build.sh target/examples
+	@examples/c/demo.sh target/examples
+
+$(library): $(proved)
+	@echo 'The engine is proved, then compiled. The first time takes about five minutes on two processors.'
+	rt staticlib pdic
+
 test:
 	.ci/run
+
 bench:
 	bench/run.sh

@@ -11,6 +11,9 @@
  * it holds does not matter. It is all zero after the call, whatever the number returned, but 1 and 2
  * leave it untouched.
  *
+ * Check, look up, walk, create and optimise take up to 32 KiB of stack, insert and delete up to 256 KiB.
+ * Calls that lend different memory may run at the same time.
+ *
  * Every call returns one number:
  *
  *   PDIC_DONE (0)       done, or found: what is lent for the answer is written
@@ -38,7 +41,7 @@
  *       32,767 index blocks
  *
  * These promises, and that the calls end and stay inside the lent memory whatever the bytes are,
- * are proved of the compiled program's source; docs/CLAIMS.md names each theorem.
+ * are proved of the source that is compiled; docs/CLAIMS.md names each theorem.
  */
 #ifndef PDIC_H
 #define PDIC_H

@@ -1,10 +1,10 @@
 #!/bin/sh
-# Everything that is tested beside the proofs, on the proved engine: the C examples, the list program, and the second
+# Everything that is tested beside the proofs, on the proved engine: the C programs, the list program, and the second
 # reader's and editor's comparisons. Arguments: seed, number of images for the one and of histories for the other.
 set -eu
 cd "$(dirname "$0")/.."
 rt staticlib pdic
-examples/c/run.sh
+tests/programs/run.sh
 tests/list/run.sh
 export CARGO_TARGET_DIR="$PWD/target/second"
 cd tests/second

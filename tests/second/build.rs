@@ -6,11 +6,15 @@ use std::path::PathBuf;
 fn main() {
     let folder = match env::var("PDIC_LIB") {
         Ok(folder) => PathBuf::from(folder),
-        Err(_) => PathBuf::from(env::var("CARGO_MANIFEST_DIR").expect("set by cargo")).join("../../target/staticlib"),
+        Err(_) => PathBuf::from(env::var("CARGO_MANIFEST_DIR").expect("set by cargo"))
+            .join("../../target/staticlib"),
     };
     println!("cargo:rerun-if-env-changed=PDIC_LIB");
     println!("cargo:rerun-if-changed=build.rs");
-    println!("cargo:rerun-if-changed={}", folder.join("libpdic.a").display());
+    println!(
+        "cargo:rerun-if-changed={}",
+        folder.join("libpdic.a").display()
+    );
     println!("cargo:rustc-link-search=native={}", folder.display());
     println!("cargo:rustc-link-lib=static=pdic");
 }

@@ -1,6 +1,9 @@
 //! The paper's examples of changing calls, by the second editor and by the engine at once; the
 //! bytes and places expected are written by hand.
 
+mod by_hand;
+
+use by_hand::{empty, put};
 use second::both::{Both, Change};
 use second::calls::Answer;
 use second::editor::Told;
@@ -77,20 +80,10 @@ fn t(size: usize) -> Vec<u8> {
     vec![b't'; size]
 }
 
-fn put(bytes: &mut [u8], place: usize, contents: &[u8]) {
-    bytes[place..place + contents.len()].copy_from_slice(contents);
-}
-
 #[test]
 fn create_writes_256_bytes() {
     let book = Book::new(300);
-    let mut bytes = vec![0; 256];
-    put(&mut bytes, 140, &[0x00, 0x04, 0xF8, 0x00, 0xB8, 0x0B]);
-    put(&mut bytes, 146, &[0x00, 0x01, 0x00, 0x00, 0x00, 0x01]);
-    put(&mut bytes, 154, &[0xFF, 0xFF]);
-    put(&mut bytes, 166, &[0x01]);
-    put(&mut bytes, 186, &[0xFF; 4]);
-    assert_eq!(book.bytes(), bytes);
+    assert_eq!(book.bytes(), empty());
     assert_eq!(book.both.ours.contents()[256..], [0xDD; 44]);
 }
 

@@ -1,28 +1,15 @@
 //! The paper's examples that a reader can meet, built by hand, and a few refusals; each is
 //! read by the second reader and by the engine.
 
+mod by_hand;
+
+use by_hand::{empty, put};
 use second::calls::{check, look_up, walk, Answer, Counts};
 use second::engine::{self, Lent};
 use second::make::{common, cut, encoded_size, lay_out, render, Cut, Fronts};
 use second::make::{Ground, Links, Sketch};
 use second::random::Random;
 use second::reader::{read, Entry, Image};
-
-fn put(bytes: &mut [u8], place: usize, contents: &[u8]) {
-    bytes[place..place + contents.len()].copy_from_slice(contents);
-}
-
-/// "Create: 256 bytes. Version 0x0400, lword 248, ljapa 3000, block_size and header_size
-/// 256, attrlen 1, empty_block 0xFFFF, empty_block2 0xFFFFFFFF, all else zero."
-fn empty() -> Vec<u8> {
-    let mut bytes = vec![0; 256];
-    put(&mut bytes, 140, &[0x00, 0x04, 0xF8, 0x00, 0xB8, 0x0B]);
-    put(&mut bytes, 146, &[0x00, 0x01, 0x00, 0x00, 0x00, 0x01]);
-    put(&mut bytes, 154, &[0xFF, 0xFF]);
-    put(&mut bytes, 166, &[0x01]);
-    put(&mut bytes, 186, &[0xFF; 4]);
-    bytes
-}
 
 /// P2: ABC "one" from empty.
 fn p2() -> Vec<u8> {

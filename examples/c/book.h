@@ -1,0 +1,52 @@
+/* book.h - a dictionary file in memory, for the programs beside it: loaded, asked, changed, saved. */
+#ifndef BOOK_H
+#define BOOK_H
+
+#include "bytes.h"
+#include "pdic.h"
+
+/* The image is the first `len` bytes of a slice of `size`; `work` is lent to the changing calls. */
+typedef struct {
+    uint8_t *image, *work;
+    size_t size, len;
+} book;
+
+/* An entry that was found. */
+typedef struct {
+    uint8_t headword[PDIC_MAX_HEADWORD], text[PDIC_MAX_TEXT], attribute;
+    size_t headword_len, text_len;
+} entry;
+
+typedef struct {
+    uint64_t headwords, index_blocks, data_blocks, free_blocks;
+} figures;
+
+/* An empty dictionary. */
+void book_create(book *b);
+
+/* Reads a file and checks it. Gives 0, or says on standard error why not and gives -1. */
+int book_load(book *b, const char *path);
+
+/* Replaces the file by the dictionary. Gives 0, or says on standard error why not and gives -1. */
+int book_save(const book *b, const char *path);
+
+void book_free(book *b);
+
+/* The engine's calls. Each gives the engine's number; a change takes longer slices where it answers 15. */
+uint32_t book_check(const book *b, figures *f);
+uint32_t book_look_up(const book *b, bytes headword, entry *found);
+uint32_t book_walk(const book *b, bytes from, int above, entry *found);
+uint32_t book_insert(book *b, bytes headword, bytes text);
+uint32_t book_delete(book *b, bytes headword);
+uint32_t book_optimise(book *b);
+
+/* What a refusal means, in words. */
+const char *meaning(uint32_t number);
+
+/* Prints that a headword, or the entry that it was to have, is refused, and why. */
+void print_refused(FILE *out, bytes headword, uint32_t number);
+
+bytes headword_of(const entry *e);
+bytes text_of(const entry *e);
+
+#endif

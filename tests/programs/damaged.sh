@@ -1,0 +1,69 @@
+#!/bin/sh
+# damaged.sh NUMBER FOLDER [WRAPPER..]: runs the example programs on so many damaged dictionaries. A dictionary that check
+# refuses is refused by every program with the same number, nothing is written and the file stays; one that is accepted is
+# accepted after every change. Works in the present folder, which must be empty.
+set -eu
+here=$(cd "$(dirname "$0")" && pwd)
+samples=$here/../../examples/c
+number=$1
+programs=$2
+shift 2
+wrapper=$*
+refused=0
+accepted=0
+
+fail() {
+    echo "damaged dictionary $dic: $*"
+    exit 1
+}
+# runs a program: status and said.txt
+run() {
+    program=$1
+    shift
+    status=0
+    $wrapper "$programs/$program" "$@" >said.txt 2>&1 || status=$?
+    [ "$status" -le 2 ] || fail "$program $*: status $status"
+}
+must_refuse() {
+    run "$@"
+    [ "$status" -eq 2 ] && cmp -s said.txt check.txt || fail "$* says $(cat said.txt)"
+}
+must_do() {
+    run "$@"
+    [ "$status" -eq 0 ] || fail "$* says $(cat said.txt)"
+}
+
+"$programs/glossary" make whole.dic "$samples/machinery.tsv" >/dev/null
+"$programs/glossary" delete whole.dic clutch >/dev/null
+"$programs/glossary" add whole.dic zinc "$(printf '%900s' '' | tr ' ' t)" >/dev/null
+"$programs/glossary" delete whole.dic zinc >/dev/null
+mkdir all
+python3 "$here/damage.py" 1 "$number" whole.dic all
+for dic in all/*.dic; do
+    cp "$dic" now.dic
+    run glossary check now.dic
+    cp said.txt check.txt
+    if [ "$status" -eq 2 ]; then
+        refused=$((refused + 1))
+        must_refuse fill now.dic "$samples/manual.txt" out.txt
+        must_refuse glossary add now.dic zinc text
+        must_refuse glossary delete now.dic coolant
+        must_refuse glossary list now.dic
+        must_refuse glossary optimise now.dic
+        cmp -s now.dic "$dic" || fail "a refusal changed the file"
+        [ ! -e out.txt ] || fail "a refusal wrote the manual"
+    else
+        accepted=$((accepted + 1))
+        run fill now.dic "$samples/manual.txt"
+        run glossary add now.dic zinc text
+        if [ "$status" -eq 0 ]; then
+            must_do glossary find now.dic zinc
+            must_do glossary delete now.dic zinc
+            must_do glossary optimise now.dic
+        fi
+        must_do glossary list now.dic
+        must_do glossary check now.dic
+    fi
+done
+[ "$refused" -ge $((number / 4)) ] && [ "$accepted" -ge 1 ] || { echo "damaged: $refused refused, $accepted accepted"; exit 1; }
+echo "$number damaged dictionaries ($refused refused, $accepted accepted)"

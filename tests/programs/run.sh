@@ -1,0 +1,55 @@
+#!/bin/sh
+# The example programs and the demo against what is stored, the commands in the documents, and the stack that the calls take;
+# then the same runs under AddressSanitizer and UndefinedBehaviorSanitizer, and under valgrind; then damaged dictionaries under
+# all of them, and crashes. PDIC_LIB names another folder with a libpdic.a.
+set -eu
+here=$(cd "$(dirname "$0")" && pwd)
+samples=$here/../../examples/c
+work=$(mktemp -d)
+trap 'rm -rf "$work"' EXIT
+"$samples/build.sh" "$work/plain" -g
+"$samples/build.sh" "$work/sanitized" -g -fsanitize=address,undefined -fno-sanitize-recover=all
+memory="valgrind -q --error-exitcode=99 --leak-check=full --show-leak-kinds=all --errors-for-leak-kinds=all"
+
+# inside NAME COMMAND..: runs the command in a new folder
+inside() {
+    mkdir "$work/$1"
+    cd "$work/$1"
+    shift
+    "$@"
+}
+
+root=$here/../..
+"$here/docs.py" "$work/plain" "$root/README.md" "$root"/docs/*.md
+gcc -std=c11 -O2 -Wall -Wextra -Wpedantic -Werror -I"$root/include" -o "$work/stack" "$here/stack.c" \
+    "${PDIC_LIB:-$root/target/staticlib}/libpdic.a" -lpthread
+"$work/stack"
+"$samples/demo.sh" "$work/plain" >"$work/demo.txt"
+cmp "$work/demo.txt" "$here/demo.txt"
+inside story "$here/story.sh" "$work/plain" >"$work/story.txt"
+inside story-sanitized "$here/story.sh" "$work/sanitized" >"$work/story-sanitized.txt"
+inside story-valgrind "$here/story.sh" "$work/plain" $memory >"$work/story-valgrind.txt"
+for name in story story-sanitized story-valgrind; do cmp "$work/$name.txt" "$here/story.txt"; done
+echo "programs: $(grep -c '^\$' "$here/story.txt") runs as stored, plain, sanitized and under valgrind; the demo as stored"
+
+# report NAME COMMAND..: what the command says last, if it succeeds
+report() {
+    name=$1
+    shift
+    said=$("$@") || { echo "$name: $said"; exit 1; }
+    echo "$name: $said"
+}
+report 'programs, plain' inside damaged "$here/damaged.sh" 300 "$work/plain"
+report 'programs, sanitized' inside damaged-sanitized "$here/damaged.sh" 100 "$work/sanitized"
+report 'programs, valgrind' inside damaged-valgrind "$here/damaged.sh" 12 "$work/plain" $memory
+report 'programs' inside crash "$here/crash.sh" "$work/plain"
+report 'programs' "$here/wrong.sh" "$work"
+
+# long work shows its progress on a terminal, and nothing in a pipe
+cd "$work/crash"
+script -qec "'$work/plain/glossary' make shown.dic many.tsv" /dev/null >shown.txt </dev/null
+grep -q 'entries added: [0-9]* of 12000' shown.txt
+"$work/plain/glossary" make silent.dic many.tsv 2>silent.txt >/dev/null
+[ ! -s silent.txt ]
+cmp shown.dic silent.dic
+echo "programs: progress on a terminal, silence in a pipe"
