@@ -3,10 +3,7 @@
 set -eu
 missing=
 need() { command -v "$1" >/dev/null 2>&1 || missing="$missing $2"; }
-need gcc gcc
-need objcopy binutils
-need cargo cargo
-need python3 python3-minimal
+need python3 python3
 need valgrind valgrind
 need script bsdutils
 [ -n "$missing" ] || exit 0

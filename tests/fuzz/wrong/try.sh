@@ -1,0 +1,81 @@
+#!/bin/sh
+# Proves that the harness notices: wrong engines are made from the right one (libpdic.a in the folder PDIC_LIB, else
+# target/staticlib) by wrappers. Each must break a fact or fault at a guard page, at the place that it spoils; the right
+# one behind the same wrappers must pass.
+set -eu
+here=$(cd "$(dirname "$0")" && pwd)
+lib=${PDIC_LIB:-$here/../../../target/staticlib}
+work=$(mktemp -d)
+trap 'rm -rf "$work"' EXIT
+renamed=
+for call in check look_up walk create insert delete optimise; do
+    renamed="$renamed --redefine-sym pdic_$call=right_pdic_$call"
+done
+objcopy $renamed "$lib/libpdic.a" "$work/libpdic.a"
+cd "$here/.."
+gcc -std=c11 -O1 -Wall -Wextra -Werror -I../../include -o "$work/drive" wrong/wrong.c drive.c harness.c facts.c decode.c \
+    reader.c lent.c guard.c mutate.c seeds.c "$work/libpdic.a"
+cd "$work"
+noticed=0 failed=0
+
+# try WRONG FACT: the run must end with this fact broken, or at a guard page (signal 139); FACT is an extended pattern
+try() {
+    status=0
+    WRONG=$1 ./drive 1 20000 >out 2>&1 || status=$?
+    found=$(grep -m 1 '^BROKEN' out || true)
+    [ -n "$found" ] || [ "$status" -le 128 ] || found="signal $status"
+    if printf '%s' "$found" | grep -qE "$2"; then
+        noticed=$((noticed + 1))
+    else
+        echo "NOT NOTICED: $1: status $status, ${found:-nothing}" && failed=1
+    fi
+}
+
+guard='signal 139'
+outside="$guard|a byte next to a lent slice or number changed"
+entry='not the (entry|attribute) of this headword|look up after the change has the wrong entry'
+reader='the second reader has another number'
+
+try text-one-byte-longer 'an output byte past the answer changed'
+try zero-past-text-slice "$outside"
+try zero-before-text-slice "$outside"
+try writes-past-work "$outside"
+try byte-next-to-image "$outside"
+try reads-past-image "$guard"
+try reads-before-image "$guard"
+try reads-past-headword "$guard"
+try neighbours-text "$entry"
+try neighbours-attribute "$entry"
+try inserted-text-cut "$entry"
+try length-on-absent 'an output slice or lent number changed'
+try length-on-refusal 'an output slice or lent number changed'
+try headword-before-14 'an output slice or lent number changed'
+try refused-image-touched 'the image slice changed'
+try check-writes-image 'the image slice changed'
+try argument-lowered 'the headword argument changed'
+try work-not-zeroed 'the working slice is not all zero'
+try work-zeroed-on-2 'the working slice was touched'
+try past-L-touched 'bytes past L changed'
+try create-clears-all 'bytes past L changed'
+try optimise-keeps-bytes 'what was given up is not zero'
+try empty_block-written 'a header byte changed'
+try update-twice 'update_count did not rise by one'
+try optimise-drops-first 'the number of headwords is wrong'
+try other-text-changed 'an entry not concerned changed'
+try nword-kept "check refuses|$reader"
+try L-one-block-more "check refuses|$reader"
+try accepts-10 "$reader"
+try 9-as-10 "$reader"
+try free-blocks-guessed 'the second reader has other free blocks'
+try absent-always 'another number applies first|look up after the change has the wrong number'
+try walk-12-for-empty 'another number applies first'
+try 15-without-placing 'the change has room in the slice'
+try returns-16 'the call may not return this number'
+try work-decides 'the same call leaves another image'
+try never-ends 'signal 154'
+if WRONG= ./drive 1 20000 >out 2>&1; then
+    echo "wrong engines: $noticed noticed; the right one: $(cat out)"
+else
+    echo "THE RIGHT ENGINE IS REPORTED" && cat out && failed=1
+fi
+exit $failed

@@ -1,0 +1,173 @@
+/* Wrong engines: the calls of the right one, each spoiled in one way that WRONG names. The right engine's calls are
+   renamed right_pdic_... in a copy of its library. */
+#include <stddef.h>
+#include <stdint.h>
+#include <stdlib.h>
+#include <string.h>
+
+#include "pdic.h"
+
+uint32_t right_pdic_check(const uint8_t *image, size_t image_size, size_t len, uint64_t *headwords,
+                          uint64_t *index_blocks, uint64_t *data_blocks, uint64_t *free_blocks);
+uint32_t right_pdic_look_up(const uint8_t *image, size_t image_size, size_t len, const uint8_t *headword,
+                            size_t headword_size, uint8_t *text, size_t text_size, uint8_t *attribute, size_t *text_len);
+uint32_t right_pdic_walk(const uint8_t *image, size_t image_size, size_t len, const uint8_t *headword,
+                         size_t headword_size, uint8_t above, uint8_t *headword_out, size_t headword_out_size,
+                         uint8_t *text, size_t text_size, uint8_t *attribute, size_t *headword_len, size_t *text_len);
+uint32_t right_pdic_create(uint8_t *image, size_t image_size, size_t *new_len);
+uint32_t right_pdic_insert(uint8_t *image, size_t image_size, size_t len, uint8_t *work, size_t work_size,
+                           const uint8_t *headword, size_t headword_size, uint8_t attribute, const uint8_t *text,
+                           size_t text_size, size_t *new_len);
+uint32_t right_pdic_delete(uint8_t *image, size_t image_size, size_t len, uint8_t *work, size_t work_size,
+                           const uint8_t *headword, size_t headword_size, size_t *new_len);
+uint32_t right_pdic_optimise(uint8_t *image, size_t image_size, size_t len, uint8_t *work, size_t work_size,
+                             size_t *new_len);
+
+/* The calls that make the seeds lend at least this much; they are not spoiled. */
+enum { SEED_SLICE = 1 << 17 };
+
+static int is(const char *name) {
+    static const char *way;
+    if (way == NULL) way = getenv("WRONG");
+    return way != NULL && strcmp(way, name) == 0;
+}
+
+/* Reads a byte that may be outside what was lent. */
+static void touch(const volatile uint8_t *p) { (void)*p; }
+
+uint32_t pdic_check(const uint8_t *image, size_t image_size, size_t len, uint64_t *headwords, uint64_t *index_blocks,
+                    uint64_t *data_blocks, uint64_t *free_blocks) {
+    uint32_t number = right_pdic_check(image, image_size, len, headwords, index_blocks, data_blocks, free_blocks);
+    if (number == 0 && is("reads-past-image")) touch(image + image_size);
+    if (number == 0 && is("reads-before-image")) touch(image - 1);
+    if (number == 0 && is("check-writes-image")) ((uint8_t *)image)[255] ^= 1;
+    if (number == 8 && is("length-on-refusal")) *headwords = 0;
+    if (number == 0 && is("free-blocks-guessed")) *free_blocks = *data_blocks - *headwords;
+    if (number == 10 && is("accepts-10")) {
+        *headwords = *index_blocks = *data_blocks = *free_blocks = 1;
+        return 0;
+    }
+    if (number == 9 && is("9-as-10")) return 10;
+    if (number == 9 && is("never-ends"))
+        for (volatile int i = 0; i == 0;) continue;
+    return number;
+}
+
+/* A look up that answers the next entry's text or attribute. */
+static void spoil_entry(const uint8_t *image, size_t image_size, size_t len, const uint8_t *headword,
+                        size_t headword_size, uint8_t *text, size_t text_size, uint8_t *attribute, size_t *text_len) {
+    uint8_t word[PDIC_MAX_HEADWORD], other[PDIC_MAX_TEXT], other_attribute;
+    size_t word_size, size;
+    if (right_pdic_walk(image, image_size, len, headword, headword_size, 1, word, sizeof word, other, sizeof other,
+                        &other_attribute, &word_size, &size) != 0)
+        return;
+    if (is("neighbours-attribute")) *attribute = other_attribute;
+    if (is("neighbours-text") && size == *text_len && size <= text_size) memcpy(text, other, size);
+}
+
+uint32_t pdic_look_up(const uint8_t *image, size_t image_size, size_t len, const uint8_t *headword,
+                      size_t headword_size, uint8_t *text, size_t text_size, uint8_t *attribute, size_t *text_len) {
+    uint32_t number = right_pdic_look_up(image, image_size, len, headword, headword_size, text, text_size, attribute,
+                                         text_len);
+    if (is("reads-past-headword")) touch(headword + headword_size);
+    if (number == 0 && is("absent-always")) return PDIC_ABSENT;
+    if (number == 0 && is("text-one-byte-longer") && *text_len < text_size) text[*text_len] = 0;
+    if (number == 0 && is("zero-past-text-slice")) text[text_size] = 0;
+    if (number == 0 && is("zero-before-text-slice")) text[-1] = 0;
+    if (number == 0)
+        spoil_entry(image, image_size, len, headword, headword_size, text, text_size, attribute, text_len);
+    if (number == PDIC_ABSENT && is("length-on-absent")) *text_len = 0;
+    if (headword_size > 0 && is("argument-lowered")) ((uint8_t *)headword)[0] |= 0x20;
+    return number;
+}
+
+uint32_t pdic_walk(const uint8_t *image, size_t image_size, size_t len, const uint8_t *headword, size_t headword_size,
+                   uint8_t above, uint8_t *headword_out, size_t headword_out_size, uint8_t *text, size_t text_size,
+                   uint8_t *attribute, size_t *headword_len, size_t *text_len) {
+    uint32_t number = right_pdic_walk(image, image_size, len, headword, headword_size, above, headword_out,
+                                      headword_out_size, text, text_size, attribute, headword_len, text_len);
+    if (number == 14 && is("headword-before-14") && headword_out_size > 0) headword_out[0] ^= 1;
+    if (number == PDIC_ABSENT && headword_size == 0 && above == 0 && is("walk-12-for-empty")) return 12;
+    return number;
+}
+
+uint32_t pdic_create(uint8_t *image, size_t image_size, size_t *new_len) {
+    uint32_t number = right_pdic_create(image, image_size, new_len);
+    if (number == 0 && is("create-clears-all")) memset(image + 256, 0, image_size - 256);
+    return number;
+}
+
+static void add_one(uint8_t *p) {
+    for (int i = 0; i < 4 && ++p[i] == 0; i++) continue;
+}
+
+/* A changed image, its working slice and its length, spoiled. */
+static void spoil_done(uint8_t *image, size_t image_size, size_t *new_len, uint8_t *work, size_t work_size, uint8_t first) {
+    if (is("writes-past-work")) work[work_size] = 0;
+    if (is("byte-next-to-image")) image[image_size] = 0;
+    if (is("work-not-zeroed")) work[work_size - 1] = 1;
+    if (is("past-L-touched") && *new_len < image_size) image[*new_len] ^= 1;
+    if (is("empty_block-written")) image[154] ^= 1;
+    if (is("update-twice")) add_one(image + 208);
+    if (is("L-one-block-more") && *new_len + 256 <= image_size) *new_len += 256;
+    if (is("work-decides") && *new_len > 256) image[*new_len - 1] ^= first;
+}
+
+/* The image's first letter t becomes a u: it is of some text. */
+static void change_text(uint8_t *image, size_t len) {
+    uint8_t *p = memchr(image + 256, 't', len - 256);
+    if (p != NULL) *p = 'u';
+}
+
+/* What is spoiled after an insertion: the image before it is known. */
+static uint32_t spoil_inserted(uint8_t *image, const uint8_t *before, size_t image_size, size_t len, uint32_t number) {
+    if (number == 0 && is("15-without-placing")) {
+        memcpy(image, before, image_size);
+        return 15;
+    }
+    if (number == 0 && is("nword-kept")) memcpy(image + 160, before + 160, 4);
+    if (number == 0 && is("other-text-changed")) change_text(image, len);
+    if (number == 13 && is("refused-image-touched")) image[0] ^= 1;
+    return number == 12 && is("returns-16") ? 16 : number;
+}
+
+uint32_t pdic_insert(uint8_t *image, size_t image_size, size_t len, uint8_t *work, size_t work_size,
+                     const uint8_t *headword, size_t headword_size, uint8_t attribute, const uint8_t *text,
+                     size_t text_size, size_t *new_len) {
+    static uint8_t before[SEED_SLICE];
+    uint8_t first = work_size > 0 ? work[0] : 0;
+    size_t old = *new_len, less_text = text_size > 0 && is("inserted-text-cut");
+    if (image_size < SEED_SLICE) memcpy(before, image, image_size);
+    uint32_t number = right_pdic_insert(image, image_size, len, work, work_size, headword, headword_size, attribute,
+                                        text, text_size - less_text, new_len);
+    if (image_size >= SEED_SLICE) return number;
+    if (number == 0) spoil_done(image, image_size, new_len, work, work_size, first);
+    uint32_t spoiled = spoil_inserted(image, before, image_size, *new_len, number);
+    if (number == 0 && spoiled != 0) *new_len = old;
+    return spoiled;
+}
+
+uint32_t pdic_delete(uint8_t *image, size_t image_size, size_t len, uint8_t *work, size_t work_size,
+                     const uint8_t *headword, size_t headword_size, size_t *new_len) {
+    uint32_t number = right_pdic_delete(image, image_size, len, work, work_size, headword, headword_size, new_len);
+    if (number == 2 && is("work-zeroed-on-2")) memset(work, 0, work_size);
+    return number;
+}
+
+/* Removes the first entry; the update count stays. */
+static void drop_first(uint8_t *image, size_t image_size, uint8_t *work, size_t work_size, size_t *new_len) {
+    uint8_t word[PDIC_MAX_HEADWORD], text[PDIC_MAX_TEXT], attribute, count[4];
+    size_t word_size, text_size;
+    memcpy(count, image + 208, 4);
+    if (right_pdic_walk(image, image_size, *new_len, count, 0, 0, word, sizeof word, text, sizeof text, &attribute,
+                        &word_size, &text_size) == 0)
+        right_pdic_delete(image, image_size, *new_len, work, work_size, word, word_size, new_len);
+    memcpy(image + 208, count, 4);
+}
+
+uint32_t pdic_optimise(uint8_t *image, size_t image_size, size_t len, uint8_t *work, size_t work_size, size_t *new_len) {
+    uint32_t number = right_pdic_optimise(image, image_size, len, work, work_size, new_len);
+    if (number == 0 && is("optimise-keeps-bytes") && *new_len < len) image[len - 1] = 7;
+    if (number == 0 && is("optimise-drops-first")) drop_first(image, image_size, work, work_size, new_len);
+    return number;
+}
