@@ -2,21 +2,20 @@
 use Prim.Native.Nat.{ℕ, zero, suc, _+_, _-_, _*_, _<_, _≤_}
 use mathlib.Core.Path.{_≡_, refl, sym, ap, ap₂, _∙_}
 use mathlib.Core.Bool.{Bool, true, false}
-use mathlib.Core.List.{List, [], _∷_, _++_, map, append-assoc}
+use mathlib.Core.List.{List, [], _∷_, map}
 use native.Mathlib.Omega.{arith}
 use native.Mathlib.Nat.{add-zero}
 use native.Mathlib.Decide.{decLt}
-use lib.ListN.{length, getD, set, take, drop, length-append, length-drop, drop-of-length-le}
-use lib.Seq.{set-comm, take-at, length-take-le, drop-cons, drop-drop}
+use lib.ListN.{length, getD, set, take, drop, length-drop, drop-of-length-le}
+use lib.Seq.{length-take-le, drop-cons, drop-drop}
 use borrow.Author.Needs.{needs}
 use borrow.Author.Tests.{lt-ltb, le-ltb}
 use Rattle.spec.specs.Lists.{filter, range-from}
 use Rattle.spec.specs.Bytes.{to-little-endian, write}
 use Rattle.spec.specs.Blocks.{free-list-end, free-list-start, link-bytes, free-list-written}
-use Rattle.spec.proofs.ListsLaws.{All, all-map, filter-yes, filter-no}
-use Rattle.spec.proofs.WriteLaws.{drop-past-write, length-write}
-use Rattle.spec.proofs.FreeListLaws.{Ascending, length-link}
-use Rattle.byteops.proofs.Stores.{stored, stored-write, length-stored}
+use Rattle.spec.proofs.ListsLaws.{filter-yes, filter-no}
+use Rattle.spec.proofs.WriteLaws.{length-write, write-swap, write-behind}
+use Rattle.spec.proofs.FreeListLaws.{Ascending, ascending-lower, length-link}
 use Rattle.marks.specs.Marks.{marks, gap, next}
 use Rattle.marks.proofs.Laws.{length-marks, drop-take}
 use Rattle.chain.specs.Numbers.{numbers, link-to}
@@ -37,18 +36,7 @@ pub numbers-ascending : (D i : ℕ) (ms : List Bool) → i + length ms ≤ D →
 unfolding numbers
 numbers-ascending D i [] h = tt
 numbers-ascending D i (true ∷ ms) h = (omega arith, omega arith, numbers-ascending D (suc i) ms (omega arith))
-numbers-ascending D i (false ∷ ms) h = lower (numbers (suc i) ms) (numbers-ascending D (suc i) ms (omega arith))
-  where
-    lower : (l : List ℕ) → Ascending (suc i) D l → Ascending i D l
-    lower [] a = tt
-    lower (b ∷ l) (p, q, a) = (omega arith, q, a)
-
--- each is the number of one of the marks
-pub numbers-between : (i : ℕ) (ms : List Bool) → All (λ b. (i ≤ b) × (b < i + length ms)) (numbers i ms)
-unfolding numbers
-numbers-between i [] = tt
-numbers-between i (true ∷ ms) = ((omega arith, omega arith), all-map (λ b. (suc i ≤ b) × (b < suc i + length ms)) (λ b. (i ≤ b) × (b < i + length (true ∷ ms))) (λ b p. (omega arith, omega arith)) (numbers (suc i) ms) (numbers-between (suc i) ms))
-numbers-between i (false ∷ ms) = all-map (λ b. (suc i ≤ b) × (b < suc i + length ms)) (λ b. (i ≤ b) × (b < i + length (false ∷ ms))) (λ b p. (omega arith, omega arith)) (numbers (suc i) ms) (numbers-between (suc i) ms)
+numbers-ascending D i (false ∷ ms) h = ascending-lower i (suc i) D (numbers (suc i) ms) (omega arith) (numbers-ascending D (suc i) ms (omega arith))
 
 -- ---- the next mark that is set
 -- none stands before it
@@ -117,35 +105,7 @@ start-at fl g b d l h e = go (decLt b d)
     go (yes p) = rw (numbers-at fl g b h (omega arith) e) (link-below b g d p)
     go (no p) = rw (numbers-none fl (b - g) b (omega arith)) (link-end b g d (omega arith))
 
--- ---- writes that do not touch one another
--- a byte in front of others that are stored goes in before or after them
-stored-set : (d : List ℕ) (j b i : ℕ) (x : List ℕ) → j < i → stored (set d j b) i x ≡ set (stored d i x) j b
-unfolding stored
-stored-set d j b i [] h = refl
-stored-set d j b i (y ∷ x) h = ap (λ (l : List ℕ). stored l (suc i) x) (set-comm d j i b y (omega arith)) ∙ stored-set (set d i y) j b (suc i) x (omega arith)
-
--- bytes in front of others go in before or after them
-stored-comm : (x d : List ℕ) (i j : ℕ) (y : List ℕ) → i + length x ≤ j → stored (stored d i x) j y ≡ stored (stored d j y) i x
-unfolding stored
-stored-comm [] d i j y h = refl
-stored-comm (b ∷ x) d i j y h = stored-comm x (set d i b) (suc i) j y (omega arith) ∙ ap (λ (l : List ℕ). stored l (suc i) x) (stored-set d i b j y (omega arith))
-
--- the lower may be written first or last
-pub write-swap : (d x y : List ℕ) (i j : ℕ) → i + length x ≤ j → j + length y ≤ length d → write i x (write j y d) ≡ write j y (write i x d)
-write-swap d x y i j h k =
-    let a : stored d j y ≡ write j y d = stored-write d y j k in
-    let b : stored d i x ≡ write i x d = stored-write d x i (omega arith) in
-    rw (← a, ← b) (sym (stored-write (stored d j y) x i (omega (arith, length-stored d j y))) ∙ sym (stored-comm x d i j y h) ∙ stored-write (stored d i x) y j (omega (arith, length-stored d i x)))
-
--- bytes written behind others are written with them
-pub write-behind : (d x y : List ℕ) (i : ℕ) → i + length x ≤ length d → write (i + length x) y (write i x d) ≡ write i (x ++ y) d
-unfolding write
-write-behind d x y i h =
-    let m : length (take i d ++ x) ≡ i + length x = length-append (take i d) x ∙ ap (λ (q : ℕ). q + length x) (length-take-le i d (omega arith)) in
-    let p : i + length x + length y ≡ i + length (x ++ y) = omega (arith, length-append x y) in
-    ap₂ (λ (a b : List ℕ). a ++ y ++ b) (take-at (take i d ++ x) (drop (i + length x) d) (i + length x) m) (drop-past-write i x d h (i + length x + length y) (omega arith))
-    ∙ rw (append-assoc (take i d) x y, p)
-
+-- ---- a link
 -- two zero bytes and the next number are a link
 link-put : (d d₁ d₂ : List ℕ) (at v : ℕ) → d₁ ≡ write at (to-little-endian 2 0) d → d₂ ≡ write (at + 2) (to-little-endian 4 v) d₁ → at + 6 ≤ length d → d₂ ≡ write at (link-bytes v) d
 unfolding link-bytes to-little-endian

@@ -11,7 +11,7 @@ numbers i [] = []
 numbers i (true ∷ ms) = i ∷ numbers (suc i) ms
 numbers i (false ∷ ms) = numbers (suc i) ms
 
--- the number of block b behind the first g; the end of the free list, where b is not below d
+-- the number of block b, block g being number 0; the end of the free list where b is not below d
 unfoldable pub link-to : ℕ → ℕ → ℕ → ℕ
 link-to b g d = elim (ltb b d) [ true ↦ b - g | false ↦ free-list-end ]
 

@@ -5,11 +5,9 @@ ghost use lib.ListN.{length, take, drop};
 ghost use Rattle.spec.specs.Blocks.{free-list-start, free-list-written};
 ghost use Rattle.marks.specs.Marks.{marks};
 ghost use Rattle.chain.specs.Numbers.{numbers, link-to};
+use byteops::LIST_END;
 
-// The number that ends the list.
-const END: usize = 0xFFFFFFFF;
-
-// The block behind g of that mark; the end of the list, where it is d.
+// The number of block b, block g being number 0; the end of the list where b is not below d.
 fn link(b: usize, g: usize, d: usize) -> usize
     requires { ⌜ g ≤ b ⌝ }
     ensures { λ r. ⌜ r ≡ link-to b g d ⌝ }
@@ -17,10 +15,10 @@ fn link(b: usize, g: usize, d: usize) -> usize
     if b < d {
         return b - g;
     }
-    END
+    LIST_END
 }
 
-// Writes the list of the marked blocks g to d - 1, numbered from g on, and answers its first number.
+// Writes the list of the marked blocks among g to d - 1, block g being number 0, and answers its first number.
 pub fn write_free_list(area: &mut [u8], free: &[u64], g: usize, d: usize) -> usize
     requires { ⌜ (g ≤ d) × (d ≤ 64 * length (now free)) × (256 * (d - g) ≤ length (now area)) ⌝ }
     ensures { λ r. ⌜ now (area .exit) ≡ free-list-written (numbers 0 (take (d - g) (drop g (marks (now (free .entry)))))) (now (area .entry)) ⌝ }

@@ -1,24 +1,17 @@
 -- What the calls ask that write index and blocks.
 use Prim.Native.Nat.{ℕ, _+_, _-_, _*_, _≤_, _<_}
-use mathlib.Core.Path.{_≡_, refl, sym, ap, subst, _∙_}
-use mathlib.Core.Logic.{_⊎_, inl, inr}
-use mathlib.Core.Bool.{Bool, true, false}
-use mathlib.Core.List.{List, _∷_, _++_, map}
+use mathlib.Core.Path.{_≡_, refl, ap, subst}
+use mathlib.Core.Bool.{Bool, true}
+use mathlib.Core.List.{List, _++_, map}
 use native.Mathlib.Omega.{arith}
-use lib.ListN.{length, take, drop, getD, length-drop, length-take}
+use lib.ListN.{length, take, drop, getD, length-drop}
 use lib.Seq.{length-take-le}
-use lib.Dec.{eqb}
-use Rattle.spec.specs.Header as Header
 use Rattle.spec.specs.Header.{format4}
 use Rattle.spec.specs.Entry.{Entry, headword-ok}
 use Rattle.spec.specs.Run.{run-size}
 use Rattle.spec.specs.Index.{elements-bytes}
-use Rattle.spec.specs.Check as Check
-use Rattle.spec.specs.Place as Place
-use Rattle.spec.specs.Place.{target-run, cut, element-of}
-use Rattle.spec.proofs.ListsLaws.{All, all-map, all-back}
-use Rattle.spec.proofs.HoldsLaws.{Holds}
-use Rattle.spec.proofs.ChangeLaws.{image-sound}
+use Rattle.spec.specs.Place.{cut, element-of}
+use Rattle.spec.proofs.ListsLaws.{All, all-map}
 use Rattle.marks.specs.Marks.{marks}
 use Rattle.marks.proofs.Laws.{length-marks}
 use Rattle.index.specs.Elements.{elements-at, Inside}
@@ -27,34 +20,14 @@ use Rattle.placing.specs.Spread.{spread}
 use Rattle.placing.proofs.SpreadLaws.{spread-grows}
 use Rattle.moves.specs.Moved.{starts, size-at}
 use Rattle.target.specs.declared.Target.{Target}
-use Rattle.target.specs.Told.{entries-start, entries-part, NoRun, OneRun}
+use Rattle.target.specs.Told.{entries-start, entries-part}
 use Rattle.parts.specs.Merge.{changed-entries}
 use Rattle.plan.specs.Written.{part-runs, parts-written}
 use Rattle.change.specs.declared.Outline.{Outline}
 use Rattle.spec.specs.Blocks.{free-list-start, free-list-written}
 use Rattle.chain.specs.Numbers.{numbers}
 use Rattle.change.specs.Ready.{parts-of, Ready, Roomy, Areas, Sealed, Written}
-use Rattle.change.proofs.Laws.{before-length, after-length, index-room, room-is, sealed-done}
-
--- entries start in their run
-start-least : (b n : ℕ) → 256 * b ≤ entries-start b n
-unfolding entries-start
-start-least b n = go (eqb n 0)
-  where
-    go : (u : Bool) → 256 * b ≤ (elim u [ true ↦ 256 * b | false ↦ 256 * b + 2 ])
-    go true = omega arith
-    go false = omega arith
-
--- the run concerned has at most 32,767 blocks
-pub target-few : (o : List ℕ) (v : Outline) (T : List ℕ) (ms : List Bool) (t : Target) (h body : List ℕ) (fresh : Bool) → Ready o v T ms t h body fresh → t .size ≤ 32_767
-unfolding Check.image-from Header.format-of
-target-few o v T ms t h body fresh r = go (target-run format4 h (r .image .runs)) (r .told .run)
-  where
-    go : (c : Place.Target) → NoRun (data-part o (v .n)) (r .image .runs) c t ⊎ OneRun (data-part o (v .n)) (r .image .runs) c t → t .size ≤ 32_767
-    go c (inl x) = omega (arith, x .size)
-    go c (inr x) =
-        let k : All (Holds format4) (c .before ++ x .run ∷ c .after) = subst (All (Holds format4)) (x .among) (image-sound format4 o (r .image) (r .is) .holds) in
-        omega (arith, all-back (Holds format4) (c .before) (x .run ∷ c .after) k .0 .few-blocks, x .size)
+use Rattle.change.proofs.Laws.{run-cut, run-short, run-few, before-length, after-length, index-room, room-is, sealed-done}
 
 module _ (o : List ℕ) (v : Outline) (T : List ℕ) (ws : List ℕ) (t : Target) (h body : List ℕ) (fresh : Bool) (r : Ready o v T (marks ws) t h body fresh) (s : List ℕ) (q : Roomy s o v (marks ws) t h body fresh) where
   abbrev start : ℕ
@@ -90,11 +63,6 @@ module _ (o : List ℕ) (v : Outline) (T : List ℕ) (ws : List ℕ) (t : Target
   pub run-asks : t .block + t .size ≤ 65_536
   run-asks = omega (arith, r .inside, r .few-blocks)
 
-  run-short : length (take (256 * (t .block + t .size) - entries-start (t .block) (t .size)) (drop (entries-start (t .block) (t .size)) area)) ≤ 8_388_608
-  run-short =
-      let n : ℕ = 256 * (t .block + t .size) - entries-start (t .block) (t .size) in
-      omega (arith, length-take n (drop (entries-start (t .block) (t .size)) area), target-few o v T (marks ws) t h body fresh r, start-least (t .block) (t .size))
-
   -- writing the parts
   pub parts-asks : (l from a : ℕ) → l ≡ length s → from ≡ entries-start (t .block) (t .size) → a ≡ 256 + length (elements-bytes format4 (elements-at index 0 (t .before)))
       → let run : List ℕ = take (256 * (t .block + t .size) - from) (drop from area) in
@@ -105,7 +73,7 @@ module _ (o : List ℕ) (v : Outline) (T : List ℕ) (ws : List ℕ) (t : Target
   unfolding entries-part
   parts-asks l from a k e ea =
       rw e (
-        (r .headword, r .body-short, run-short),
+        (r .headword, r .body-short, run-short area (t .block) (t .size) (entries-start (t .block) (t .size)) refl (run-few o v T (marks ws) t h body fresh r)),
         (
           (omega (arith, r .under .end-is), omega (arith, q .long, length-marks ws)),
           (
@@ -133,8 +101,7 @@ module _ (o : List ℕ) (v : Outline) (T : List ℕ) (ws : List ℕ) (t : Target
 
   -- the run as code cuts it out
   pub run-is : (from : ℕ) → from ≡ entries-start (t .block) (t .size) → cut 1024 (changed-entries (take (256 * (t .block + t .size) - from) (drop from area)) h body fresh) ≡ parts-of o (v .n) t h body fresh
-  unfolding entries-part
-  run-is from e = rw e
+  run-is from e = ap (λ (x : List ℕ). cut 1024 (changed-entries x h body fresh)) (run-cut area (t .block) (t .size) from e)
 
   pub start-room : start ≤ length s
   start-room = omega (arith, starts-inside)

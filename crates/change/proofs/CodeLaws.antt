@@ -1,5 +1,5 @@
 -- The steps of a change as code takes them.
-use Prim.Native.Nat.{ℕ, suc, _+_, _-_, _*_, _/_, _≤_, _<_, max}
+use Prim.Native.Nat.{ℕ, suc, _+_, _-_, _/_, _≤_, _<_, max}
 use mathlib.Core.Path.{_≡_, sym, ap, ap₂, _∙_}
 use mathlib.Core.Bool.{Bool}
 use mathlib.Core.List.{List, [], _∷_, _++_, map, append-assoc, append-nil}
@@ -14,24 +14,27 @@ use Rattle.index.specs.Elements.{elements-at}
 use Rattle.placing.specs.Spread.{spread, Within}
 use Rattle.moves.specs.Moved.{noted, starts, size-at, freed, tabled}
 use Rattle.target.specs.declared.Target.{Target}
+use Rattle.newruns.proofs.Laws.{lent-rest}
 use Rattle.change.specs.Ready.{growth, Displaced, Sealed}
 use Rattle.change.specs.declared.Outline.{Outline}
-use Rattle.change.proofs.Laws.{lent-rest}
 
 -- ---- growth
+-- no element: none
 pub growth-none : (n k b : ℕ) → k ≡ 0 → 0 ≡ growth n k b
 unfolding growth
 growth-none n k b h = sym (rw (eq-eqb k 0 h, growth))
 
+-- the blocks are enough: none
 pub growth-still : (n k b x : ℕ) → (k ≡ 0 → ⊥) → x ≡ (b + 259) / 256 → x ≤ n → 0 ≡ growth n k b
 unfolding growth blocks-for
 growth-still n k b x h e p = sym (rw (ne-eqb k 0 h, growth) (omega arith))
 
+-- else as many as are missing
 pub growth-more : (n k b x : ℕ) → (k ≡ 0 → ⊥) → x ≡ (b + 259) / 256 → n < x → x - n ≡ growth n k b
 unfolding growth blocks-for
 growth-more n k b x h e p = sym (rw (ne-eqb k 0 h, growth) (omega arith))
 
--- ---- displace
+-- ---- displace: the steps one after the other
 pub displaced : (index area : List ℕ) (d g : ℕ) (t : Target) (T T₁ T₂ T₃ : List ℕ) (ms ms₁ ms₂ : List Bool) (top end : ℕ)
     → T₁ ≡ noted g (map (λ e. e .block) (elements-at index 0 (t .before))) T
     → T₂ ≡ noted g (map (λ e. e .block) (elements-at index (t .end) (t .after))) T₁
@@ -58,7 +61,7 @@ marks-end dst src i e h l =
     ∙ ap₂ (λ (x y : List ℕ). x ++ y) (sym (take-all i dst (omega arith))) (sym (drop-of-length-le src {i = i} h))
     ∙ e
 
--- ---- write_rest
+-- ---- write_rest: the free list in the lent rest, then the header
 pub rest-sealed : (s s′ x bs : List ℕ) (front : ℕ) (v : Outline) (first : ℕ) → x ≡ free-list-written bs (take (length s - front) (drop front s)) → first ≡ free-list-start bs
     → s′ ≡ changed-header layout4 (record { index-blocks = v .n + v .g; entries = v .words; first-free = first; elements = v .elements; run-blocks = v .blocks }) (take front s ++ (x ++ drop (length s - front) (drop front s)))
     → Sealed s s′ front v bs

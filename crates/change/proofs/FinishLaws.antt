@@ -1,28 +1,25 @@
 -- The start of a change and its end, as code takes them.
-use Prim.Native.Nat.{ℕ, _+_, _-_, _*_, _%_, _≤_, _<_, max}
+use Prim.Native.Nat.{ℕ, _+_, _-_, _*_, _%_, _≤_, _<_}
 use mathlib.Core.Path.{_≡_, refl, sym, ap, subst, _∙_}
-use mathlib.Core.Logic.{_⊎_, inl, inr}
 use mathlib.Core.Bool.{Bool, true, false}
-use mathlib.Core.List.{List, _∷_, _++_, map}
+use mathlib.Core.List.{List, _++_, map}
 use native.Mathlib.Omega.{arith}
 use lib.ListN.{length, take, drop, replicate, length-take}
 use lib.Seq.{length-take-le}
 use lib.Dec.{eqb}
 use Rattle.spec.specs.Outcome.{ok}
-use Rattle.spec.specs.Bytes.{write, bytes-at, blocks-for}
+use Rattle.spec.specs.Bytes.{blocks-for}
 use Rattle.spec.specs.Header as Header
 use Rattle.spec.specs.Header.{layout4, format4, get}
-use Rattle.spec.specs.Entry.{Entry, headword-ok}
+use Rattle.spec.specs.Entry.{headword-ok}
 use Rattle.spec.specs.Run.{Run, run-size}
 use Rattle.spec.specs.Blocks.{free-marks}
 use Rattle.spec.specs.Check as Check
 use Rattle.spec.specs.Check.{Image, image-from, runs-from, all-entries}
-use Rattle.spec.specs.Place as Place
-use Rattle.spec.specs.Place.{target-run, cut, new-run, element-of, grown, plan-full}
+use Rattle.spec.specs.Place.{target-run, cut, new-run, grown, plan-full}
 use Rattle.spec.specs.Calls.{plan-length}
-use Rattle.spec.proofs.ListsLaws.{All, all-back}
 use Rattle.spec.proofs.OutcomeLaws.{same-value}
-use Rattle.spec.proofs.ReadLaws.{run-told, image-told}
+use Rattle.spec.proofs.ReadLaws.{image-told}
 use Rattle.spec.proofs.PlanLaws.{SoundPlan}
 use Rattle.marks.specs.Marks.{marks, with-range}
 use Rattle.marks.proofs.Laws.{length-marks}
@@ -32,42 +29,20 @@ use Rattle.header.proofs.Laws.{frame-index-few}
 use Rattle.inspect.specs.Overview.{AcceptedImage}
 use Rattle.inspect.proofs.Laws.{index-part, data-part, data-long}
 use Rattle.inspect.proofs.Accepted.{accepted-frame, accepted-blocks, accepted-whole, accepted-runs}
-use Rattle.placing.specs.Spread.{Spread, spread, Within}
-use Rattle.moves.specs.Moved.{noted, starts, size-at, freed}
+use Rattle.placing.specs.Spread.{spread, Within}
+use Rattle.moves.specs.Moved.{noted, starts, freed}
 use Rattle.target.specs.declared.Target.{Target}
-use Rattle.target.specs.Told.{NumbersWithin, entries-start, entries-part, NoRun, OneRun, TargetTold}
-use Rattle.target.proofs.Laws.{Known, runs-known, numbers-within, told-blocks}
+use Rattle.target.specs.Told.{NumbersWithin, entries-start, entries-part, TargetTold}
+use Rattle.target.proofs.Laws.{numbers-within, told-blocks}
 use Rattle.parts.specs.Part.{Measured}
 use Rattle.parts.specs.Merge.{changed-entries}
-use Rattle.parts.proofs.Laws.{changed-few}
-use Rattle.parts.proofs.PartLaws.{Short, part-stands}
-use Rattle.parts.proofs.MeasureLaws as MeasureLaws
 use Rattle.plan.proofs.Grown.{Growing}
 use Rattle.change.specs.declared.Outline.{Outline}
 use Rattle.change.specs.declared.Draft.{Draft}
 use Rattle.change.specs.Ready.{growth, planned, parts-of, Displaced, Ready, Roomy, Written, Changed}
 use Rattle.change.specs.Drafted.{PlannedEnd, Drafted, Begun}
-use Rattle.change.proofs.Laws.{changed-short, blocks-full, length-full, not-full, new-length}
-use Rattle.change.proofs.ReadyLaws.{runs-read, blocks-counted, still, grows, grows-over, index-full, moved-full, ready}
-
--- ---- the bytes of the run concerned
--- its entries start behind its own start
-start-low : (b size : ℕ) → 256 * b ≤ entries-start b size
-unfolding entries-start
-start-low b size = go (eqb size 0)
-  where
-    go : (x : Bool) → 256 * b ≤ elim x [ true ↦ 256 * b | false ↦ 256 * b + 2 ]
-    go true = omega arith
-    go false = omega arith
-
--- they are no more than 8,388,608
-pub run-short : (area : List ℕ) (b size from : ℕ) → from ≡ entries-start b size → size ≤ 32_767 → length (take (256 * (b + size) - from) (drop from area)) ≤ 8_388_608
-run-short area b size from e p = omega (arith, start-low b size, length-take (256 * (b + size) - from) (drop from area))
-
--- as code cuts them out
-pub run-cut : (area : List ℕ) (b size from : ℕ) → from ≡ entries-start b size → take (256 * (b + size) - from) (drop from area) ≡ entries-part area b size
-unfolding entries-part
-run-cut area b size from e = ap (λ (x : ℕ). take (256 * (b + size) - x) (drop x area)) e
+use Rattle.change.proofs.Laws.{run-cut, blocks-full, length-full, not-full, new-length}
+use Rattle.change.proofs.ReadyLaws.{blocks-counted, still, grows, grows-over, index-full, moved-full, ready}
 
 -- ---- plan_end
 -- the end by the copied marks is that by the marks
@@ -88,24 +63,6 @@ pub marks-long : (ws : List ℕ) → length ws ≡ 2560 → length (marks ws) �
 marks-long ws e = omega (arith, length-marks ws)
 
 module _ (o : List ℕ) (v : Outline) (T : List ℕ) (ms : List Bool) (t : Target) (h body : List ℕ) (fresh : Bool) (r : Ready o v T ms t h body fresh) where
-  -- the run concerned has no more blocks than a run can have
-  pub run-few : t .size ≤ 32_767
-  run-few = go (r .told .run)
-    where
-      acc : AcceptedImage o (v .n) (v .d)
-      acc = record { image = r .image; is = r .is; index-blocks = r .index-blocks; data-blocks = r .data-blocks }
-
-      known : All (Known format4 (v .d) (data-part o (v .n))) (r .image .runs)
-      known = runs-known format4 (v .d) (data-part o (v .n)) (elements-at (index-part o (v .n)) 0 (get (layout4 .nindex2) o)) (r .image .runs) (runs-read o (v .n) (v .d) acc) .1
-
-      go : NoRun (data-part o (v .n)) (r .image .runs) (target-run format4 h (r .image .runs)) t ⊎ OneRun (data-part o (v .n)) (r .image .runs) (target-run format4 h (r .image .runs)) t → t .size ≤ 32_767
-      go (inl x) = omega (arith, x .size)
-      go (inr x) =
-          let c : Place.Target = target-run format4 h (r .image .runs) in
-          let a : All (Known format4 (v .d) (data-part o (v .n))) (c .before ++ x .run ∷ c .after) = subst (All (Known format4 (v .d) (data-part o (v .n)))) (x .among) known in
-          let k : Known format4 (v .d) (data-part o (v .n)) (x .run) = all-back (Known format4 (v .d) (data-part o (v .n))) (c .before) (x .run ∷ c .after) a .0 in
-          omega (arith, run-told format4 (v .d) (data-part o (v .n)) (element-of (x .run)) (k .next) (x .run) (k .read) .few-blocks, x .size)
-
   -- the blocks end behind those that the index takes
   pub end-behind : v .g ≤ v .end
   end-behind = omega (arith, r .under .end-is)
@@ -163,11 +120,6 @@ module _ (s : List ℕ) (L : ℕ) (v : Outline) (T : List ℕ) (ms : List Bool) 
               ),
             )
 
--- the copy of the old image
-pub copy-stands : (s w w′ : List ℕ) (L : ℕ) → w′ ≡ write 0 (bytes-at 0 L s) w → L ≤ length s → L ≤ length w → take L w′ ≡ take L s
-unfolding bytes-at
-copy-stands s w w′ L e p q = part-stands (take L s) w w′ L e (sym (length-take-le L s p)) q
-
 -- ---- measure_change
 -- an accepted image has no more index blocks than the field holds
 pub accepted-few : (o : List ℕ) (n d : ℕ) → AcceptedImage o n d → n ≤ 32_767
@@ -177,16 +129,6 @@ accepted-few o n d a = frame-index-few o n d (image-told format4 o (a .image) (a
 -- so its elements end early
 pub index-short : (o : List ℕ) (n d : ℕ) → AcceptedImage o n d → (e : ℕ) → e ≤ length (index-part o n) → e ≤ 8_388_352
 index-short o n d a e p = omega (arith, accepted-few o n d a, length-take (256 + 256 * n - 256) (drop 256 o))
-
--- parts by their numbers are few
-pub measured-few : (run h body : List ℕ) (fresh : Bool) (parts bytes blocks : ℕ) → Measured (map new-run (cut 1_024 (changed-entries run h body fresh))) parts bytes blocks
-    → headword-ok h ≡ true → length body ≤ 3_001 → length run ≤ 8_388_608 → (parts ≤ 8_388_609) × (bytes ≤ 2_105_540_859) × (blocks ≤ 109_051_917)
-unfolding MeasureLaws.parts-of MeasureLaws.bytes-of MeasureLaws.blocks-of
-measured-few run h body fresh parts bytes blocks m p q l =
-    let es : List Entry = changed-entries run h body fresh in
-    let s : All Short es = changed-short run h body fresh p q in
-    let k : length es ≤ length run + 1 = changed-few run h body fresh in
-    (omega (arith, m .0, MeasureLaws.parts-few es s), omega (arith, m .1, MeasureLaws.bytes-few es s), omega (arith, m .2, MeasureLaws.blocks-few es s))
 
 -- an index does not grow by more than these bytes
 pub growth-few : (n k b : ℕ) → growth n k b ≤ b + 4
@@ -242,8 +184,8 @@ change-index s L n d h body fresh p a k q i e =
     (λ z. (ap (λ (y : Image). plan-full s (planned y h body fresh)) x ∙ f, refl), λ z. absurd (omega arith))
 
 -- an image of whole blocks at the front of a slice
-pub front-whole : (s : List ℕ) (L : ℕ) → L ≤ length s → L % 256 ≡ 0 → length (take L s) % 256 ≡ 0
-front-whole s L p q = ap (λ (x : ℕ). x % 256) (length-take-le L s p) ∙ q
+pub front-blocks : (s : List ℕ) (L : ℕ) → L ≤ length s → L % 256 ≡ 0 → length (take L s) % 256 ≡ 0
+front-blocks s L p q = ap (λ (x : ℕ). x % 256) (length-take-le L s p) ∙ q
 
 -- what a change begins with
 pub begins : (s : List ℕ) (L n d : ℕ) (h body : List ℕ) (fresh : Bool) (words : ℕ) (p : Draft) (free free′ : List Bool) → AcceptedImage (take L s) n d → L ≤ length s → L % 256 ≡ 0 → Drafted (take L s) n d h body fresh p
@@ -255,7 +197,7 @@ pub begins : (s : List ℕ) (L n d : ℕ) (h body : List ℕ) (fresh : Bool) (wo
 begins s L n d h body fresh words p free free′ a inside whole k marked sound e few headword short =
     record {
       accepted = a;
-      whole = accepted-whole (take L s) n d a (front-whole s L inside whole);
+      whole = accepted-whole (take L s) n d a (front-blocks s L inside whole);
       drafted = k;
       few-index = few;
       headword = headword;
@@ -313,9 +255,6 @@ module _ (o : List ℕ) (n d : ℕ) (p : Draft) (ms : List Bool) (h body : List 
 
     abbrev ms₁ : List Bool
     ms₁ = freed (data-part o n) d (starts 0 g T₀) ms
-
-    abbrev sp : Spread
-    sp = spread g (max d g) ms₁ (map (size-at (data-part o n) d) (starts 0 g T₀))
 
     freed-is : ms₁ ≡ freed (data-part o n) d (starts 0 g T₀) (with-range (t .block) (t .size) true free)
     freed-is = ap (freed (data-part o n) d (starts 0 g T₀)) (b .marked)

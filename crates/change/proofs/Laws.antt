@@ -1,48 +1,54 @@
 -- A change whose growth is planned: its plan, and what is written.
-use Prim.Native.Nat.{ℕ, zero, suc, _+_, _-_, _*_, _/_, _≤_, _<_}
+use Prim.Native.Nat.{ℕ, zero, suc, _+_, _-_, _*_, _≤_, _<_}
 use mathlib.Core.Path.{_≡_, refl, sym, ap, ap₂, subst, _∙_}
-use mathlib.Core.Logic.{_⊎_, inl, inr, ⊎-elim}
+use mathlib.Core.Logic.{_⊎_, inl, inr}
 use mathlib.Core.Bool.{Bool, true, false}
-use mathlib.Core.List.{List, [], _∷_, _++_, map, append-nil, append-assoc}
+use mathlib.Core.List.{List, [], _∷_, _++_, map, append-assoc}
 use native.Mathlib.Omega.{arith}
-use lib.ListN.{length, take, drop, length-append, length-drop, drop-of-length-le}
-use lib.Seq.{take-all, take-add, take-take, drop-drop}
+use lib.ListN.{length, take, drop, length-drop, length-take}
+use lib.Seq.{take-add, take-take, drop-drop}
 use Rattle.marks.proofs.Laws.{drop-take}
-use Rattle.spec.specs.Outcome.{Outcome, refused, ok, _>>=_, _>>_, refuse_when_}
+use Rattle.spec.specs.Outcome.{ok}
 use Rattle.spec.specs.Bytes.{write, zeros, blocks-for}
+use Rattle.spec.specs.Header as Header
 use Rattle.spec.specs.Header.{layout4, format4, Counts, changed-header}
 use Rattle.spec.specs.Order.{below-of}
 use Rattle.spec.specs.Entry.{Entry, headword-ok}
 use Rattle.spec.specs.Run.{Run, run-size, read-entry}
+use Rattle.spec.specs.Check as Check
 use Rattle.spec.specs.Check.{Image, image-from, all-entries}
 use Rattle.spec.specs.Place as Place
 use Rattle.spec.specs.Index.{Element, elements-bytes, index-bytes, index-need}
 use Rattle.spec.specs.Blocks.{run-blocks, free-blocks, free-list-start, free-list-written}
 use Rattle.spec.specs.Place.{Plan, Placed, Grown, target-run, cut, new-run, place, element-of, grown, runs-written, plan-counts, plan-full, plan-written}
 use Rattle.spec.specs.Calls.{plan-length}
-use Rattle.spec.proofs.ListsLaws.{All, all-map}
+use Rattle.spec.proofs.ListsLaws.{All, all-map, all-back}
 use Rattle.spec.proofs.RunLaws.{body-short}
 use Rattle.spec.proofs.BlocksLaws.{Laid}
 use Rattle.spec.proofs.OutcomeLaws.{same-value}
 use Rattle.spec.proofs.IndexLaws.{index-bytes-length}
 use Rattle.spec.proofs.PlanLaws.{plan-of}
+use Rattle.spec.proofs.HoldsLaws.{Holds}
+use Rattle.spec.proofs.ChangeLaws.{image-sound}
 use Rattle.index.specs.Elements.{elements-at}
 use Rattle.inspect.proofs.Laws.{index-part, data-part}
 use Rattle.elements.specs.Renewed.{renewed}
 use Rattle.elements.proofs.Laws.{renewed-length}
 use Rattle.placing.specs.Spread.{Spread, spread}
-use Rattle.placing.proofs.SpreadLaws.{spread-grows}
+use Rattle.placing.proofs.SpreadLaws.{places-from, spread-grows}
 use Rattle.chain.specs.Numbers.{numbers}
 use Rattle.moves.specs.Moved.{starts, moved-written}
 use Rattle.target.specs.declared.Target.{Target}
 use Rattle.target.specs.Told.{entries-start, entries-part, NoRun, OneRun, TargetTold}
+use Rattle.target.proofs.Laws.{start-least}
 use Rattle.parts.specs.Part.{part-of, past-part}
 use Rattle.parts.specs.Merge.{entries-until, entries-left, changed-entries}
 use Rattle.parts.proofs.MergeLaws.{entries-left-read, left-ok, merge-all}
 use Rattle.parts.proofs.PartLaws.{Short, cut-none, cut-parts, past-all, past-fewer, part-short, part-size}
 use Rattle.plan.specs.Written.{part-runs, parts-written}
-use Rattle.plan.proofs.Whole.{elements-parts, sides, sealed}
-use Rattle.plan.proofs.Finish.{plan-parts, full-blocks, full-length, full-not, length-is, parts-over, written-is, parts-runs, parts-end, parts-above, parts-free}
+use Rattle.newruns.proofs.Laws.{lent-rest}
+use Rattle.plan.proofs.Whole.{elements-sum, sides, sealed}
+use Rattle.plan.proofs.Finish.{plan-parts, full-blocks, full-length, full-not, length-is, parts-over, written-is, parts-runs, parts-end, parts-free}
 use Rattle.change.specs.declared.Outline.{Outline}
 use Rattle.change.specs.Ready.{edited, planned, parts-of, Ready, Roomy, Areas, Written}
 
@@ -77,6 +83,27 @@ entries-are index area n h rs t k = go (k .run)
     go (inl x) = rw (x .block, x .size) (left-none []) ∙ sym (x .entries)
     go (inr x) = entries-left-read format4 (x .fuel) [] (entries-part area (t .block) (t .size)) (target-run format4 h rs .entries) (x .read)
 
+-- ---- the bytes of the run concerned
+-- as code cuts them out
+pub run-cut : (area : List ℕ) (b size from : ℕ) → from ≡ entries-start b size → take (256 * (b + size) - from) (drop from area) ≡ entries-part area b size
+unfolding entries-part
+run-cut area b size from e = ap (λ (x : ℕ). take (256 * (b + size) - x) (drop x area)) e
+
+-- they are no more than 8,388,608
+pub run-short : (area : List ℕ) (b size from : ℕ) → from ≡ entries-start b size → size ≤ 32_767 → length (take (256 * (b + size) - from) (drop from area)) ≤ 8_388_608
+run-short area b size from e p = omega (arith, start-least b size, length-take (256 * (b + size) - from) (drop from area))
+
+-- for the run has no more blocks than a run can have
+pub run-few : (o : List ℕ) (v : Outline) (T : List ℕ) (ms : List Bool) (t : Target) (h body : List ℕ) (fresh : Bool) → Ready o v T ms t h body fresh → t .size ≤ 32_767
+unfolding Check.image-from Header.format-of
+run-few o v T ms t h body fresh r = go (target-run format4 h (r .image .runs)) (r .told .run)
+  where
+    go : (c : Place.Target) → NoRun (data-part o (v .n)) (r .image .runs) c t ⊎ OneRun (data-part o (v .n)) (r .image .runs) c t → t .size ≤ 32_767
+    go c (inl x) = omega (arith, x .size)
+    go c (inr x) =
+        let k : All (Holds format4) (c .before ++ x .run ∷ c .after) = subst (All (Holds format4)) (x .among) (image-sound format4 o (r .image) (r .is) .holds) in
+        omega (arith, all-back (Holds format4) (c .before) (x .run ∷ c .after) k .0 .few-blocks, x .size)
+
 -- the entries of the changed run keep their rules, as far as their lengths go
 pub changed-short : (run h body : List ℕ) (fresh : Bool) → headword-ok h ≡ true → length body ≤ 3_001 → All Short (changed-entries run h body fresh)
 unfolding changed-entries
@@ -89,13 +116,6 @@ need-room : (N : ℕ) (es : List Element) → index-need format4 es ≤ N → le
 unfolding index-need elements-bytes blocks-for
 need-room N [] h = omega arith
 need-room N (e ∷ es) h = omega arith
-
--- what a callee left in the rest of a slice
-pub lent-rest : (i : ℕ) (s : List ℕ) (f : List ℕ → List ℕ) → f (take (length s - i) (drop i s)) ++ drop (length s - i) (drop i s) ≡ f (drop i s)
-lent-rest i s f =
-    let k : take (length s - i) (drop i s) ≡ drop i s = take-all (length s - i) (drop i s) (omega (arith, length-drop i s)) in
-    let n : drop (length s - i) (drop i s) ≡ [] = drop-drop (length s - i) i s ∙ drop-of-length-le s {i = i + (length s - i)} (omega arith) in
-    ap₂ (λ (x y : List ℕ). f x ++ y) k n ∙ append-nil (f (drop i s))
 
 -- the parts of the run as code reads it are those of the run concerned
 pub parts-same : (o : List ℕ) (n : ℕ) (t : Target) (h body : List ℕ) (fresh : Bool) (rs : List Run) (e : ℕ) → TargetTold (index-part o n) (data-part o n) e h rs t
@@ -188,10 +208,10 @@ module _ (o : List ℕ) (v : Outline) (T : List ℕ) (ms : List Bool) (t : Targe
     runs-are = parts-runs m (v .g) ps ms (v .end) (r .under .end-is) (r .under .marked) 13 small fits
 
     pub blocks-end : sp .end ≡ v .g + p .data-blocks
-    blocks-end = parts-end m (v .g) ps ms (v .end) (r .under .end-is) (r .under .marked) 13 small fits
+    blocks-end = at-end s (q .long) (q .end-few)
 
     pub places-above : All (λ b. v .g ≤ b) (sp .places)
-    places-above = parts-above m (v .g) ps ms (v .end) (r .under .end-is) (r .under .marked) 13 small fits
+    places-above = places-from (v .g) (v .end) ms (map run-size ps) (omega (arith, r .under .end-is))
 
     pub free-are : numbers 0 (take (sp .end - v .g) (drop (v .g) (sp .free))) ≡ free-blocks all (p .data-blocks)
     free-are = parts-free m (v .g) ps ms (v .end) (r .under .end-is) (r .under .marked) 13 small fits
@@ -244,14 +264,9 @@ module _ (o : List ℕ) (v : Outline) (T : List ℕ) (ms : List Bool) (t : Targe
     -- all elements have room in the index
     pub index-room : 256 + length (elements-bytes format4 (map element-of (m .before))) + length (elements-bytes format4 (map element-of Q)) + length (elements-bytes format4 (map element-of (m .after))) ≤ front
     index-room =
-        let B : List ℕ = elements-bytes format4 (map element-of (m .before)) in
-        let P : List ℕ = elements-bytes format4 (map element-of Q) in
-        let A : List ℕ = elements-bytes format4 (map element-of (m .after)) in
-        let e : length (elements-bytes format4 (map element-of (m .before ++ Q ++ m .after))) ≡ length B + length P + length A
-        = ap length (elements-parts (m .before) Q (m .after)) ∙ length-append (B ++ P) A ∙ ap (λ (k : ℕ). k + length A) (length-append B P) in
         let n : length (elements-bytes format4 (map element-of (m .before ++ Q ++ m .after))) ≤ 256 * (v .n + v .g)
         = subst (λ (x : List Run). length (elements-bytes format4 (map element-of (m .before ++ x ++ m .after))) ≤ 256 * (v .n + v .g)) (sym runs-are) (need-room (v .n + v .g) (map element-of all) all-need) in
-        omega arith
+        omega (arith, elements-sum (m .before) Q (m .after))
 
     -- the new image lies inside the slice
     pub room-is : front + 256 * p .data-blocks ≤ length s

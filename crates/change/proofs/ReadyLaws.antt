@@ -1,32 +1,31 @@
 -- An accepted image and the run concerned: what a change starts from.
 use Prim.Native.Nat.{ℕ, zero, suc, _+_, _-_, _*_, _≤_, _<_, max}
 use mathlib.Core.Path.{_≡_, refl, sym, ap, ap₂, subst, _∙_}
-use mathlib.Core.Logic.{_⊎_, inl, inr, ⊎-elim}
+use mathlib.Core.Logic.{_⊎_, inl, inr}
 use mathlib.Core.Bool.{Bool, true, false, not}
-use mathlib.Core.List.{List, [], _∷_, _++_, map, append-nil}
+use mathlib.Core.List.{List, [], _∷_, _++_, map}
 use native.Mathlib.Omega.{arith}
-use lib.ListN.{length, take, drop, getD, replicate, length-append, length-map, length-replicate, getD-replicate, List·getD-append}
+use lib.ListN.{length, getD, replicate, length-append, length-map, length-replicate, List·getD-append}
 use lib.Seq.{getD-append-add}
 use lib.Dec.{eqb}
 use borrow.Author.Tests.{eqb-true, ne-eqb}
 use Rattle.spec.specs.Outcome.{ok}
-use Rattle.spec.specs.Lists.{any, count}
 use Rattle.spec.specs.Bytes.{from-little-endian, bytes-at, blocks-for}
 use Rattle.spec.specs.Header as Header
 use Rattle.spec.specs.Header.{layout4, format4, get}
 use Rattle.spec.specs.Entry.{Entry, headword-ok}
 use Rattle.spec.specs.Run.{Run}
 use Rattle.spec.specs.Index.{Element, elements-bytes, index-need}
-use Rattle.spec.specs.Blocks.{covers, is-free, run-blocks, free-marks, each-once}
+use Rattle.spec.specs.Blocks.{is-free, run-blocks, free-marks, each-once}
 use Rattle.spec.specs.Check as Check
 use Rattle.spec.specs.Check.{Image, image-from, runs-from, counts-ok, all-entries}
 use Rattle.spec.specs.Place as Place
 use Rattle.spec.specs.Place.{target-run, cut, new-run, place, element-of, grown, plan-full}
-use Rattle.spec.proofs.ListsLaws.{All, and-right, all-map, all-append, all-front, all-back, one, count-once, less-or}
+use Rattle.spec.proofs.ListsLaws.{All, and-right, all-map, all-append, all-front, all-back, one}
 use Rattle.spec.proofs.BlocksLaws.{Laid}
 use Rattle.spec.proofs.PlanLaws.{plan-of, SoundPlan}
 use Rattle.spec.proofs.LaidLaws.{Sized, laid-without}
-use Rattle.spec.proofs.CountLaws.{block-once}
+use Rattle.spec.proofs.CountLaws.{free-list-free}
 use Rattle.spec.proofs.FreeListLaws.{Stands}
 use Rattle.spec.proofs.ReadLaws.{ImageTold, image-told, run-told}
 use Rattle.spec.proofs.ChangeLaws.{Sound, image-sound}
@@ -45,30 +44,13 @@ use Rattle.target.proofs.Laws.{Known, runs-known, told-before, told-after, told
 use Rattle.placing.specs.Spread.{spread}
 use Rattle.moves.specs.Moved.{noted, starts, size-at, freed, tabled}
 use Rattle.plan.proofs.Grown.{Growing, freed-between, index-still, index-grown, noted-both, index-over}
-use Rattle.change.specs.declared.Outline.{Outline}
 use Rattle.elements.specs.Renewed.{elements-end}
 use Rattle.parts.specs.Part.{Measured}
-use Rattle.plan.proofs.Whole.{elements-parts}
+use Rattle.plan.proofs.Whole.{elements-sum}
 use Rattle.plan.proofs.Finish.{plan-parts, full-index, full-blocks}
 use Rattle.plan.proofs.Counted.{change-length, change-blocks}
 use Rattle.change.specs.Ready.{growth, edited, planned, parts-of, Ready}
 use Rattle.change.proofs.Laws.{parts-same}
-
--- a block on the free list is one that no run covers
-free-list-free : (D : ℕ) (rs : List Run) (fl : List ℕ) → each-once D rs fl ≡ true → (b : ℕ) → b < D → any (eqb b) fl ≡ is-free rs b
-unfolding is-free
-free-list-free D rs fl o b h = other (any (covers b) rs) (any (eqb b) fl) ones
-  where
-    other : (s t : Bool) → one s + one t ≡ 1 → t ≡ not s
-    other true true e = absurd (omega arith)
-    other true false e = refl
-    other false true e = refl
-    other false false e = absurd (omega arith)
-
-    ones : one (any (covers b) rs) + one (any (eqb b) fl) ≡ 1
-    ones =
-        let e : count (covers b) rs + count (eqb b) fl ≡ 1 = block-once D rs fl o b h in
-        rw (count-once (covers b) rs (omega arith), count-once (eqb b) fl (omega arith)) e
 
 -- the marks of a free list are those of the blocks that no run covers
 pub list-marked : (D k : ℕ) (rs : List Run) (fl : List ℕ) → each-once D rs fl ≡ true → Marked 0 0 D (free-marks D fl ++ replicate k false) rs
@@ -129,7 +111,7 @@ module _ (o : List ℕ) (n d : ℕ) (a : AcceptedImage o n d) where
   runs-read = accepted-runs o n d a (get (layout4 .nindex2) o) refl
 
   known : All (Known format4 d area) (i .runs)
-  known = runs-known format4 d area (elements-at index 0 (get (layout4 .nindex2) o)) (i .runs) runs-read .1
+  known = runs-known format4 d area (elements-at index 0 (get (layout4 .nindex2) o)) (i .runs) runs-read
 
   -- each run's bytes stand in the data area
   stands : Stands area (i .runs)
@@ -198,6 +180,11 @@ module _ (o : List ℕ) (n d : ℕ) (a : AcceptedImage o n d) where
           subst (λ (x : ℕ). Growing area d 0 (c .before) (c .after) x T d (with-range (t .block) (t .size) true free)) (start-long p)
           (index-still area d (c .before) (c .after) (with-range (t .block) (t .size) true free) T others-laid (others _ stands) start-marked)
 
+      -- the table of where the other runs start
+      noted-all : (g : ℕ) (T₀ : List ℕ) → T₀ ≡ noted g (map (λ e. e .block) (elements-at index (t .end) (t .after))) (noted g (map (λ e. e .block) (elements-at index 0 (t .before))) (replicate 32_768 0))
+          → T₀ ≡ noted g (map (λ r. r .block) (c .before ++ c .after)) (replicate 32_768 0)
+      noted-all g T₀ e = e ∙ ap₂ (λ (y z : List Element). noted g (map (λ e. e .block) y) (noted g (map (λ e. e .block) z) (replicate 32_768 0))) (k .after) (k .before) ∙ noted-both g (c .before) (c .after) (replicate 32_768 0)
+
       -- one that grows
       pub grows : t .block + t .size ≤ d → (g : ℕ) → 1 ≤ g → g ≤ 32_768
           → (T₀ T : List ℕ) (ms₁ ms₂ : List Bool) (end : ℕ)
@@ -209,10 +196,8 @@ module _ (o : List ℕ) (n d : ℕ) (a : AcceptedImage o n d) where
           → end ≤ 163_840 → Growing area d g (c .before) (c .after) 163_840 T end ms₂
       grows p g one most T₀ T ms₁ ms₂ end e₁ e₂ e₃ e₄ e₅ fits =
           let x : List Bool = with-range (t .block) (t .size) true free in
-          let f : T₀ ≡ noted g (map (λ r. r .block) (c .before ++ c .after)) (replicate 32_768 0)
-          = e₁ ∙ ap₂ (λ (y z : List Element). noted g (map (λ e. e .block) y) (noted g (map (λ e. e .block) z) (replicate 32_768 0))) (k .after) (k .before) ∙ noted-both g (c .before) (c .after) (replicate 32_768 0) in
           subst (λ (y : ℕ). Growing area d g (c .before) (c .after) y T end ms₂) (start-long p)
-          (index-grown area d g 32_768 (c .before) (c .after) x one most others-laid (others _ sized) (others _ stands) (others _ counted) start-marked T₀ T ms₁ ms₂ end f e₂ e₃ e₄ e₅ (omega (arith, start-long p)) (omega (arith, start-long p)))
+          (index-grown area d g 32_768 (c .before) (c .after) x one most others-laid (others _ sized) (others _ stands) (others _ counted) start-marked T₀ T ms₁ ms₂ end (noted-all g T₀ e₁) e₂ e₃ e₄ e₅ (omega (arith, start-long p)) (omega (arith, start-long p)))
 
       -- and one for which there are too many blocks
       pub grows-over : t .block + t .size ≤ d → (g : ℕ) → 1 ≤ g → g ≤ 32_767
@@ -222,16 +207,18 @@ module _ (o : List ℕ) (n d : ℕ) (a : AcceptedImage o n d) where
           → 65_536 + g < spread g (max d g) ms₁ (map (size-at area d) (starts 0 g T₀)) .end → 65_536 < grown g d (c .before) (c .after) .data-blocks
       grows-over p g one few′ T₀ ms₁ e₁ e₂ h =
           let x : List Bool = with-range (t .block) (t .size) true free in
-          let f : T₀ ≡ noted g (map (λ r. r .block) (c .before ++ c .after)) (replicate 32_768 0)
-          = e₁ ∙ ap₂ (λ (y z : List Element). noted g (map (λ e. e .block) y) (noted g (map (λ e. e .block) z) (replicate 32_768 0))) (k .after) (k .before) ∙ noted-both g (c .before) (c .after) (replicate 32_768 0) in
           let q : 65_536 + g < g + grown g d (c .before) (c .after) .data-blocks
-          = index-over area d g 32_768 (c .before) (c .after) x one (omega arith) others-laid (others _ sized) (others _ stands) (others _ counted) start-marked T₀ ms₁ (65_536 + g) f e₂ (omega arith) (omega (arith, start-long p)) few h in
+          = index-over area d g 32_768 (c .before) (c .after) x one (omega arith) others-laid (others _ sized) (others _ stands) (others _ counted) start-marked T₀ ms₁ (65_536 + g) (noted-all g T₀ e₁) e₂ (omega arith) (omega (arith, start-long p)) few h in
           omega arith
 
     -- ---- the numbers
     module _ (body : List ℕ) (fresh : Bool) (parts bytes blocks : ℕ) (m : Measured (map new-run (parts-of o n t h body fresh)) parts bytes blocks) where
       abbrev ps : List Run
       ps = map new-run (parts-of o n t h body fresh)
+
+      -- they are those of the changed run concerned
+      parts-are : parts-of o n t h body fresh ≡ cut 1_024 (edited h body fresh (c .entries))
+      parts-are = parts-same o n t h body fresh (i .runs) (get (layout4 .nindex2) o) k
 
       -- how many elements there are then
       count-is : t .before + t .after + parts ≡ length (map element-of (c .before ++ ps ++ c .after))
@@ -242,14 +229,9 @@ module _ (o : List ℕ) (n d : ℕ) (a : AcceptedImage o n d) where
       -- and how many bytes they take
       bytes-are : elements-end index 0 (get (layout4 .nindex2) o) - (t .end - t .at) + bytes ≡ length (elements-bytes format4 (map element-of (c .before ++ ps ++ c .after)))
       bytes-are =
-          let B : List ℕ = elements-bytes format4 (map element-of (c .before)) in
-          let P : List ℕ = elements-bytes format4 (map element-of ps) in
-          let A : List ℕ = elements-bytes format4 (map element-of (c .after)) in
-          let e : length (elements-bytes format4 (map element-of (c .before ++ ps ++ c .after))) ≡ length B + length P + length A
-          = ap length (elements-parts (c .before) ps (c .after)) ∙ length-append (B ++ P) A ∙ ap (λ (x : ℕ). x + length A) (length-append B P) in
-          let x : length (elements-bytes format4 (elements-at index 0 (t .before))) ≡ length B = ap (λ (es : List Element). length (elements-bytes format4 es)) (k .before) in
-          let y : length (elements-bytes format4 (elements-at index (t .end) (t .after))) ≡ length A = ap (λ (es : List Element). length (elements-bytes format4 es)) (k .after) in
-          omega (arith, m .1, k .bytes)
+          let x : length (elements-bytes format4 (elements-at index 0 (t .before))) ≡ length (elements-bytes format4 (map element-of (c .before))) = ap (λ (es : List Element). length (elements-bytes format4 es)) (k .before) in
+          let y : length (elements-bytes format4 (elements-at index (t .end) (t .after))) ≡ length (elements-bytes format4 (map element-of (c .after))) = ap (λ (es : List Element). length (elements-bytes format4 es)) (k .after) in
+          omega (arith, m .1, k .bytes, elements-sum (c .before) ps (c .after))
 
       -- so this is the growth of the plan
       pub growth-is : growth n (t .before + t .after + parts) (elements-end index 0 (get (layout4 .nindex2) o) - (t .end - t .at) + bytes) ≡ index-need format4 (map element-of (c .before ++ ps ++ c .after)) - n
@@ -259,8 +241,7 @@ module _ (o : List ℕ) (n d : ℕ) (a : AcceptedImage o n d) where
       plan-at : (g : ℕ) → g ≡ growth n (t .before + t .after + parts) (elements-end index 0 (get (layout4 .nindex2) o) - (t .end - t .at) + bytes)
           → planned i h body fresh ≡ plan-of format4 (n + g) (place 0 (grown g d (c .before) (c .after) .data-blocks) (grown g d (c .before) (c .after) .before ++ grown g d (c .before) (c .after) .after) ps .data-blocks) (grown g d (c .before) (c .after) .before ++ place 0 (grown g d (c .before) (c .after) .data-blocks) (grown g d (c .before) (c .after) .before ++ grown g d (c .before) (c .after) .after) ps .runs ++ grown g d (c .before) (c .after) .after)
       plan-at g e =
-          let q : parts-of o n t h body fresh ≡ cut 1_024 (edited h body fresh (c .entries)) = parts-same o n t h body fresh (i .runs) (get (layout4 .nindex2) o) k in
-          plan-parts i h (edited h body fresh) n d g (a .index-blocks) (a .data-blocks) (parts-of o n t h body fresh) (sym q) (e ∙ growth-is)
+          plan-parts i h (edited h body fresh) n d g (a .index-blocks) (a .data-blocks) (parts-of o n t h body fresh) (sym parts-are) (e ∙ growth-is)
 
       -- row 15: an index of too many blocks
       pub index-full : (s : List ℕ) (g : ℕ) → g ≡ growth n (t .before + t .after + parts) (elements-end index 0 (get (layout4 .nindex2) o) - (t .end - t .at) + bytes) → 32_767 < n + g → plan-full s (planned i h body fresh) ≡ true
@@ -277,16 +258,14 @@ module _ (o : List ℕ) (n d : ℕ) (a : AcceptedImage o n d) where
       elements-counted : t .before + t .after + parts ≡ length (planned i h body fresh .runs)
       unfolding format4
       elements-counted =
-          let q : parts-of o n t h body fresh ≡ cut 1_024 (edited h body fresh (c .entries)) = parts-same o n t h body fresh (i .runs) (get (layout4 .nindex2) o) k in
-          let e : length ps ≡ length (map new-run (cut 1_024 (edited h body fresh (c .entries)))) = ap (λ (x : List (List Entry)). length (map new-run x)) q in
+          let e : length ps ≡ length (map new-run (cut 1_024 (edited h body fresh (c .entries)))) = ap (λ (x : List (List Entry)). length (map new-run x)) parts-are in
           omega (arith, m .0, told-before index area (get (layout4 .nindex2) o) h (i .runs) t k, told-after index area (get (layout4 .nindex2) o) h (i .runs) t k, change-length format4 i h (edited h body fresh))
 
       -- and its blocks
       runs-counted : get (layout4 .nblock2) o - t .size + blocks ≡ run-blocks (planned i h body fresh .runs)
       unfolding format4
       runs-counted =
-          let q : parts-of o n t h body fresh ≡ cut 1_024 (edited h body fresh (c .entries)) = parts-same o n t h body fresh (i .runs) (get (layout4 .nindex2) o) k in
-          let e : run-blocks ps ≡ run-blocks (map new-run (cut 1_024 (edited h body fresh (c .entries)))) = ap (λ (x : List (List Entry)). run-blocks (map new-run x)) q in
+          let e : run-blocks ps ≡ run-blocks (map new-run (cut 1_024 (edited h body fresh (c .entries)))) = ap (λ (x : List (List Entry)). run-blocks (map new-run x)) parts-are in
           omega (arith, m .2, blocks-counted, told-blocks index area (get (layout4 .nindex2) o) h (i .runs) t k, change-blocks format4 i h (edited h body fresh))
 
       -- a change whose growth is planned

@@ -14,14 +14,13 @@ use Rattle.spec.specs.Run.{run-size}
 use Rattle.spec.specs.Index.{index-need, index-bytes}
 use Rattle.spec.specs.Blocks.{run-blocks, free-list-start, free-list-written}
 use Rattle.spec.specs.Check.{Image, image-from, all-entries}
-use Rattle.spec.specs.Place as Place
 use Rattle.spec.specs.Place.{Plan, target-run, cut, new-run, element-of, plan-change, plan-full, runs-written, plan-written}
 use Rattle.spec.specs.Calls.{plan-length}
 use Rattle.spec.proofs.PlanLaws.{SoundPlan}
 use Rattle.inspect.proofs.Laws.{index-part, data-part}
 use Rattle.index.specs.Elements.{elements-at}
 use Rattle.moves.specs.Moved.{noted, starts, size-at, freed, tabled}
-use Rattle.placing.specs.Spread.{Spread, spread, Within}
+use Rattle.placing.specs.Spread.{spread, Within}
 use Rattle.target.specs.declared.Target.{Target}
 use Rattle.target.specs.Told.{entries-part, TargetTold}
 use Rattle.parts.specs.Merge.{merge, changed-entries}

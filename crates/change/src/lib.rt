@@ -2,7 +2,7 @@
 ghost use mathlib.Core.Path.{_≡_};
 ghost use mathlib.Core.Bool.{true, false};
 ghost use mathlib.Core.List.{_++_, map};
-ghost use Prim.Native.Nat.{_+_, _-_, _*_, _%_, _≤_, max};
+ghost use Prim.Native.Nat.{_+_, _-_, _*_, _%_, _≤_};
 ghost use lib.ListN.{length, take, drop, replicate};
 ghost use Rattle.spec.specs.Outcome.{ok};
 ghost use Rattle.spec.specs.Header.{format4};
@@ -39,16 +39,6 @@ pub struct Draft {
     pub g: usize,
     pub elements: usize,
     pub blocks: usize,
-}
-
-// The larger of two numbers.
-fn larger(a: usize, b: usize) -> usize
-    ensures { λ r. ⌜ r ≡ max a b ⌝ }
-{
-    if a < b {
-        return b;
-    }
-    a
 }
 
 // By how many blocks an index of n blocks must grow for so many elements of so many bytes.
@@ -235,7 +225,7 @@ fn displace(
     moves::note_starts(index, 0, t.before, numbers, g);
     moves::note_starts(index, t.end, t.after, numbers, g);
     moves::free_moved(area, d, numbers, g, free);
-    moves::place_moved(area, d, numbers, g, free, larger(d, g), 65536 + g)
+    moves::place_moved(area, d, numbers, g, free, placing::larger(d, g), 65536 + g)
 }
 
 // Measures a change in an accepted image of n index blocks and d data blocks: the entry with the headword h goes, and a new one
@@ -263,7 +253,8 @@ fn measure_change(old: &[u8], n: usize, d: usize, h: &[u8], body: &[u8], fresh: 
     }
 }
 
-// The rest of a change by which the index grows, the run concerned given up: the displaced runs are placed first.
+// The rest of a change by which the index grows, the run concerned given up: the displaced runs are placed first. The new
+// length, or 0.
 fn grow(
     image: &mut [u8],
     len: usize,
@@ -321,7 +312,8 @@ fn grow(
 }
 
 // A change in an accepted image of n index blocks and d data blocks, whose free blocks are marked: the entry with the headword
-// h goes, and a new one with that body enters, if it is fresh; there are so many entries then. The new length, or 0 where there is no room: row 15.
+// h goes, and a new one with that body enters, if it is fresh; `words` entries are in the image then. The new length, or 0
+// where there is no room: row 15.
 pub fn change(
     image: &mut [u8],
     len: usize,

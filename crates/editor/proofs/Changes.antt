@@ -1,12 +1,12 @@
 -- Insert and delete: the plan that the code makes is the specification's, and what each return shows.
-use Prim.Native.Nat.{ℕ, _+_, _-_, _%_, _<_, _≤_}
+use Prim.Native.Nat.{ℕ, _+_, _-_, _%_, _≤_}
 use mathlib.Core.Path.{_≡_, refl, sym, ap, ap₂, subst, _∙_}
 use mathlib.Core.Bool.{Bool, true, false, not, true≢false, false≢true}
 use mathlib.Core.List.{List, [], _∷_, _++_}
 use mathlib.Core.Option.{Option, none, some}
 use native.Mathlib.Omega.{arith}
-use lib.ListN.{length, take, drop}
-use lib.Seq.{take-at, take-length}
+use lib.ListN.{length, take}
+use lib.Seq.{take-length}
 use lib.Dec.{leb}
 use borrow.Author.Tests.{leb-true, not-true, not-false}
 use Rattle.spec.specs.Outcome.{ok, _>>=_}
@@ -16,18 +16,19 @@ use Rattle.spec.specs.Order.{below-of}
 use Rattle.spec.specs.Header as Header
 use Rattle.spec.specs.Header.{Format, layout4, format4, writable}
 use Rattle.spec.specs.Entry as EntrySpec
-use Rattle.spec.specs.Entry.{Entry, headword-ok, text-ok, attribute-ok, body-ok, entry-of}
+use Rattle.spec.specs.Entry.{Entry, headword-ok, text-ok, attribute-ok, entry-of}
 use Rattle.spec.specs.Check as Check
 use Rattle.spec.specs.Check.{Image, image-from, all-entries, entries-of}
 use Rattle.spec.specs.SortedList.{Sorted, lookup, replace, remove}
 use Rattle.spec.specs.Place as Place
-use Rattle.spec.specs.Place.{Plan, Target, target-run, plan-change, plan-full, plan-written}
+use Rattle.spec.specs.Place.{Plan, Target, target-run, plan-change}
 use Rattle.spec.specs.Calls as Calls
-use Rattle.spec.specs.Calls.{changeable, fitting, insert-plan, insert, delete-plan, delete, plan-length}
+use Rattle.spec.specs.Calls.{changeable, fitting, insert-plan, delete-plan}
 use Rattle.spec.specs.Answers as Answers
-use Rattle.spec.specs.Answers.{length-answer, delete-answer}
 use Rattle.spec.specs.declared.LengthAnswer.{LengthAnswer}
 use Rattle.spec.specs.declared.DeleteAnswer.{DeleteAnswer}
+use Rattle.spec.specs.Claim as Claim
+use Rattle.spec.specs.Claim.{is-there}
 use Rattle.spec.proofs.ListsLaws.{and-left}
 use Rattle.spec.proofs.HeaderLaws.{lawful4}
 use Rattle.spec.proofs.OrderLaws.{order-of}
@@ -40,12 +41,13 @@ use Rattle.spec.proofs.PlanLaws.{SoundPlan}
 use Rattle.spec.proofs.ChangeLaws.{Sound, image-sound, image-ascends, insert-entries, insert-sound, delete-entries, delete-sound}
 use Rattle.parts.specs.Merge.{merge}
 use Rattle.parts.proofs.MergeLaws.{merge-replace, merge-remove}
+use Rattle.parts.proofs.PartLaws.{front-stored}
+use Rattle.change.specs.Ready.{planned, Changed}
 use Rattle.inspect.specs.Overview.{AcceptedImage}
 use Rattle.inspect.proofs.Accepted.{accepted-frame}
-use Rattle.editor.specs.Entered as Entered
-use Rattle.editor.specs.Entered.{is-there, words-after}
+use Rattle.editor.specs.Entered.{words-after}
 use Rattle.editor.proofs.Counts.{replace-count, remove-count}
-use Rattle.editor.proofs.Rows.{change-eleven, change-may}
+use Rattle.editor.proofs.Rows.{Inserts, Deletes, insert-refuses, delete-refuses, change-eleven, change-may}
 
 -- ---- the arguments
 -- a headword that passed its test
@@ -57,17 +59,12 @@ pub text-short : (t : List ℕ) (x : Bool) → x ≡ text-ok t → not x ≡ fal
 unfolding EntrySpec.text-ok
 text-short t x e q = leb-true (length t) 3_000 (and-left (leb (length t) 3_000) (no-zero t) (sym e ∙ not-false x q))
 
--- what is written at the front stands there
-written-front : (y x : List ℕ) (n : ℕ) → length y ≡ n → take n (write 0 y x) ≡ y
-unfolding Bytes.write
-written-front y x n l = take-at y (drop (0 + length y) x) n l
-
 -- the body of the new entry, as the code puts it together
 pub body-made : (b : ℕ) (t x x₁ x₂ : List ℕ) → 1 + length t ≤ length x → x₁ ≡ write 0 (b ∷ []) x → x₂ ≡ write 1 (bytes-at 0 (length t) t) x₁ → take (1 + length t) x₂ ≡ b ∷ t
 unfolding Bytes.bytes-at
 body-made b t x x₁ x₂ p e₁ e₂ =
     let w : x₂ ≡ write 0 (b ∷ t) x = e₂ ∙ ap₂ (λ (u v : List ℕ). write 1 u v) (take-length t) e₁ ∙ write-behind x (b ∷ []) t 0 (omega arith) in
-    ap (take (1 + length t)) w ∙ written-front (b ∷ t) x (1 + length t) (omega arith)
+    front-stored (b ∷ t) x x₂ (1 + length t) w (omega arith)
 
 -- it has no more than 3,001 bytes
 pub body-few : (b : ℕ) (t body : List ℕ) → body ≡ b ∷ t → length t ≤ 3_000 → length body ≤ 3_001
@@ -78,10 +75,6 @@ body-few b t body e p = rw e (omega arith)
 plan-same : (F : Format) (i : Image) (h : List ℕ) (f k : List Entry → List Entry) → f (target-run F h (i .runs) .entries) ≡ k (target-run F h (i .runs) .entries) → plan-change F i h f ≡ plan-change F i h k
 unfolding Place.plan-change
 plan-same F i h f k e = rw e
-
--- the plan of a merged change
-abbrev pub merged : Image → List ℕ → List ℕ → Bool → Plan
-merged i h body fresh = plan-change format4 i h (merge (below-of 0) (record { headword = h; body = body }) fresh)
 
 module _ (s : List ℕ) (i : Image) (got : image-from s ≡ ok i) where
   -- what is known of the image
@@ -103,33 +96,33 @@ module _ (s : List ℕ) (i : Image) (got : image-from s ≡ ok i) where
       ok-sorted format4 (order-of 0) [] (c .entries) (ok-back format4 (order-of 0) [] (all-entries (c .before)) (c .entries) (ok-front format4 (order-of 0) [] (all-entries (c .before) ++ c .entries) (all-entries (c .after)) g))
 
   -- a fresh entry is put in
-  merged-replace : (h body : List ℕ) → merged i h body true ≡ plan-change format4 i h (replace (below-of 0) (record { headword = h; body = body }))
+  merged-replace : (h body : List ℕ) → planned i h body true ≡ plan-change format4 i h (replace (below-of 0) (record { headword = h; body = body }))
   merged-replace h body =
       plan-same format4 i h (merge (below-of 0) (record { headword = h; body = body }) true) (replace (below-of 0) (record { headword = h; body = body }))
       (merge-replace (below-of 0) (record { headword = h; body = body }) (order-of 0) (target-run format4 h (i .runs) .entries) (target-sorted h))
 
   -- without one the headword goes
-  merged-remove : (h body : List ℕ) → merged i h body false ≡ plan-change format4 i h (remove h)
+  merged-remove : (h body : List ℕ) → planned i h body false ≡ plan-change format4 i h (remove h)
   merged-remove h body =
       plan-same format4 i h (merge (below-of 0) (record { headword = h; body = body }) false) (remove h) (merge-remove (below-of 0) (record { headword = h; body = body }) (order-of 0) (target-run format4 h (i .runs) .entries))
 
   -- what the change asks of the plan of an insertion
   insert-planned : (h : List ℕ) (b : ℕ) (t : List ℕ) → headword-ok h ≡ true → text-ok t ≡ true → attribute-ok b ≡ true
-      → SoundPlan format4 (merged i h (b ∷ t) true) × (words-after (length (entries-of i)) (is-there (lookup h (entries-of i))) ≡ length (all-entries (merged i h (b ∷ t) true .runs)))
+      → SoundPlan format4 (planned i h (b ∷ t) true) × (words-after (length (entries-of i)) (is-there (lookup h (entries-of i))) ≡ length (all-entries (planned i h (b ∷ t) true .runs)))
   unfolding Header.format4 EntrySpec.body-ok
   insert-planned h b t x y z =
       let a : Entry = record { headword = h; body = b ∷ t } in
       let good : EntriesOk format4 [] (a ∷ []) = (x, rw (z, y), empty-below (below-of 0) (order-of 0) h x, tt) in
-      let e : merged i h (b ∷ t) true ≡ plan-change format4 i h (replace (below-of 0) a) = merged-replace h (b ∷ t) in
+      let e : planned i h (b ∷ t) true ≡ plan-change format4 i h (replace (below-of 0) a) = merged-replace h (b ∷ t) in
       let n : length (all-entries (plan-change format4 i h (replace (below-of 0) a) .runs)) ≡ words-after (length (entries-of i)) (is-there (lookup h (entries-of i))) =
       ap length (insert-entries format4 lawful4 s i sound a good) ∙ replace-count format4 (order-of 0) a (entries-of i) ascends in
       (subst (SoundPlan format4) (sym e) (insert-sound format4 lawful4 s i sound a good), sym (ap (λ (p : Plan). length (all-entries (p .runs))) e ∙ n))
 
   -- and of a deletion
-  delete-planned : (h body : List ℕ) → is-there (lookup h (entries-of i)) ≡ true → SoundPlan format4 (merged i h body false) × (1 ≤ length (entries-of i)) × (length (entries-of i) - 1 ≡ length (all-entries (merged i h body false .runs)))
+  delete-planned : (h body : List ℕ) → is-there (lookup h (entries-of i)) ≡ true → SoundPlan format4 (planned i h body false) × (1 ≤ length (entries-of i)) × (length (entries-of i) - 1 ≡ length (all-entries (planned i h body false .runs)))
   unfolding Header.format4
   delete-planned h body q =
-      let e : merged i h body false ≡ plan-change format4 i h (remove h) = merged-remove h body in
+      let e : planned i h body false ≡ plan-change format4 i h (remove h) = merged-remove h body in
       let (p, n) = remove-count format4 (order-of 0) h (entries-of i) ascends q in
       (subst (SoundPlan format4) (sym e) (delete-sound format4 lawful4 s i sound h), p, n ∙ sym (ap (λ (p : Plan). length (all-entries (p .runs))) e ∙ ap length (delete-entries format4 lawful4 s i sound h)))
 
@@ -138,7 +131,7 @@ pub insert-ready : (s h : List ℕ) (w : Bool) → w ≡ headword-ok h → not w
     → (words : ℕ) → ((i : Image) → image-from s ≡ ok i → words ≡ length (entries-of i))
     → (there : Bool) → ((i : Image) → image-from s ≡ ok i → there ≡ is-there (lookup h (entries-of i)))
     → (all : ℕ) → all ≡ words-after words there → (body : List ℕ) → body ≡ b ∷ t
-    → (i : Image) → image-from s ≡ ok i → SoundPlan format4 (merged i h body true) × (all ≡ length (all-entries (merged i h body true .runs)))
+    → (i : Image) → image-from s ≡ ok i → SoundPlan format4 (planned i h body true) × (all ≡ length (all-entries (planned i h body true .runs)))
 insert-ready s h w e₁ q₁ t x e₂ q₂ b y e₃ q₃ words counted there found all e body made i got =
     let k = insert-planned s i got h b t (sym e₁ ∙ not-false w q₁) (sym e₂ ∙ not-false x q₂) (sym e₃ ∙ not-false y q₃) in
     rw made (k .0, e ∙ ap₂ words-after (counted i got) (found i got) ∙ k .1)
@@ -150,7 +143,7 @@ module _ (s h : List ℕ) (words : ℕ) (counted : (i : Image) → image-from s 
   delete-some n d a = rw (counted (a .image) (a .is)) (delete-planned s (a .image) (a .is) h [] (sym (found (a .image) (a .is)) ∙ not-false there q) .1)
 
   -- what the change asks of the plan of a deletion
-  pub delete-ready : (body : List ℕ) (i : Image) → image-from s ≡ ok i → SoundPlan format4 (merged i h body false) × (words - 1 ≡ length (all-entries (merged i h body false .runs)))
+  pub delete-ready : (body : List ℕ) (i : Image) → image-from s ≡ ok i → SoundPlan format4 (planned i h body false) × (words - 1 ≡ length (all-entries (planned i h body false .runs)))
   delete-ready body i got =
       let k = delete-planned s i got h body (sym (found i got) ∙ not-false there q) in
       (k .0, ap (λ (n : ℕ). n - 1) (counted i got) ∙ k .2)
@@ -158,44 +151,26 @@ module _ (s h : List ℕ) (words : ℕ) (counted : (i : Image) → image-from s 
 -- ---- the returns
 -- what a look up tells by its test
 there-none : (o : Option Entry) → is-there o ≡ false → o ≡ none
-unfolding Entered.is-there
+unfolding Claim.is-there
 there-none none q = refl
 there-none (some e) q = absurd (true≢false q)
 
 -- one is there
 there-some : (o : Option Entry) → is-there o ≡ true → (e : Entry) × (o ≡ some e)
-unfolding Entered.is-there
+unfolding Claim.is-there
 there-some none q = absurd (false≢true q)
 there-some (some e) q = (e, refl)
-
--- what a change leaves
-abbrev Leaves : List ℕ → ℕ → List ℕ → List ℕ → Bool → ℕ → List ℕ → Type 0
-Leaves s L h body fresh r s′ =
-    (i : Image) → image-from (take L s) ≡ ok i
-    → (r ≡ 0 → (plan-full s (merged i h body fresh) ≡ true) × (s′ ≡ s))
-    × (0 < r → (plan-full s (merged i h body fresh) ≡ false) × (r ≡ plan-length (merged i h body fresh)) × (s′ ≡ plan-written (merged i h body fresh) s))
 
 module _ (s : List ℕ) (L : ℕ) (work : List ℕ) (p₁ : 256 ≤ L) (p₂ : L % 256 ≡ 0) (p₃ : L ≤ length s) (p₄ : length s ≤ length work) (n d : ℕ) (a : AcceptedImage (take L s) n d)
     (v : Bool) (version : v ≡ writable layout4 s) (h : List ℕ) where
   -- row 11
-  pub insert-eleven : not v ≡ true → (b : ℕ) (t : List ℕ) → length-answer (LengthAnswer.Refused 11) ≡ insert s L work h b t .answer
-  unfolding Calls.insert Calls.insert-plan Calls.insert-result Calls.changed Answers.length-answer
-  insert-eleven q b t = sym (rw (change-eleven s L work p₁ p₂ p₃ p₄ n d a v version q))
+  pub insert-eleven : not v ≡ true → (b : ℕ) (t : List ℕ) → Inserts s L work h b t (LengthAnswer.Refused 11) s
+  unfolding Calls.insert-plan
+  insert-eleven q b t = insert-refuses s L work h b t 11 (rw (change-eleven s L work p₁ p₂ p₃ p₄ n d a v version q))
 
-  -- it leaves the image
-  pub insert-eleven-image : not v ≡ true → (b : ℕ) (t : List ℕ) → s ≡ insert s L work h b t .image
-  unfolding Calls.insert Calls.insert-plan Calls.insert-result Calls.changed
-  insert-eleven-image q b t = sym (rw (change-eleven s L work p₁ p₂ p₃ p₄ n d a v version q))
-
-  -- row 11 of a deletion
-  pub delete-eleven : not v ≡ true → delete-answer (DeleteAnswer.Refused 11) ≡ delete s L work h .answer
-  unfolding Calls.delete Calls.delete-plan Calls.delete-result Calls.changed Answers.delete-answer
-  delete-eleven q = sym (rw (change-eleven s L work p₁ p₂ p₃ p₄ n d a v version q))
-
-  -- it leaves the image
-  pub delete-eleven-image : not v ≡ true → s ≡ delete s L work h .image
-  unfolding Calls.delete Calls.delete-plan Calls.delete-result Calls.changed
-  delete-eleven-image q = sym (rw (change-eleven s L work p₁ p₂ p₃ p₄ n d a v version q))
+  pub delete-eleven : not v ≡ true → Deletes s L work h (DeleteAnswer.Refused 11) s
+  unfolding Calls.delete-plan
+  delete-eleven q = delete-refuses s L work h 11 (rw (change-eleven s L work p₁ p₂ p₃ p₄ n d a v version q))
 
   module _ (may : not v ≡ false) (w : Bool) (head : w ≡ headword-ok h) where
     -- the image may be changed
@@ -203,127 +178,79 @@ module _ (s : List ℕ) (L : ℕ) (work : List ℕ) (p₁ : 256 ≤ L) (p₂ : L
     image-ok = change-may s L work p₁ p₂ p₃ p₄ n d a v version may
 
     -- row 12
-    pub insert-twelve : not w ≡ true → (b : ℕ) (t : List ℕ) → length-answer (LengthAnswer.Refused 12) ≡ insert s L work h b t .answer
-    unfolding Calls.insert Calls.insert-plan Calls.insert-result Calls.changed Answers.length-answer
-    insert-twelve q b t = sym (rw (image-ok, ← head, q))
+    pub insert-twelve : not w ≡ true → (b : ℕ) (t : List ℕ) → Inserts s L work h b t (LengthAnswer.Refused 12) s
+    unfolding Calls.insert-plan
+    insert-twelve q b t = insert-refuses s L work h b t 12 (rw (image-ok, ← head, q))
 
-    -- it leaves the image
-    pub insert-twelve-image : not w ≡ true → (b : ℕ) (t : List ℕ) → s ≡ insert s L work h b t .image
-    unfolding Calls.insert Calls.insert-plan Calls.insert-result Calls.changed
-    insert-twelve-image q b t = sym (rw (image-ok, ← head, q))
-
-    -- row 12 of a deletion
-    pub delete-twelve : not w ≡ true → delete-answer (DeleteAnswer.Refused 12) ≡ delete s L work h .answer
-    unfolding Calls.delete Calls.delete-plan Calls.delete-result Calls.changed Answers.delete-answer
-    delete-twelve q = sym (rw (image-ok, ← head, q))
-
-    -- it leaves the image
-    pub delete-twelve-image : not w ≡ true → s ≡ delete s L work h .image
-    unfolding Calls.delete Calls.delete-plan Calls.delete-result Calls.changed
-    delete-twelve-image q = sym (rw (image-ok, ← head, q))
+    pub delete-twelve : not w ≡ true → Deletes s L work h (DeleteAnswer.Refused 12) s
+    unfolding Calls.delete-plan
+    delete-twelve q = delete-refuses s L work h 12 (rw (image-ok, ← head, q))
 
     -- Insert: row 13, by the text
     module _ (good : not w ≡ false) (b : ℕ) (t : List ℕ) (x : Bool) (rule : x ≡ text-ok t) where
       -- the text breaks its rule
-      pub insert-thirteen : not x ≡ true → length-answer (LengthAnswer.Refused 13) ≡ insert s L work h b t .answer
-      unfolding Calls.insert Calls.insert-plan Calls.insert-result Calls.changed Answers.length-answer
-      insert-thirteen q = sym (rw (image-ok, ← head, good, ← rule, not-true x q))
-
-      -- it leaves the image
-      pub insert-thirteen-image : not x ≡ true → s ≡ insert s L work h b t .image
-      unfolding Calls.insert Calls.insert-plan Calls.insert-result Calls.changed
-      insert-thirteen-image q = sym (rw (image-ok, ← head, good, ← rule, not-true x q))
+      pub insert-thirteen : not x ≡ true → Inserts s L work h b t (LengthAnswer.Refused 13) s
+      unfolding Calls.insert-plan
+      insert-thirteen q = insert-refuses s L work h b t 13 (rw (image-ok, ← head, good, ← rule, not-true x q))
 
       -- and by the attribute
       module _ (fits : not x ≡ false) (y : Bool) (attribute : y ≡ attribute-ok b) where
         -- the attribute breaks its rule
-        pub insert-attribute : not y ≡ true → length-answer (LengthAnswer.Refused 13) ≡ insert s L work h b t .answer
-        unfolding Calls.insert Calls.insert-plan Calls.insert-result Calls.changed Answers.length-answer
-        insert-attribute q = sym (rw (image-ok, ← head, good, ← rule, not-false x fits, ← attribute, q))
-
-        -- it leaves the image
-        pub insert-attribute-image : not y ≡ true → s ≡ insert s L work h b t .image
-        unfolding Calls.insert Calls.insert-plan Calls.insert-result Calls.changed
-        insert-attribute-image q = sym (rw (image-ok, ← head, good, ← rule, not-false x fits, ← attribute, q))
+        pub insert-attribute : not y ≡ true → Inserts s L work h b t (LengthAnswer.Refused 13) s
+        unfolding Calls.insert-plan
+        insert-attribute q = insert-refuses s L work h b t 13 (rw (image-ok, ← head, good, ← rule, not-false x fits, ← attribute, q))
 
         module _ (sure : not y ≡ false) (body : List ℕ) (made : body ≡ b ∷ t) where
           -- the plan decides
-          insert-by : insert-plan s L work h b t ≡ fitting s (merged (a .image) h body true)
+          insert-by : insert-plan s L work h b t ≡ fitting s (planned (a .image) h body true)
           unfolding Calls.insert-plan EntrySpec.entry-of Header.format4
           insert-by =
-              let e : merged (a .image) h (b ∷ t) true ≡ plan-change format4 (a .image) h (replace (below-of 0) (entry-of h b t)) = merged-replace (take L s) (a .image) (a .is) h (b ∷ t) in
+              let e : planned (a .image) h (b ∷ t) true ≡ plan-change format4 (a .image) h (replace (below-of 0) (entry-of h b t)) = merged-replace (take L s) (a .image) (a .is) h (b ∷ t) in
               rw (image-ok, ← head, good, ← rule, not-false x fits, ← attribute, sure, made, e, accepted-frame (take L s) n d a)
 
-          module _ (r : ℕ) (s′ : List ℕ) (left : Leaves s L h body true r s′) where
+          module _ (r : ℕ) (s′ : List ℕ) (left : Changed s L h body true r s′) where
             -- row 15
-            pub insert-fifteen : r ≡ 0 → length-answer (LengthAnswer.Refused 15) ≡ insert s L work h b t .answer
-            unfolding Calls.insert Calls.insert-result Calls.fitting Calls.changed Answers.length-answer
-            insert-fifteen z = sym (rw (insert-by, left (a .image) (a .is) .0 z .0))
+            pub insert-fifteen : r ≡ 0 → Inserts s L work h b t (LengthAnswer.Refused 15) s′
+            unfolding Calls.fitting
+            insert-fifteen z =
+                let (k, l) = left (a .image) (a .is) .0 z in
+                rw l (insert-refuses s L work h b t 15 (rw (insert-by, k)))
 
-            -- it leaves the image
-            pub insert-fifteen-image : r ≡ 0 → s′ ≡ insert s L work h b t .image
-            unfolding Calls.insert Calls.insert-result Calls.fitting Calls.changed
-            insert-fifteen-image z = sym (rw (insert-by, left (a .image) (a .is) .0 z .0, left (a .image) (a .is) .0 z .1))
-
-            -- the insertion
-            pub insert-done : (r ≡ 0 → ⊥) → length-answer (LengthAnswer.Done r) ≡ insert s L work h b t .answer
+            -- the insertion: the image is the plan written
+            pub insert-done : (r ≡ 0 → ⊥) → Inserts s L work h b t (LengthAnswer.Done r) s′
             unfolding Calls.insert Calls.insert-result Calls.fitting Calls.changed Answers.length-answer
             insert-done z =
                 let (k, l, m) = left (a .image) (a .is) .1 (omega arith) in
-                sym (rw (insert-by, k, ← l))
-
-            -- the image is the plan written
-            pub insert-done-image : (r ≡ 0 → ⊥) → s′ ≡ insert s L work h b t .image
-            unfolding Calls.insert Calls.insert-result Calls.fitting Calls.changed
-            insert-done-image z =
-                let (k, l, m) = left (a .image) (a .is) .1 (omega arith) in
-                sym (rw (insert-by, k, ← m))
+                (sym (rw (insert-by, k, ← l)), sym (rw (insert-by, k, ← m)))
 
     -- Delete
     module _ (good : not w ≡ false) (there : Bool) (found : (i : Image) → image-from (take L s) ≡ ok i → there ≡ is-there (lookup h (entries-of i))) where
-      -- an absent one
-      absent-is : not there ≡ true → lookup h (entries-of (a .image)) ≡ none
-      absent-is q = there-none (lookup h (entries-of (a .image))) (sym (found (a .image) (a .is)) ∙ not-true there q)
-
-      -- that is the answer
-      pub delete-absent : not there ≡ true → delete-answer DeleteAnswer.Absent ≡ delete s L work h .answer
+      -- no entry has the headword
+      pub delete-absent : not there ≡ true → Deletes s L work h DeleteAnswer.Absent s
       unfolding Calls.delete Calls.delete-plan Calls.delete-result Calls.changed Answers.delete-answer
-      delete-absent q = sym (rw (image-ok, ← head, good, absent-is q))
-
-      -- it leaves the image
-      pub delete-absent-image : not there ≡ true → s ≡ delete s L work h .image
-      unfolding Calls.delete Calls.delete-plan Calls.delete-result Calls.changed
-      delete-absent-image q = sym (rw (image-ok, ← head, good, absent-is q))
+      delete-absent q =
+          let e : lookup h (entries-of (a .image)) ≡ none = there-none (lookup h (entries-of (a .image))) (sym (found (a .image) (a .is)) ∙ not-true there q) in
+          (sym (rw (image-ok, ← head, good, e)), sym (rw (image-ok, ← head, good, e)))
 
       module _ (stands : not there ≡ false) (body : List ℕ) where
         -- the plan decides
-        delete-by : delete-plan s L work h ≡ (fitting s (merged (a .image) h body false) >>= λ p. ok (some p))
+        delete-by : delete-plan s L work h ≡ (fitting s (planned (a .image) h body false) >>= λ p. ok (some p))
         unfolding Calls.delete-plan Header.format4
         delete-by =
             let (e, o) = there-some (lookup h (entries-of (a .image))) (sym (found (a .image) (a .is)) ∙ not-false there stands) in
             rw (image-ok, ← head, good, o, merged-remove (take L s) (a .image) (a .is) h body, accepted-frame (take L s) n d a)
 
-        module _ (r : ℕ) (s′ : List ℕ) (left : Leaves s L h body false r s′) where
+        module _ (r : ℕ) (s′ : List ℕ) (left : Changed s L h body false r s′) where
           -- row 15
-          pub delete-fifteen : r ≡ 0 → delete-answer (DeleteAnswer.Refused 15) ≡ delete s L work h .answer
-          unfolding Calls.delete Calls.delete-result Calls.fitting Calls.changed Answers.delete-answer
-          delete-fifteen z = sym (rw (delete-by, left (a .image) (a .is) .0 z .0))
+          pub delete-fifteen : r ≡ 0 → Deletes s L work h (DeleteAnswer.Refused 15) s′
+          unfolding Calls.fitting
+          delete-fifteen z =
+              let (k, l) = left (a .image) (a .is) .0 z in
+              rw l (delete-refuses s L work h 15 (rw (delete-by, k)))
 
-          -- it leaves the image
-          pub delete-fifteen-image : r ≡ 0 → s′ ≡ delete s L work h .image
-          unfolding Calls.delete Calls.delete-result Calls.fitting Calls.changed
-          delete-fifteen-image z = sym (rw (delete-by, left (a .image) (a .is) .0 z .0, left (a .image) (a .is) .0 z .1))
-
-          -- the deletion
-          pub delete-done : (r ≡ 0 → ⊥) → delete-answer (DeleteAnswer.Removed r) ≡ delete s L work h .answer
+          -- the deletion: the image is the plan written
+          pub delete-done : (r ≡ 0 → ⊥) → Deletes s L work h (DeleteAnswer.Removed r) s′
           unfolding Calls.delete Calls.delete-result Calls.fitting Calls.changed Answers.delete-answer
           delete-done z =
               let (k, l, m) = left (a .image) (a .is) .1 (omega arith) in
-              sym (rw (delete-by, k, ← l))
-
-          -- the image is the plan written
-          pub delete-done-image : (r ≡ 0 → ⊥) → s′ ≡ delete s L work h .image
-          unfolding Calls.delete Calls.delete-result Calls.fitting Calls.changed
-          delete-done-image z =
-              let (k, l, m) = left (a .image) (a .is) .1 (omega arith) in
-              sym (rw (delete-by, k, ← m))
+              (sym (rw (delete-by, k, ← l)), sym (rw (delete-by, k, ← m)))

@@ -13,13 +13,15 @@ use Rattle.spec.specs.Header.{Format}
 use Rattle.spec.specs.Entry.{Entry}
 use Rattle.spec.specs.SortedList as SortedList
 use Rattle.spec.specs.SortedList.{has-headword, lookup, replace, remove}
+use Rattle.spec.specs.Claim as Claim
+use Rattle.spec.specs.Claim.{is-there}
 use Rattle.spec.proofs.ListsLaws.{All, all-map, filter-yes, filter-no, filter-nothing}
 use Rattle.spec.proofs.OrderLaws.{one-way}
 use Rattle.spec.proofs.RunLaws.{EntriesOk}
 use Rattle.spec.proofs.ReadLaws.{same-bytes, bytes-self}
 use Rattle.spec.proofs.SearchLaws.{all-above, other, other-way}
 use Rattle.editor.specs.Entered as Entered
-use Rattle.editor.specs.Entered.{is-there, words-after}
+use Rattle.editor.specs.Entered.{words-after}
 
 -- those for which a test holds and those for which it does not are all
 filter-halves : (f : Entry → Bool) (es : List Entry) → length (filter f es) + length (filter (λ e. not (f e)) es) ≡ length es
@@ -33,14 +35,14 @@ filter-halves f (e ∷ es) = go (filter-halves f es) (f e) refl
 
 -- one entry more than those that are not replaced
 one-more : (l : List Entry) (n k : ℕ) → length l ≤ 1 → length l + n ≡ k → suc n ≡ words-after k (is-there (first l))
-unfolding Lists.first Entered.is-there Entered.words-after
+unfolding Lists.first Claim.is-there Entered.words-after
 one-more [] n k p h = omega arith
 one-more (e ∷ []) n k p h = omega arith
 one-more (e ∷ d ∷ l) n k p h = absurd (omega arith)
 
 -- one entry less, where there is one
 one-less : (l : List Entry) (n k : ℕ) → length l ≤ 1 → length l + n ≡ k → is-there (first l) ≡ true → (1 ≤ k) × (k - 1 ≡ n)
-unfolding Lists.first Entered.is-there
+unfolding Lists.first Claim.is-there
 one-less [] n k p h q = absurd (false≢true q)
 one-less (e ∷ []) n k p h q = (omega arith, omega arith)
 one-less (e ∷ d ∷ l) n k p h q = absurd (omega arith)
@@ -61,8 +63,8 @@ module _ (F : Format) (order : IsOrder (F .below)) (h : List ℕ) where
       go : length (filter (has-headword h) es) + (length (filter lower es) + length (filter upper es)) ≡ length es → (t : Bool) → lower e ≡ t → (u : Bool) → upper e ≡ u
           → length (filter (has-headword h) (e ∷ es)) + (length (filter lower (e ∷ es)) + length (filter upper (e ∷ es))) ≡ suc (length es)
       go ih true p u q =
-          rw (filter-no (has-headword h) e es (other F order (e .headword) h p), filter-yes lower e es p, filter-no upper e es (one-way (F .below) order (e .headword) h p)) (omega arith)
-      go ih false p true q = rw (filter-no (has-headword h) e es (other-way F order h (e .headword) q), filter-no lower e es p, filter-yes upper e es q) (omega arith)
+          rw (filter-no (has-headword h) e es (other (F .below) order (e .headword) h p), filter-yes lower e es p, filter-no upper e es (one-way (F .below) order (e .headword) h p)) (omega arith)
+      go ih false p true q = rw (filter-no (has-headword h) e es (other-way (F .below) order h (e .headword) q), filter-no lower e es p, filter-yes upper e es q) (omega arith)
       go ih false p false q =
           let s : e .headword ≡ h = order .total (e .headword) h p q in
           let b : bytes-equal (e .headword) h ≡ true = rw s (bytes-self h) in
@@ -78,7 +80,7 @@ module _ (F : Format) (order : IsOrder (F .below)) (h : List ℕ) where
       go ih true q =
           let s : e .headword ≡ h = same-bytes (e .headword) h q in
           let u : All (λ d. F .below h (d .headword) ≡ true) es = rw s at (all-above F order (e .headword) es g) in
-          let z : filter (has-headword h) es ≡ [] = filter-nothing (has-headword h) es (all-map _ _ (λ d r. other-way F order h (d .headword) r) es u) in
+          let z : filter (has-headword h) es ≡ [] = filter-nothing (has-headword h) es (all-map _ _ (λ d r. other-way (F .below) order h (d .headword) r) es u) in
           rw (filter-yes (has-headword h) e es q, z) (omega arith)
       go ih false q = rw (filter-no (has-headword h) e es q) ih
 

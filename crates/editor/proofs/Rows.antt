@@ -4,8 +4,8 @@ use mathlib.Core.Path.{_≡_, refl, sym, ap, subst, _∙_}
 use mathlib.Core.Bool.{Bool, true, false, not}
 use mathlib.Core.List.{List, [], _++_, append-nil}
 use native.Mathlib.Omega.{arith}
-use lib.ListN.{length, getD, take, drop, replicate, drop-of-length-le}
-use lib.Seq.{length-take-le, take-length, take-at}
+use lib.ListN.{length, getD, take, drop, drop-of-length-le}
+use lib.Seq.{length-take-le, take-length}
 use lib.Dec.{T, eqb}
 use lib.Pow.{areBytes}
 use borrow.Author.Tests.{lt-ltb, le-ltb, eqb-true, eq-eqb, not-true, not-false}
@@ -14,7 +14,7 @@ use Rattle.spec.specs.Bytes as Bytes
 use Rattle.spec.specs.Bytes.{from-little-endian, write, zeros, bytes-at}
 use Rattle.spec.specs.Header as Header
 use Rattle.spec.specs.Header.{layout4, format4, empty-image, get, writable}
-use Rattle.spec.specs.Blocks.{run-blocks, free-marks}
+use Rattle.spec.specs.Blocks.{run-blocks}
 use Rattle.spec.specs.Check as Check
 use Rattle.spec.specs.Check.{Frame, Image, slice-ok, image-from, image-in, all-entries, entries-of}
 use Rattle.spec.specs.Place.{plan-packed, plan-written}
@@ -34,14 +34,15 @@ use Rattle.spec.proofs.BytesLaws.{length-zeros, small-of, bytes-of, small-take,
 use Rattle.spec.proofs.PartLaws.{length-bytes-at}
 use Rattle.spec.proofs.ReadLaws.{ImageTold, image-told}
 use Rattle.spec.proofs.SlicesLaws.{work-after-calls}
-use Rattle.spec.proofs.OutcomeLaws.{same-value}
 use Rattle.spec.proofs.CallRowsLaws.{first-numbers}
 use Rattle.spec.proofs.ClaimLaws.{packed-room}
 use Rattle.header.proofs.Laws.{read-nword, slice-refused, slice-accepted, slice-has-header, slice-in-blocks, slice-holds}
 use Rattle.inspect.specs.Overview.{overview, viewed, AcceptedImage}
 use Rattle.inspect.specs.declared.Inspected.{Inspected}
-use Rattle.inspect.proofs.Laws.{SoundImage, overview-refused, overview-sound}
-use Rattle.inspect.proofs.Accepted.{accepted-frame, accepted-whole}
+use Rattle.inspect.proofs.Laws.{overview-refused}
+use Rattle.inspect.proofs.Accepted.{accepted-frame, accepted-whole, front-header}
+use Rattle.parts.proofs.PartLaws.{copied-front}
+use Rattle.change.proofs.FinishLaws.{front-blocks}
 
 -- ---- create
 -- row 1
@@ -53,6 +54,32 @@ create-short s p = rw (lt-ltb (length s) 256 p)
 pub create-done : (s : List ℕ) → 256 ≤ length s → (s′ : List ℕ) → s′ ≡ write 0 (empty-image layout4) s → record { answer = length-answer (LengthAnswer.Done 256); image = s′ } ≡ create s
 unfolding Calls.create Calls.create-bytes Calls.create-result Answers.length-answer
 create-done s p s′ e = rw (le-ltb (length s) 256 p, e)
+
+-- ---- answer and image of a changing call
+-- of an insertion
+abbrev pub Inserts : List ℕ → ℕ → List ℕ → List ℕ → ℕ → List ℕ → LengthAnswer → List ℕ → Type 0
+Inserts s L work h b t r s′ = (length-answer r ≡ insert s L work h b t .answer) × (s′ ≡ insert s L work h b t .image)
+
+-- of a deletion
+abbrev pub Deletes : List ℕ → ℕ → List ℕ → List ℕ → DeleteAnswer → List ℕ → Type 0
+Deletes s L work h r s′ = (delete-answer r ≡ delete s L work h .answer) × (s′ ≡ delete s L work h .image)
+
+-- of an optimising
+abbrev pub Optimises : List ℕ → ℕ → List ℕ → LengthAnswer → List ℕ → Type 0
+Optimises s L work r s′ = (length-answer r ≡ optimise s L work .answer) × (s′ ≡ optimise s L work .image)
+
+-- where the plan is refused: its number, and the image as it was
+pub insert-refuses : (s : List ℕ) (L : ℕ) (work h : List ℕ) (b : ℕ) (t : List ℕ) (k : ℕ) → insert-plan s L work h b t ≡ refused k → Inserts s L work h b t (LengthAnswer.Refused k) s
+unfolding Calls.insert Calls.insert-result Calls.changed Answers.length-answer
+insert-refuses s L work h b t k e = (sym (rw e), sym (rw e))
+
+pub delete-refuses : (s : List ℕ) (L : ℕ) (work h : List ℕ) (k : ℕ) → delete-plan s L work h ≡ refused k → Deletes s L work h (DeleteAnswer.Refused k) s
+unfolding Calls.delete Calls.delete-result Calls.changed Answers.delete-answer
+delete-refuses s L work h k e = (sym (rw e), sym (rw e))
+
+optimise-refuses : (s : List ℕ) (L : ℕ) (work : List ℕ) (k : ℕ) → optimise-plan s L work ≡ refused k → Optimises s L work (LengthAnswer.Refused k) s
+unfolding Calls.optimise Calls.optimise-result Calls.changed Answers.length-answer
+optimise-refuses s L work k e = (sym (rw e), sym (rw e))
 
 -- ---- rows 1 and 2 of a changing call
 -- bytes as code knows them
@@ -70,18 +97,6 @@ zeros-filled work w w′ l e =
 -- what the code has tested before it looks at the image
 abbrev pub Tested : List ℕ → ℕ → List ℕ → Type 0
 Tested s L work = (256 ≤ L) × (L % 256 ≡ 0) × (L ≤ length s) × (length s ≤ length work)
-
--- the image in front of a slice is as long as it says,
-pub front-long : (s : List ℕ) (L : ℕ) → L ≤ length s → L ≡ length (take L s)
-front-long s L p = sym (length-take-le L s p)
-
--- at least a header long
-pub front-header : (s : List ℕ) (L : ℕ) → L ≤ length s → 256 ≤ L → 256 ≤ length (take L s)
-front-header s L p q = rw (← front-long s L p) q
-
--- and in whole blocks
-pub front-blocks : (s : List ℕ) (L : ℕ) → L ≤ length s → L % 256 ≡ 0 → length (take L s) % 256 ≡ 0
-front-blocks s L p q = rw (← front-long s L p) q
 
 -- an image has no more entries than four bytes count
 pub words-few : (s : List ℕ) (L : ℕ) → L ≤ length s → 256 ≤ L → ((k : ℕ) → getD s k 0 < 256) → (n d : ℕ) (a : AcceptedImage (take L s) n d) (w : ℕ) → ((i : Image) → image-from (take L s) ≡ ok i → w ≡ length (entries-of i))
@@ -101,18 +116,13 @@ words-few s L p q bytes n d a w counted =
 module _ (s : List ℕ) (L : ℕ) (p : L ≤ length s) (w w′ : List ℕ) (copied : w′ ≡ write 0 (bytes-at 0 L s) w) where
   -- it is the image
   pub copy-is : take L w′ ≡ take L s
-  unfolding Bytes.write Bytes.bytes-at
-  copy-is = ap (take L) copied ∙ take-at (take L s) (drop (0 + length (take L s)) w) L (length-take-le L s p)
+  copy-is = copied-front s w w′ L copied p
 
   -- as long as the image
   copy-long : length (take L w′) ≡ L
   copy-long = ap length copy-is ∙ length-take-le L s p
 
-  -- the slice still holds it
-  pub copy-front : take (length (take L w′)) s ≡ take L w′
-  copy-front = ap (λ (k : ℕ). take k s) copy-long ∙ sym copy-is
-
-  -- which is no shorter
+  -- which is inside the slice
   pub copy-inside : length (take L w′) ≤ length s
   copy-inside = rw copy-long p
 
@@ -237,69 +247,30 @@ module _ (s : List ℕ) (L : ℕ) (work : List ℕ) where
     module _ (k : ℕ) (ms : List Bool) (r : Inspected) (seen : overview r ms ≡ viewed k (image-from (take L s))) where
       -- the image is refused
       image-refused : (j : ℕ) → r ≡ Inspected.Refused j → image-from (take L s) ≡ refused j
-      image-refused j h = overview-refused k ms (image-from (take L s)) j (ap (λ (x : Inspected). overview x ms) (sym h) ∙ seen)
+      image-refused j h = overview-refused k ms (image-from (take L s)) r seen j h
 
       module _ (j : ℕ) (e : r ≡ Inspected.Refused j) where
         -- rows 3 to 10 of an insertion
-        pub insert-refused : (h : List ℕ) (a : ℕ) (x : List ℕ) → length-answer (LengthAnswer.Refused j) ≡ insert s L work h a x .answer
-        unfolding Calls.insert Calls.insert-plan Calls.insert-result Calls.changed Answers.length-answer
-        insert-refused h a x = sym (rw (change-refused j (image-refused j e)))
-
-        -- they leave the image
-        pub insert-refused-image : (h : List ℕ) (a : ℕ) (x : List ℕ) → s ≡ insert s L work h a x .image
-        unfolding Calls.insert Calls.insert-plan Calls.insert-result Calls.changed
-        insert-refused-image h a x = sym (rw (change-refused j (image-refused j e)))
+        pub insert-refused : (h : List ℕ) (b : ℕ) (t : List ℕ) → Inserts s L work h b t (LengthAnswer.Refused j) s
+        unfolding Calls.insert-plan
+        insert-refused h b t = insert-refuses s L work h b t j (rw (change-refused j (image-refused j e)))
 
         -- of a deletion
-        pub delete-refused : (h : List ℕ) → delete-answer (DeleteAnswer.Refused j) ≡ delete s L work h .answer
-        unfolding Calls.delete Calls.delete-plan Calls.delete-result Calls.changed Answers.delete-answer
-        delete-refused h = sym (rw (change-refused j (image-refused j e)))
-
-        -- they leave the image
-        pub delete-refused-image : (h : List ℕ) → s ≡ delete s L work h .image
-        unfolding Calls.delete Calls.delete-plan Calls.delete-result Calls.changed
-        delete-refused-image h = sym (rw (change-refused j (image-refused j e)))
+        pub delete-refused : (h : List ℕ) → Deletes s L work h (DeleteAnswer.Refused j) s
+        unfolding Calls.delete-plan
+        delete-refused h = delete-refuses s L work h j (rw (change-refused j (image-refused j e)))
 
         -- of an optimising
-        pub optimise-refused : length-answer (LengthAnswer.Refused j) ≡ optimise s L work .answer
-        unfolding Calls.optimise Calls.optimise-plan Calls.optimise-result Calls.changed Answers.length-answer
-        optimise-refused = sym (rw (change-refused j (image-refused j e)))
-
-        -- they leave the image
-        pub optimise-refused-image : s ≡ optimise s L work .image
-        unfolding Calls.optimise Calls.optimise-plan Calls.optimise-result Calls.changed
-        optimise-refused-image = sym (rw (change-refused j (image-refused j e)))
-
-      module _ (w n d : ℕ) (e : r ≡ Inspected.Sound w n d) where
-        -- the image, its numbers and its free blocks
-        pub sound-is : SoundImage k ms (image-from (take L s)) w n d
-        sound-is = overview-sound k ms (image-from (take L s)) w n d (ap (λ (x : Inspected). overview x ms) (sym e) ∙ seen)
-
-        -- the image is accepted
-        pub is-accepted : AcceptedImage (take L s) n d
-        is-accepted = record { image = sound-is .image; is = sound-is .is; index-blocks = sound-is .index-blocks; data-blocks = sound-is .data-blocks }
-
-        -- with that many entries
-        pub words-are : (i : Image) → image-from (take L s) ≡ ok i → w ≡ length (entries-of i)
-        words-are i o = sound-is .words ∙ ap (λ (j : Image). length (entries-of j)) (same-value (sound-is .image) i (sym (sound-is .is) ∙ o))
-
-        -- and these free blocks
-        pub free-are : k ≡ 163_840 → (i : Image) → image-from (take L s) ≡ ok i → ms ≡ free-marks (i .frame .data-blocks) (i .free-list) ++ replicate (163_840 - i .frame .data-blocks) false
-        free-are long i o =
-            let j : sound-is .image ≡ i = same-value (sound-is .image) i (sym (sound-is .is) ∙ o) in
-            rw (← j, ← long) (sound-is .free)
+        pub optimise-refused : Optimises s L work (LengthAnswer.Refused j) s
+        unfolding Calls.optimise-plan
+        optimise-refused = optimise-refuses s L work j (rw (change-refused j (image-refused j e)))
 
     -- ---- optimise
     module _ (n d : ℕ) (a : AcceptedImage (take L s) n d) (t : Bool) (version : t ≡ writable layout4 s) where
       -- row 11
-      pub optimise-eleven : not t ≡ true → length-answer (LengthAnswer.Refused 11) ≡ optimise s L work .answer
-      unfolding Calls.optimise Calls.optimise-plan Calls.optimise-result Calls.changed Answers.length-answer
-      optimise-eleven q = sym (rw (change-eleven n d a t version q))
-
-      -- it leaves the image
-      pub optimise-eleven-image : not t ≡ true → s ≡ optimise s L work .image
-      unfolding Calls.optimise Calls.optimise-plan Calls.optimise-result Calls.changed
-      optimise-eleven-image q = sym (rw (change-eleven n d a t version q))
+      pub optimise-eleven : not t ≡ true → Optimises s L work (LengthAnswer.Refused 11) s
+      unfolding Calls.optimise-plan
+      optimise-eleven q = optimise-refuses s L work 11 (rw (change-eleven n d a t version q))
 
       module _ (q : not t ≡ false) (bytes : (k : ℕ) → getD s k 0 < 256) where
         -- an optimising has room
@@ -309,16 +280,12 @@ module _ (s : List ℕ) (L : ℕ) (work : List ℕ) where
             let got : image-in s L ≡ ok (a .image) = rw (le-ltb L 256 p₁, eq-eqb (L % 256) 0 p₂, le-ltb (length s) L p₃, a .is) in
             rw (change-may n d a t version q, packed-room s L (a .image) got (all-bytes s bytes))
 
-        -- the new length
-        pub optimise-done : (old : List ℕ) → old ≡ take L s → (r : ℕ) → ((i : Image) → image-from old ≡ ok i → r ≡ plan-length (plan-packed (i .frame .format) (i .runs)))
-            → length-answer (LengthAnswer.Done r) ≡ optimise s L work .answer
+        -- the new length and the image
+        pub optimise-done : (old s′ : List ℕ) → old ≡ take L s → (r : ℕ) → ((i : Image) → image-from old ≡ ok i → r ≡ plan-length (plan-packed (i .frame .format) (i .runs)))
+            → ((i : Image) → image-from old ≡ ok i → s′ ≡ given-up-zeroed (length old) (plan-packed (i .frame .format) (i .runs)) (plan-written (plan-packed (i .frame .format) (i .runs)) s))
+            → Optimises s L work (LengthAnswer.Done r) s′
         unfolding Calls.optimise Calls.optimise-result Calls.changed Answers.length-answer
-        optimise-done old o r f = sym (rw (fits, f (a .image) (ap image-from o ∙ a .is)))
-
-        -- and the image
-        pub optimise-done-image : (old s′ : List ℕ) → old ≡ take L s
-            → ((i : Image) → image-from old ≡ ok i → s′ ≡ given-up-zeroed (length old) (plan-packed (i .frame .format) (i .runs)) (plan-written (plan-packed (i .frame .format) (i .runs)) s)) → s′ ≡ optimise s L work .image
-        unfolding Calls.optimise Calls.optimise-result Calls.changed
-        optimise-done-image old s′ o f =
-            let l : length old ≡ L = ap length o ∙ sym (front-long s L p₃) in
-            rw (fits) (rw l at (f (a .image) (ap image-from o ∙ a .is)))
+        optimise-done old s′ o r f g =
+            let i : image-from old ≡ ok (a .image) = ap image-from o ∙ a .is in
+            let l : length old ≡ L = ap length o ∙ length-take-le L s p₃ in
+            (sym (rw (fits, f (a .image) i)), rw (fits) (rw l at (g (a .image) i)))

@@ -3,8 +3,8 @@ use Prim.Native.Nat.{ℕ, zero, suc, _+_, _-_, _<_, _≤_}
 use mathlib.Core.Path.{_≡_, refl, sym, ap, ap₂, _∙_}
 use mathlib.Core.List.{List, [], _∷_, _++_, map, append-assoc}
 use native.Mathlib.Omega.{arith}
-use lib.ListN.{length, getD, take, drop, length-append, length-drop, take-append-drop}
-use lib.Seq.{take-at, take-all, length-take-le}
+use lib.ListN.{length, getD, take, drop, length-append, length-drop}
+use lib.Seq.{take-at, length-take-le}
 use borrow.Author.Needs.{needs}
 use borrow.Author.Tests.{lt-ltb, le-ltb}
 use Rattle.spec.specs.Bytes.{from-little-endian, to-little-endian, write, bytes-at}
@@ -12,34 +12,13 @@ use Rattle.spec.specs.Header as Header
 use Rattle.spec.specs.Header.{format4}
 use Rattle.spec.specs.Index.{Element, element-bytes, elements-bytes}
 use Rattle.spec.proofs.BytesLaws.{length-to-little-endian, split-zero-told, small-part, to-from-little-endian}
-use Rattle.spec.proofs.PartLaws.{bytes-at-split, length-bytes-at}
+use Rattle.spec.proofs.PartLaws.{bytes-at-split, length-bytes-at, rest-at}
 use Rattle.scans.specs.Scan.{zero-offset}
 use Rattle.scans.proofs.Laws.{split-zero-some}
-use Rattle.spec.proofs.WriteLaws.{drop-past-write}
+use Rattle.spec.proofs.WriteLaws.{write-none, written-behind}
 use Rattle.index.specs.Elements.{element-end, element-headword, element-at, elements-at, Inside}
-use Rattle.index.proofs.Laws.{element-end-past, element-headword-length, inside-start, inside-end, inside-next, elements-next}
+use Rattle.index.proofs.Laws.{element-end-past, element-headword-length, inside-start, here-end, here-next, elements-next}
 use Rattle.elements.specs.Renewed.{elements-end, number-after, renewed}
-
--- ---- writes one behind the other
--- bytes written behind others are written with them
-pub write-behind : (d x y : List ℕ) (i : ℕ) → i + length x ≤ length d → write (i + length x) y (write i x d) ≡ write i (x ++ y) d
-unfolding write
-write-behind d x y i h =
-    let m : length (take i d ++ x) ≡ i + length x = length-append (take i d) x ∙ ap (λ (q : ℕ). q + length x) (length-take-le i d (omega arith)) in
-    let p : i + length x + length y ≡ i + length (x ++ y) = omega (arith, length-append x y) in
-    ap₂ (λ (a b : List ℕ). a ++ y ++ b) (take-at (take i d ++ x) (drop (i + length x) d) (i + length x) m) (drop-past-write i x d h (i + length x + length y) (omega arith))
-    ∙ rw (append-assoc (take i d) x y, p)
-
--- the same in the order of the code, the place of the second by its number
-pub write-on : (d d₁ d₂ x y : List ℕ) (i p : ℕ) → i + length x ≤ length d → p ≡ i + length x → d₁ ≡ write i x d → d₂ ≡ write p y d₁ → d₂ ≡ write i (x ++ y) d
-write-on d d₁ d₂ x y i p h e a b = b ∙ rw (e, a) (write-behind d x y i h)
-
--- no bytes written
-pub write-none : (d : List ℕ) (i : ℕ) → write i [] d ≡ d
-unfolding write
-write-none d i =
-    let e : i + 0 ≡ i = omega arith in
-    rw e (append-assoc (take i d) [] (drop i d) ∙ take-append-drop i d)
 
 -- ---- the lengths of elements
 -- an element takes three bytes beside its headword
@@ -69,12 +48,6 @@ elements-length index at (suc n) h =
       element-at-size index at (h .0),
       length-append (element-bytes format4 (element-at index at)) (elements-bytes format4 (elements-at index (element-end index at + 1) n)),
     )
-
--- and inside the index
-pub elements-end-inside : (index : List ℕ) (at n : ℕ) → Inside index at n → elements-end index at n ≤ length index
-unfolding elements-end
-elements-end-inside index at zero h = h
-elements-end-inside index at (suc n) h = elements-end-inside index (element-end index at + 1) n (h .2)
 
 -- renewed elements take as many bytes
 pub renewed-length : (numbers : List ℕ) (g : ℕ) (es : List Element) → length (elements-bytes format4 (map (renewed numbers g) es)) ≡ length (elements-bytes format4 es)
@@ -159,11 +132,6 @@ number-past numbers g b h = sym (number-kept numbers g b h)
 pub ruleset number-laws = (number-low, number-high, number-past, needs)
 
 -- ---- put_element
--- all bytes of a list
-whole-at : (s : List ℕ) → bytes-at 0 (length s) s ≡ s
-unfolding bytes-at
-whole-at s = take-all (length s) s (omega arith)
-
 -- the number, the headword and the zero byte stored one behind the other are the element
 pub element-put : (d d₁ d₂ d₃ h : List ℕ) (at number : ℕ) → d₁ ≡ write at (to-little-endian 2 number) d → d₂ ≡ write (at + 2) (bytes-at 0 (length h) h) d₁ → d₃ ≡ write (at + 2 + length h) (0 ∷ []) d₂
     → at + 3 + length h ≤ length d → d₃ ≡ write at (element-bytes format4 (record { block = number; headword = h })) d
@@ -171,20 +139,12 @@ unfolding element-bytes Header.format4
 element-put d d₁ d₂ d₃ h at number e₁ e₂ e₃ fits =
     let x : List ℕ = to-little-endian 2 number in
     let w : length x ≡ 2 = length-to-little-endian 2 number in
-    let a : bytes-at 0 (length h) h ≡ h = whole-at h in
+    let a : bytes-at 0 (length h) h ≡ h = rest-at h 0 (length h) (omega arith) in
     let m : length (x ++ h) ≡ length x + length h = length-append x h in
-    let s : d₂ ≡ write at (x ++ h) d = write-on d d₁ d₂ x h at (at + 2) (omega arith) (omega arith) e₁ (rw a at e₂) in
-    write-on d d₂ d₃ (x ++ h) (0 ∷ []) at (at + 2 + length h) (omega arith) (omega arith) s e₃
+    let s : d₂ ≡ write at (x ++ h) d = written-behind d d₁ d₂ x h at (at + 2) (omega arith) (omega arith) e₁ (rw a at e₂) in
+    written-behind d d₂ d₃ (x ++ h) (0 ∷ []) at (at + 2 + length h) (omega arith) (omega arith) s e₃
 
 -- ---- elements_end: of what is left the end is that of the whole
--- the element at `at` has its zero byte
-pub here-end : (index : List ℕ) (at left e : ℕ) → Inside index at left → e ≡ element-end index at → 0 < left → e < length index
-here-end index at left e i f p = rw f (inside-end index at left i p)
-
--- the others stand behind it
-pub here-next : (index : List ℕ) (at left e : ℕ) → Inside index at left → e ≡ element-end index at → 0 < left → Inside index (e + 1) (left - 1)
-here-next index at left e i f p = rw f (inside-next index at left i p)
-
 -- the end from the next element on
 pub end-turn : (index : List ℕ) (at left e r : ℕ) → elements-end index at left ≡ r → e ≡ element-end index at → 0 < left → elements-end index (e + 1) (left - 1) ≡ r
 unfolding elements-end
@@ -250,7 +210,7 @@ module _ (index : List ℕ) (pos left end out total : ℕ) (ends : out + room (e
       let m : length x ≡ 3 + length (take (end - (pos + 2)) (drop (pos + 2) index)) = element-size (renewed numbers g (element-at index pos)) ∙ rw headword-here in
       let s : d₁ ≡ write out x d = e₃ ∙ rw (headword-here, e₂, e₁) in
       let t : renewed-bytes numbers g (elements-at index pos left) ≡ x ++ y = ap (renewed-bytes numbers g) (elements-next index pos left more) ∙ rw f in
-      write-on d d₁ _ x y out out₁ (omega (arith, here-fits d fits)) (omega arith) s refl ∙ rw t at inv
+      written-behind d d₁ _ x y out out₁ (omega (arith, here-fits d fits)) (omega arith) s refl ∙ rw t at inv
 
 -- at the end nothing is left
 module _ (index : List ℕ) (pos left out : ℕ) (none : left ≤ 0) where

@@ -2,10 +2,9 @@
 use Prim.Native.Nat.{ℕ, zero, suc, _+_, _-_, _*_, _<_, _≤_}
 use mathlib.Core.Path.{_≡_, refl, sym, ap, _∙_}
 use mathlib.Core.Logic.{_≢_, ⊎-elim}
-use mathlib.Core.Bool.{Bool, true, false, not, _||_, false≢true}
-use mathlib.Core.List.{List, [], _∷_, _++_, map}
+use mathlib.Core.Bool.{Bool, true, false, not, _||_, false≢true, or-true}
+use mathlib.Core.List.{List, [], _∷_, _++_}
 use native.Mathlib.Omega.{arith}
-use native.Mathlib.Nat.{add-zero}
 use lib.ListN.{length, getD, set, replicate, length-set, length-append, length-replicate, length-map, getD-replicate, List·getD-append}
 use lib.Seq.{getD-set-same, getD-set-other, getD-append-add, ext-getD}
 use lib.Dec.{eqb, ltb, eqb·suc-zero}
@@ -14,7 +13,7 @@ use Rattle.spec.specs.Outcome.{Outcome, refused, ok, _>>=_, _>>_, refuse_when_}
 use Rattle.spec.specs.Lists.{any, filter, count, range-from}
 use Rattle.spec.specs.Bytes.{from-little-endian, bytes-at, all-zero}
 use Rattle.spec.specs.Blocks.{free-list-end, free-list-from, free-marks, count-marks}
-use Rattle.spec.proofs.ListsLaws.{or-false, All, less-or, length-range}
+use Rattle.spec.proofs.ListsLaws.{or-false, All, less-or, length-range, get-map-range}
 use Rattle.freelist.specs.FreeList.{has-length, with-marks}
 
 -- ---- the numbers
@@ -101,10 +100,6 @@ unfolding with-marks
 length-with-marks [] ms = refl
 length-with-marks (a ∷ fl) ms = length-with-marks fl (set ms a true) ∙ length-set ms a true
 
-or-true : (t u : Bool) → true ≡ t || (true || u)
-or-true true u = refl
-or-true false u = refl
-
 -- a block is marked that was, or that the list has
 pub get-with-marks : (fl : List ℕ) (ms : List Bool) (b : ℕ) → b < length ms → getD (with-marks fl ms) b false ≡ (getD ms b false || any (eqb b) fl)
 unfolding with-marks any
@@ -116,7 +111,7 @@ get-with-marks (a ∷ fl) ms b h = go (get-with-marks fl (set ms a true) b (omeg
     go ih true e =
         let q : b ≡ a = eqb-true b a e in
         let s : getD (set ms a true) b false ≡ true = rw q (getD-set-same ms a true false (omega arith)) in
-        ih ∙ rw (s, e) (or-true (getD ms b false) (any (eqb b) fl))
+        ih ∙ rw (s, e) (sym (or-true (getD ms b false)))
     go ih false e = ih ∙ rw (getD-set-other ms a b true false (eqb-false b a e), e)
 
 -- a number not below a list's bound is none of it
@@ -124,13 +119,6 @@ none-above : (d b : ℕ) (fl : List ℕ) → All (λ a. a < d) fl → d ≤ b �
 unfolding any
 none-above d b [] h k = refl
 none-above d b (a ∷ fl) (h, hs) k = rw (ne-eqb b a (λ e. omega arith), none-above d b fl hs k)
-
--- a value over a range, by its place
-get-map-range : (f : ℕ → Bool) (i n j : ℕ) → j < n → getD (map f (range-from i n)) j false ≡ f (i + j)
-unfolding range-from
-get-map-range f i zero j h = absurd (omega arith)
-get-map-range f i (suc n) zero h = ap f (sym (add-zero i))
-get-map-range f i (suc n) (suc j) h = let e : suc i + j ≡ i + suc j = omega arith in get-map-range f (suc i) n j (omega arith) ∙ ap f e
 
 -- as many marks as blocks
 pub length-free-marks : (d : ℕ) (fl : List ℕ) → length (free-marks d fl) ≡ d
@@ -140,7 +128,7 @@ length-free-marks d fl = length-map (range-from 0 d) (λ b. any (eqb b) fl) ∙ 
 -- a block's mark by a list is whether the list has it
 pub get-free-marks : (d : ℕ) (fl : List ℕ) (b : ℕ) → b < d → getD (free-marks d fl) b false ≡ any (eqb b) fl
 unfolding free-marks
-get-free-marks d fl b h = let z : 0 + b ≡ b = omega arith in get-map-range (λ a. any (eqb a) fl) 0 d b h ∙ ap (λ (a : ℕ). any (eqb a) fl) z
+get-free-marks d fl b h = let z : 0 + b ≡ b = omega arith in get-map-range (λ a. any (eqb a) fl) 0 d b false h ∙ ap (λ (a : ℕ). any (eqb a) fl) z
 
 -- the marks of a list in a table that had none are its marks of D blocks, and none behind them
 pub with-no-marks : (d k : ℕ) (fl : List ℕ) → All (λ a. a < d) fl → d ≤ k → with-marks fl (replicate k false) ≡ free-marks d fl ++ replicate (k - d) false

@@ -6,11 +6,9 @@ ghost use lib.ListN.{length};
 ghost use Rattle.spec.specs.Blocks.{free-list-from};
 ghost use Rattle.marks.specs.Marks.{marks};
 ghost use Rattle.freelist.specs.FreeList.{has-length, Marked};
+use byteops::LIST_END;
 use byteops::read_u16;
 use byteops::read_u32;
-
-// The number that ends the list.
-const END: usize = 0xFFFFFFFF;
 
 // Whether the list that starts with the block `first` ends after just n blocks. Each block of it is marked in both tables.
 pub fn read_free_list(
@@ -41,5 +39,5 @@ pub fn read_free_list(
         b = read_u32(area, 256 * b + 2);
         left -= 1;
     }
-    b == END
+    b == LIST_END
 }

@@ -2,10 +2,10 @@
 use Prim.Native.Nat.{ℕ, _+_, _-_, _*_, _/_, _%_, _<_, _≤_}
 use mathlib.Core.Path.{_≡_, refl, sym, ap, _∙_}
 use mathlib.Core.Bool.{Bool, true, false, not, _&&_}
-use mathlib.Core.List.{List, [], _∷_, _++_, append-assoc}
+use mathlib.Core.List.{List, [], _∷_, _++_}
 use native.Mathlib.Omega.{arith}
 use lib.ListN.{length, getD, take, drop, length-drop, take-append-drop}
-use lib.Seq.{take-all, length-take-le, take-append-le, drop-append-le}
+use lib.Seq.{take-all, length-take-le}
 use lib.Dec.{eqb, ltb, leb}
 use borrow.Author.Tests.{lt-ltb, le-ltb, le-leb, lt-leb, eq-eqb, ne-eqb, ltb-true, ltb-false}
 use Rattle.spec.specs.Outcome.{refused, ok, accepted}
@@ -15,7 +15,7 @@ use Rattle.spec.specs.Check.{slice-ok, kind-ok, options-ok, frame-from, data-st
 use Rattle.spec.specs.Rows.{SliceRule}
 use Rattle.spec.proofs.ListsLaws.{All}
 use Rattle.spec.proofs.BytesLaws.{length-to-little-endian, length-zeros}
-use Rattle.spec.proofs.WriteLaws.{length-write}
+use Rattle.spec.proofs.WriteLaws.{length-write, write-left}
 use Rattle.spec.proofs.PartLaws.{bytes-at-cons}
 use Rattle.spec.proofs.HeaderLaws as Headers
 use Rattle.spec.proofs.HeaderLaws.{get-take, lawful4}
@@ -202,13 +202,6 @@ write-start x t =
     let e : 0 + length x ≡ length x = omega arith in
     rw e
 
--- bytes written inside the first of two lists
-write-front : (i : ℕ) (y x t : List ℕ) → i + length y ≤ length x → write i y (x ++ t) ≡ write i y x ++ t
-unfolding write
-write-front i y x t h =
-    let a : i ≤ length x = omega arith in
-    rw (take-append-le i x t, drop-append-le (i + length y) x t) (sym (append-assoc (take i x ++ y) (drop (i + length y) x) t))
-
 -- settings that lie inside n bytes
 abbrev Inside : ℕ → List Setting → Type 0
 Inside n ws = All (λ w. w .field .offset + w .field .bytes ≤ n) ws
@@ -222,7 +215,7 @@ put-all-front (w ∷ ws) x t (h, hs) =
     let y : List ℕ = to-little-endian (w .field .bytes) (w .holds) in
     let k : length y ≡ w .field .bytes = length-to-little-endian (w .field .bytes) (w .holds) in
     let f : w .field .offset + length y ≤ length (put-all ws x) = omega arith in
-    (length-write (w .field .offset) y (put-all ws x) f ∙ l, ap (write (w .field .offset) y) e ∙ write-front (w .field .offset) y (put-all ws x) t f)
+    (length-write (w .field .offset) y (put-all ws x) f ∙ l, ap (write (w .field .offset) y) e ∙ write-left (w .field .offset) y (put-all ws x) t f)
 
 -- settings made inside bytes written from 0 on
 put-all-inside : (ws : List Setting) (x t : List ℕ) → Inside (length x) ws → put-all ws (write 0 x t) ≡ write 0 (put-all ws x) t

@@ -1,4 +1,4 @@
-// The header of an image: its fields, rows 3 to 5 and 11 of the refusals, and what is written in it.
+// The header of an image: its fields, rows 1, 3 to 5 and 11 of the refusals, and what is written in it.
 ghost use mathlib.Core.Path.{_≡_};
 ghost use Prim.Native.Nat.{_+_, _≤_, _<_, _%_};
 ghost use lib.ListN.{length};
@@ -8,6 +8,7 @@ ghost use Rattle.spec.specs.Header.{layout4, format4, get, put-all, writable, c
 ghost use Rattle.spec.specs.Check.{slice-ok, kind-ok, options-ok, frame-from};
 ghost use Rattle.header.specs.Framed.{framed};
 ghost use Rattle.header.specs.Empty.{size-settings};
+use byteops::LIST_END;
 use byteops::read_u16;
 use byteops::read_u32;
 use byteops::write_u8;
@@ -231,7 +232,7 @@ pub fn write_empty(s: &mut [u8])
     ensures { λ _. ⌜ length (now (s .exit)) ≡ length (now (s .entry)) ⌝ }
 {
     byteops::fill_zero(s, 0, 256);
-    write_u32(s, EMPTY_BLOCK2, 0xFFFFFFFF);
+    write_u32(s, EMPTY_BLOCK2, LIST_END);
     write_u16(s, EMPTY_BLOCK, 0xFFFF);
     write_u8(s, ATTRLEN, 1);
     write_sizes(s);

@@ -3,7 +3,7 @@ use Prim.Native.Nat.{ℕ, zero, suc, _+_, _-_, _<_, _≤_}
 use mathlib.Core.Path.{_≡_, refl, sym, ap, _∙_}
 use mathlib.Core.Logic.{_⊎_, inl, inr}
 use mathlib.Core.Bool.{Bool, true, false, not}
-use mathlib.Core.List.{List, [], _∷_, _++_}
+use mathlib.Core.List.{List, [], _∷_}
 use mathlib.Core.Option.{Option, none, some}
 use native.Mathlib.Omega.{arith}
 use lib.ListN.{length, take, drop, length-drop}
@@ -17,7 +17,6 @@ use Rattle.spec.specs.Header as Header
 use Rattle.spec.specs.Header.{Format, format4}
 use Rattle.spec.specs.Entry.{headword-ok}
 use Rattle.spec.specs.Index.{Element, elements-from, index-from}
-use Rattle.spec.proofs.ListsLaws.{All}
 use Rattle.spec.proofs.OutcomeLaws.{ok-not-refused, refused-only, when-ok, bind-ok}
 use Rattle.spec.proofs.StoredIndexLaws.{index-only}
 use Rattle.spec.proofs.PartLaws.{length-bytes-at}
@@ -180,6 +179,13 @@ inside-next index at (suc n) h p =
     let e : suc n - 1 ≡ n = omega arith in
     rw e (h .2)
 
+-- the same by the place that code found of its zero byte
+pub here-end : (index : List ℕ) (at left e : ℕ) → Inside index at left → e ≡ element-end index at → 0 < left → e < length index
+here-end index at left e i f p = rw f (inside-end index at left i p)
+
+pub here-next : (index : List ℕ) (at left e : ℕ) → Inside index at left → e ≡ element-end index at → 0 < left → Inside index (e + 1) (left - 1)
+here-next index at left e i f p = rw f (inside-next index at left i p)
+
 -- the elements are it and the others
 pub elements-next : (index : List ℕ) (at left : ℕ) → 0 < left → elements-at index at left ≡ element-at index at ∷ elements-at index (element-end index at + 1) (left - 1)
 unfolding elements-at
@@ -187,6 +193,12 @@ elements-next index at zero p = absurd (omega arith)
 elements-next index at (suc n) p =
     let e : suc n - 1 ≡ n = omega arith in
     rw e
+
+-- there are as many elements as are asked for
+pub elements-count : (index : List ℕ) (at n : ℕ) → length (elements-at index at n) ≡ n
+unfolding elements-at
+elements-count index at zero = refl
+elements-count index at (suc n) = ap suc (elements-count index (element-end index at + 1) n)
 
 -- ---- the element of the run concerned
 module _ (below : List ℕ → List ℕ → Bool) (index h : List ℕ) where
@@ -225,31 +237,3 @@ module _ (below : List ℕ → List ℕ → Bool) (index h : List ℕ) where
       go : Stops (concerned-from below index h (element-end index at + 1) n) → (t : Bool) → below h (element-headword index (element-end index at + 1)) ≡ t → Stops (concerned-from below index h at (suc n))
       go ih true e = rw (concerned-here at n e) (inr e)
       go ih false e = rw (concerned-later at n e) ih
-
-  -- there is one
-  pub concerned-some : (at n : ℕ) → 1 ≤ concerned-from below index h at n .left
-  concerned-some at n = concerned-rule at n (λ a l. 1 ≤ l) (omega arith) (λ a k p e. omega arith)
-
-  -- it stands inside the index
-  pub concerned-inside : (at n : ℕ) → Inside index at (suc n) → Inside index (concerned-from below index h at n .at) (concerned-from below index h at n .left)
-  concerned-inside at n i = concerned-rule at n (λ a l. Inside index a l) i (λ a k p e. p .2)
-
-  -- the elements from `at` on taken apart at the element concerned: of the headwords behind the first up to its own none is above h
-  pub record ConcernedSplit (at n : ℕ) (p : Place) : Type 0 where
-    pub before : List Element
-    pub split : elements-at index at (suc n) ≡ before ++ elements-at index (p .at) (p .left)
-    pub low : All (λ e. below h (e .headword) ≡ false) (drop 1 (before ++ element-at index (p .at) ∷ []))
-    pub low-first : below h (element-headword index at) ≡ false → All (λ e. below h (e .headword) ≡ false) (before ++ element-at index (p .at) ∷ [])
-
-  -- they are so taken apart
-  pub concerned-split : (at n : ℕ) → ConcernedSplit at n (concerned-from below index h at n)
-  unfolding concerned-from elements-at element-at
-  concerned-split at zero = record { before = []; split = refl; low = tt; low-first = λ e. (e, tt) }
-  concerned-split at (suc n) = go (concerned-split (element-end index at + 1) n) (below h (element-headword index (element-end index at + 1))) refl
-    where
-      go : ConcernedSplit (element-end index at + 1) n (concerned-from below index h (element-end index at + 1) n) → (t : Bool) → below h (element-headword index (element-end index at + 1)) ≡ t
-          → ConcernedSplit at (suc n) (concerned-from below index h at (suc n))
-      go ih true e = rw (concerned-here at n e) (record { before = []; split = refl; low = tt; low-first = λ f. (f, tt) })
-      go ih false e =
-          rw (concerned-later at n e)
-          (record { before = element-at index at ∷ ih .before; split = ap (λ (l : List Element). element-at index at ∷ l) (ih .split); low = ih .low-first e; low-first = λ f. (f, ih .low-first e) })

@@ -1,58 +1,43 @@
 -- What the returns and the turns of the loops show, in the terms of the code.
 use Prim.Native.Nat.{ℕ, suc, _+_, _-_, _<_, _≤_}
 use mathlib.Core.Path.{_≡_, refl, sym, ap, _∙_}
-use mathlib.Core.Bool.{Bool, true, false, not, false≢true}
+use mathlib.Core.Bool.{Bool, true, false, not}
 use mathlib.Core.List.{List, [], _∷_}
 use native.Mathlib.Omega.{arith}
 use lib.ListN.{length, take, drop, length-drop}
-use lib.Seq.{take-all}
 use lib.Dec.{ltb}
 use borrow.Author.Needs.{needs}
 use borrow.Author.Tests.{lt-ltb, le-ltb, le-leb, lt-leb, not-true, not-false}
 use Rattle.spec.specs.Outcome.{Outcome, refused, ok, _>>=_, _>>_, refuse_when_, accepted}
 use Rattle.spec.specs.Bytes as Bytes
-use Rattle.spec.specs.Bytes.{bytes-at, no-zero, all-zero}
+use Rattle.spec.specs.Bytes.{bytes-at, all-zero}
 use Rattle.spec.specs.Header as Header
 use Rattle.spec.specs.Header.{Format, format4}
-use Rattle.spec.specs.Order.{below-of, IsOrder}
+use Rattle.spec.specs.Order.{below-of}
 use Rattle.spec.specs.Entry as Entry
 use Rattle.spec.specs.Entry.{headword-ok}
 use Rattle.spec.specs.Index as Index
 use Rattle.spec.specs.Index.{Element, elements-from}
 use Rattle.spec.proofs.OutcomeLaws.{accepted-refused}
-use Rattle.spec.proofs.OrderLaws.{order-of, one-way}
+use Rattle.spec.proofs.OrderLaws.{order-of, above-some}
+use Rattle.spec.proofs.PartLaws.{rest-at}
+use Rattle.spec.proofs.RunLaws.{headword-by}
 use Rattle.scans.specs.Scan.{zero-offset}
 use Rattle.index.specs.Elements.{element-end, element-headword, element-at, concerned-from, Inside}
 use Rattle.index.specs.declared.Place.{Place}
-use Rattle.index.proofs.Laws.{width4, element-then, element-headword-length, element-headword-clear, element-short, element-open, element-read, concerned-here, concerned-later, inside-start, inside-end, inside-next}
-
--- the bytes up to the end of a list
-rest-at : (s : List ℕ) (i : ℕ) → bytes-at i (length s - i) s ≡ drop i s
-unfolding Bytes.bytes-at
-rest-at s i = take-all (length s - i) (drop i s) (omega (arith, length-drop i s))
+use Rattle.index.proofs.Laws.{width4, element-then, element-headword-length, element-headword-clear, element-short, element-open, element-read, concerned-here, concerned-later, inside-start, here-end, here-next}
 
 -- ---- element_end
 -- the first zero byte behind the number
 pub end-found : (index : List ℕ) (at r : ℕ) → r ≡ at + 2 + zero-offset (bytes-at (at + 2) (length index - (at + 2)) index) → r ≡ element-end index at
 unfolding element-end
-end-found index at r h = rw (rest-at index (at + 2)) at h
+end-found index at r h = rw (rest-at index (at + 2) (length index - (at + 2)) refl) at h
 
 -- ---- the rules of one element
--- nothing is below the empty headword
-above-some : (below : List ℕ → List ℕ → Bool) → IsOrder below → (a b : List ℕ) → below a b ≡ true → 1 ≤ length b
-above-some below order a (y ∷ b) h = omega arith
-above-some below order [] [] h = absurd (false≢true (sym (order .irreflexive []) ∙ h))
-above-some below order (x ∷ a) [] h = absurd (false≢true (sym (one-way below order [] (x ∷ a) (order .empty-least x a)) ∙ h))
-
 -- a headword of more than 248 bytes
 headword-long : (h : List ℕ) → 248 < length h → headword-ok h ≡ false
 unfolding Entry.headword-ok
 headword-long h p = rw (le-leb 1 (length h) (omega arith), lt-leb (length h) 248 p)
-
--- a headword by its rule
-headword-fine : (h : List ℕ) → 1 ≤ length h → length h ≤ 248 → no-zero h ≡ true → headword-ok h ≡ true
-unfolding Entry.headword-ok
-headword-fine h p q e = rw (le-leb 1 (length h) p, le-leb (length h) 248 q, e)
 
 module _ (F : Format) (prev : List ℕ) (e : Element) (rest : Outcome (List Element)) where
   -- an element by its rules, one with a headword against its rule, and one that does not ascend
@@ -97,7 +82,7 @@ module _ (index : List ℕ) (n at left start end : ℕ) (h : accepted (elements-
   end-zeros p q r t =
       let e : left ≡ 0 = omega arith in
       let l : ltb (length (drop at index)) 4 ≡ false = le-ltb (length (drop at index)) 4 (omega (arith, length-drop at index)) in
-      let z : all-zero (drop at index) ≡ r = sym (rw (rest-at index at) at t) in
+      let z : all-zero (drop at index) ≡ r = sym (rw (rest-at index at (length index - at) refl) at t) in
       sym (h ∙ rw (e, l, z) (go r))
     where
       go : (t : Bool) → accepted {A = List Element} (refuse 6 when not t >> ok []) ≡ t
@@ -150,7 +135,7 @@ module _ (index : List ℕ) (n at left start end : ℕ) (h : accepted (elements-
           unfolding element-at element-headword Header.format4
           element-good p t =
               let up : format4 .below (bytes-at start (end - start) index) (element-headword index at) ≡ true = order ∙ not-false b t in
-              let fine : headword-ok (element-headword index at) ≡ true = headword-fine (element-headword index at) (above-some (below-of 0) (order-of 0) (bytes-at start (end - start) index) (element-headword index at) up) (omega (arith, size)) (element-headword-clear index at) in
+              let fine : headword-ok (element-headword index at) ≡ true = headword-by (element-headword index at) (above-some (below-of 0) (order-of 0) (bytes-at start (end - start) index) (element-headword index at) up) (omega (arith, size)) (element-headword-clear index at) in
               rw f (behind ∙ then-taken format4 (bytes-at start (end - start) index) (element-at index at) (elements-from format4 (left - 1) (element-headword index at) (drop (element-end index at + 1) index)) fine up)
 
 -- ---- concerned: of what is left the element is that of the whole
@@ -180,15 +165,11 @@ module _ (index h : List ℕ) (p : Place) (at left : ℕ) (s : p ≡ concerned-f
         let e : left - 1 ≡ suc (left - 1 - 1) = omega arith in
         s ∙ ap (concerned-from (below-of 0) index h at) e ∙ rw f (concerned-later (below-of 0) index h at (left - 1 - 1) (following ∙ q))
 
--- the zero byte of the element at `at`
-pub end-inside : (index : List ℕ) (at left z : ℕ) → Inside index at left → 1 ≤ left → z ≡ element-end index at → z < length index
-end-inside index at left z i p f = rw f (inside-end index at left i p)
-
 -- the next element
 module _ (index : List ℕ) (at left end : ℕ) (i : Inside index at left) (more : 1 < left) (f : end ≡ element-end index at) where
   -- stands inside the index, with those that follow
   pub next-inside : Inside index (end + 1) (left - 1)
-  next-inside = rw f (inside-next index at left i (omega arith))
+  next-inside = here-next index at left end i f (omega arith)
 
   -- has its number
   pub next-start : end + 1 + 2 ≤ length index
@@ -196,9 +177,9 @@ module _ (index : List ℕ) (at left end : ℕ) (i : Inside index at left) (more
 
   -- and its zero byte
   pub next-end : (z : ℕ) → z ≡ element-end index (end + 1) → z < length index
-  next-end z g = end-inside index (end + 1) (left - 1) z next-inside (omega arith) g
+  next-end z g = here-end index (end + 1) (left - 1) z next-inside g (omega arith)
 
 -- every need of elements_ok, and of concerned
 pub ruleset elements-laws = (elements-start, end-short, end-zeros, number-cut, zero-missing, headword-over, headword-low, element-good, needs)
 
-pub ruleset concerned-laws = (inside-start, end-inside, next-inside, next-start, next-end, concerned-last, concerned-found, concerned-turn, needs)
+pub ruleset concerned-laws = (inside-start, here-end, next-inside, next-start, next-end, concerned-last, concerned-found, concerned-turn, needs)

@@ -1,20 +1,32 @@
 -- What an accepted image tells of its parts, as the code cuts them out.
 use Prim.Native.Nat.{ℕ, _+_, _-_, _*_, _%_, _≤_}
 use mathlib.Core.Path.{_≡_, sym, ap, ap₂, _∙_}
-use mathlib.Core.List.{List}
-use lib.ListN.{length}
+use mathlib.Core.Bool.{Bool, false}
+use mathlib.Core.List.{List, [], _++_}
+use mathlib.Core.Option.{Option}
+use lib.ListN.{length, take, replicate}
+use lib.Seq.{length-take-le}
 use Rattle.spec.specs.Outcome.{ok}
+use Rattle.spec.specs.Order.{below-of}
 use Rattle.spec.specs.Header as HeaderSpec
 use Rattle.spec.specs.Header.{layout4, format4, get}
+use Rattle.spec.specs.Entry.{Entry}
+use Rattle.spec.specs.Run.{Run}
 use Rattle.spec.specs.Index.{index-from}
+use Rattle.spec.specs.Blocks.{free-marks}
 use Rattle.spec.specs.Check as CheckSpec
-use Rattle.spec.specs.Check.{Frame, index-area, data-area, frame-from, runs-from, image-from}
-use Rattle.spec.proofs.ReadLaws.{frame-fits, ImageTold, image-told}
+use Rattle.spec.specs.Check.{Frame, Image, index-area, data-area, frame-from, runs-from, image-from, all-entries, entries-of}
+use Rattle.spec.specs.SortedList.{lookup, successor}
+use Rattle.spec.proofs.OutcomeLaws.{same-value}
+use Rattle.spec.proofs.OrderLaws.{order-of}
+use Rattle.spec.proofs.ReadLaws.{frame-fits, ImageTold, image-told, runs-ascend}
+use Rattle.spec.proofs.SearchLaws.{exactly, entries-ascend, lookup-by-successor}
 use Rattle.index.specs.Elements.{elements-at, Inside}
 use Rattle.header.specs.Framed.{frame4}
 use Rattle.header.proofs.Laws.{frame-index-inside, frame-data-few, frame-length-is, index-slice, data-slice}
-use Rattle.inspect.specs.Overview.{AcceptedImage}
-use Rattle.inspect.proofs.Laws.{index-part, data-part, index-told, data-long}
+use Rattle.inspect.specs.Overview.{overview, viewed, AcceptedImage}
+use Rattle.inspect.specs.declared.Inspected.{Inspected}
+use Rattle.inspect.proofs.Laws.{index-part, data-part, index-told, data-long, SoundImage, overview-sound}
 
 module _ (s : List ℕ) (n d : ℕ) (a : AcceptedImage s n d) where
   told : ImageTold format4 s (a .image)
@@ -60,3 +72,47 @@ module _ (s : List ℕ) (n d : ℕ) (a : AcceptedImage s n d) where
         let p : a .image .frame .data-blocks ≡ d = sym (a .data-blocks) in
         let q : data-area (a .image .frame) s ≡ data-part s n = ap (λ (g : Frame). data-area g s) accepted-frame ∙ data-slice s n d in
         rw (← p, ← q, ← index-told (index-part s n) (a .image .frame .index-blocks) e (told .elements) indexed .0) (told .runs)
+
+    -- the entry sought in the runs is the one sought in any image that is read from the bytes
+    pub accepted-sought : (x : Option Entry) (above : Bool) (h : List ℕ)
+        → ((rs : List Run) → runs-from format4 d (data-part s n) (elements-at (index-part s n) 0 e) ≡ ok rs → x ≡ successor (below-of 0) above h (all-entries rs))
+        → (i : Image) → image-from s ≡ ok i → x ≡ successor (below-of 0) above h (entries-of i)
+    unfolding CheckSpec.entries-of
+    accepted-sought x above h sought i o =
+        let j : a .image ≡ i = same-value (a .image) i (sym (a .is) ∙ o) in
+        rw (← j) (sought (a .image .runs) accepted-runs)
+
+    -- the entry with the headword is the first not below it, if that has it
+    pub accepted-lookup : (x : Option Entry) (h : List ℕ)
+        → ((rs : List Run) → runs-from format4 d (data-part s n) (elements-at (index-part s n) 0 e) ≡ ok rs → x ≡ successor (below-of 0) false h (all-entries rs))
+        → (i : Image) → image-from s ≡ ok i → lookup h (entries-of i) ≡ exactly h x
+    unfolding CheckSpec.entries-of HeaderSpec.format4
+    accepted-lookup x h sought i o =
+        let j : a .image ≡ i = same-value (a .image) i (sym (a .is) ∙ o) in
+        let rs : List Run = a .image .runs in
+        let g = entries-ascend format4 (order-of 0) rs (runs-ascend format4 d (data-part s n) (elements-at (index-part s n) 0 e) rs accepted-runs) in
+        rw (← j) (lookup-by-successor format4 (order-of 0) h [] (all-entries rs) g ∙ ap (exactly h) (sym (sought rs accepted-runs)))
+
+-- ---- what the answer tells of the image, for the crates above
+module _ (s : List ℕ) (k : ℕ) (ms : List Bool) (r : Inspected) (seen : overview r ms ≡ viewed k (image-from s)) (w n d : ℕ) (e : r ≡ Inspected.Sound w n d) where
+  sound : SoundImage k ms (image-from s) w n d
+  sound = overview-sound k ms (image-from s) r seen w n d e
+
+  -- it is accepted
+  pub is-accepted : AcceptedImage s n d
+  is-accepted = record { image = sound .image; is = sound .is; index-blocks = sound .index-blocks; data-blocks = sound .data-blocks }
+
+  -- it has that many entries
+  pub words-are : (i : Image) → image-from s ≡ ok i → w ≡ length (entries-of i)
+  words-are i o = sound .words ∙ ap (λ (j : Image). length (entries-of j)) (same-value (sound .image) i (sym (sound .is) ∙ o))
+
+  -- and these free blocks
+  pub free-are : (m : ℕ) → k ≡ m → (i : Image) → image-from s ≡ ok i → ms ≡ free-marks (i .frame .data-blocks) (i .free-list) ++ replicate (m - i .frame .data-blocks) false
+  free-are m long i o =
+      let j : sound .image ≡ i = same-value (sound .image) i (sym (sound .is) ∙ o) in
+      rw (← j, ← long) (sound .free)
+
+-- ---- the image at the front of a slice
+-- it is at least a header long
+pub front-header : (s : List ℕ) (L : ℕ) → L ≤ length s → 256 ≤ L → 256 ≤ length (take L s)
+front-header s L p q = rw (length-take-le L s p) q

@@ -1,7 +1,7 @@
 -- What the tests of a whole image show, in the terms of the code.
 use Prim.Native.Nat.{ℕ, zero, suc, _+_, _-_, _*_, _<_, _≤_}
 use mathlib.Core.Path.{_≡_, refl, sym, ap, _∙_}
-use mathlib.Core.Bool.{Bool, true, false, not, _||_, true≢false}
+use mathlib.Core.Bool.{Bool, true, false, not, _||_, true≢false, or-true, or-assoc}
 use mathlib.Core.List.{List, [], _∷_, _++_}
 use mathlib.Core.Logic.{_⊎_, inl, inr}
 use native.Mathlib.Omega.{arith}
@@ -23,7 +23,7 @@ use Rattle.spec.specs.Blocks.{covers, run-blocks, free-list-from, each-once, fr
 use Rattle.spec.specs.Calls as Calls
 use Rattle.spec.specs.Calls.{figures}
 use Rattle.spec.specs.Check as Check
-use Rattle.spec.specs.Check.{Image, index-area, data-area, frame-from, runs-from, counts-ok, image-by, image-from, all-entries, entries-of}
+use Rattle.spec.specs.Check.{Image, index-area, data-area, frame-from, runs-from, counts-ok, image-from, all-entries, entries-of}
 use Rattle.spec.proofs.ListsLaws.{All, or-false, less-or}
 use Rattle.spec.proofs.OutcomeLaws.{same-value, ok-not-refused, when-ok, Answer, accepted-answer}
 use Rattle.spec.proofs.ReadLaws.{free-list-below, free-list-nine, runs-inside}
@@ -69,14 +69,6 @@ covered-mark (r ∷ rs) D b ms (p, ps) l q =
     covered-mark rs D b (with-range (r .block) (r .size) true ms) ps (rw (length-range (r .block) (r .size) true ms (omega arith)) l) (rw (length-range (r .block) (r .size) true ms (omega arith)) q)
     ∙ ap (λ (t : Bool). t || any (covers b) rs) here ∙ or-assoc (getD ms b false) (covers b r) (any (covers b) rs)
   where
-    or-assoc : (x y z : Bool) → (x || y) || z ≡ x || (y || z)
-    or-assoc true y z = refl
-    or-assoc false y z = refl
-
-    or-true : (t : Bool) → true ≡ t || true
-    or-true true = refl
-    or-true false = refl
-
     outside : (b < r .block) ⊎ (r .block + r .size ≤ b) → getD (with-range (r .block) (r .size) true ms) b false ≡ getD ms b false
     outside (inl k) = get-range-below (r .block) (r .size) b true false ms (omega arith) k
     outside (inr k) = get-range-above (r .block) (r .size) b true false ms (omega arith) k
@@ -87,7 +79,7 @@ covered-mark (r ∷ rs) D b ms (p, ps) l q =
     low : (b < r .block) ⊎ (r .block ≤ b) → (b < r .block + r .size) ⊎ (r .block + r .size ≤ b) → getD (with-range (r .block) (r .size) true ms) b false ≡ (getD ms b false || covers b r)
     low (inl k) h = apart (inl k)
     low (inr k) (inr h) = apart (inr h)
-    low (inr k) (inl h) = get-range-in (r .block) (r .size) b true false ms (omega arith) k h ∙ rw (covers-inside r b k h) (or-true (getD ms b false))
+    low (inr k) (inl h) = get-range-in (r .block) (r .size) b true false ms (omega arith) k h ∙ rw (covers-inside r b k h) (sym (or-true (getD ms b false)))
 
     here : getD (with-range (r .block) (r .size) true ms) b false ≡ (getD ms b false || covers b r)
     here = low (less-or b (r .block)) (less-or b (r .block + r .size))
@@ -355,20 +347,20 @@ pub record SoundImage (k : ℕ) (ms : List Bool) (o : Outcome Image) (w n d : �
   pub free : ms ≡ free-marks (image .frame .data-blocks) (image .free-list) ++ replicate (k - image .frame .data-blocks) false
 
 -- what the answer tells of the image, for the crates above
-module _ (k : ℕ) (ms : List Bool) (o : Outcome Image) where
+module _ (k : ℕ) (ms : List Bool) (o : Outcome Image) (r : Inspected) (seen : overview r ms ≡ viewed k o) where
   -- it is refused
-  pub overview-refused : (j : ℕ) → overview (Inspected.Refused j) ms ≡ viewed k o → o ≡ refused j
+  pub overview-refused : (j : ℕ) → r ≡ Inspected.Refused j → o ≡ refused j
   unfolding overview viewed
-  overview-refused j h = go o h
+  overview-refused j h = go o (ap (λ (x : Inspected). overview x ms) (sym h) ∙ seen)
     where
       go : (o : Outcome Image) → refused j ≡ viewed k o → o ≡ refused j
       go (refused i) e = sym (ap refused (let x : j ≡ i = cc in x))
       go (ok i) e = absurd (ok-not-refused _ j (sym e))
 
   -- it is accepted, with these numbers and the marks of its free blocks
-  pub overview-sound : (w n d : ℕ) → overview (Inspected.Sound w n d) ms ≡ viewed k o → SoundImage k ms o w n d
+  pub overview-sound : (w n d : ℕ) → r ≡ Inspected.Sound w n d → SoundImage k ms o w n d
   unfolding overview viewed
-  overview-sound w n d h = go o h
+  overview-sound w n d h = go o (ap (λ (x : Inspected). overview x ms) (sym h) ∙ seen)
     where
       go : (o : Outcome Image) → ok (record { words = w; index-blocks = n; data-blocks = d; free = ms }) ≡ viewed k o → SoundImage k ms o w n d
       go (refused i) e = absurd (ok-not-refused _ i e)

@@ -3,7 +3,7 @@ use Prim.Native.Nat.{ℕ, suc, _+_, _-_, _*_, _<_, _≤_}
 use mathlib.Core.Path.{_≡_, refl, sym, ap, _∙_}
 use mathlib.Core.Bool.{true}
 use mathlib.Core.List.{List, [], _∷_, _++_}
-use mathlib.Core.Option.{none, some}
+use mathlib.Core.Option.{some}
 use native.Mathlib.Omega.{arith}
 use lib.ListN.{length, getD, take, drop, length-append}
 use lib.Seq.{length-take-le}
@@ -22,8 +22,9 @@ use Rattle.runs.specs.Step.{step-entry, Inside}
 use Rattle.runs.specs.declared.Step.{Step}
 use Rattle.runs.proofs.Laws.{told-broken, told-end, told-entry, told-no-zero, attribute-in, text-in}
 use Rattle.listing.specs.Lines as LinesSpec
-use Rattle.listing.specs.Lines.{entry-numbers, fields-line, RunPrinted}
-use Rattle.listing.proofs.Lines.{write-none, write-behind, fields-length}
+use Rattle.listing.specs.Lines.{fields-line, RunPrinted}
+use Rattle.spec.proofs.WriteLaws.{write-none, write-behind}
+use Rattle.listing.proofs.Lines.{fields-length}
 
 -- an entry's line by its numbers
 fields-entry : (k : ℕ) (r : Run) (e : Entry) → entry-line k r e ≡ fields-line k (r .block) (r .size) (attribute e) (length (text e)) (e .headword)
@@ -59,7 +60,7 @@ module _ (F : Format) (run word : List ℕ) (len pos : ℕ) (r : Run) (out₀ ou
   coming-end q =
       let e : v .entries ≡ [] = entries-ended F (v .fuel) (take len word) (drop pos run) (v .entries) (v .read) (told-end F (take len word) (drop pos run) run word′ st step q) in
       let l : entry-lines ordinal r (v .entries) ≡ [] = ap (entry-lines ordinal r) e ∙ entry-lines-none ordinal r in
-      (sym (write-none at out) ∙ (rw l at (v .lines)), omega (arith, v .place, ap (λ (x : List ℕ). length x) l), omega (arith, v .count, ap (λ (x : List Entry). length x) e))
+      (sym (write-none out at) ∙ (rw l at (v .lines)), omega (arith, v .place, ap (λ (x : List ℕ). length x) l), omega (arith, v .count, ap (λ (x : List Entry). length x) e))
 
   module _ (n z e : ℕ) (q : st ≡ Step.Entry n z e) (body : z + 2 ≤ e) (within : e ≤ length run) (past : pos < e) (at′ : ℕ) (out′ : List ℕ) (fits : at ≤ length out)
       (stored : out′ ≡ write at (fields-line ordinal (r .block) (r .size) (getD run (z + 1) 0) (e - (z + 2)) (take n word′)) out) (ends : at′ ≡ at + 30 + length (take n word′)) where
@@ -91,7 +92,7 @@ module _ (F : Format) (run word : List ℕ) (len pos : ℕ) (r : Run) (out₀ ou
           room = omega (arith, v .room);
           entries = ds;
           read = rw j u;
-          lines = ap (write at′ y) stored ∙ ap (λ (i : ℕ). write i y (write at x out)) (sym place′) ∙ write-behind at x y out fits ∙ ap (λ (l : List ℕ). write at l out) (sym all) ∙ v .lines;
+          lines = ap (write at′ y) stored ∙ ap (λ (i : ℕ). write i y (write at x out)) (sym place′) ∙ write-behind out x y at fits ∙ ap (λ (l : List ℕ). write at l out) (sym all) ∙ v .lines;
           place = omega (arith, v .place, ap (λ (l : List ℕ). length l) all, length-append x y);
           count = omega (arith, v .count, ap (λ (l : List Entry). length l) w);
         }

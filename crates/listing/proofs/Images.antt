@@ -28,7 +28,8 @@ use Rattle.inspect.proofs.Laws.{index-part, data-part, overview-refused, overvi
 use Rattle.inspect.proofs.Accepted as Parts
 use Rattle.inspect.specs.declared.Inspected.{Inspected}
 use Rattle.listing.specs.Lines.{numbers, Printable, AllPrinted, Accepted}
-use Rattle.listing.proofs.Lines.{written-behind, first-length}
+use Rattle.spec.proofs.WriteLaws.{written-behind}
+use Rattle.listing.proofs.Lines.{first-length}
 
 -- the lines of an accepted image
 accepted-list : (s : List ℕ) (i : Image) → image-from s ≡ ok i → image-lines (image-from s) ≡ first-line (figures i) ++ run-lines 1 (i .runs)
@@ -147,9 +148,9 @@ module _ (s : List ℕ) (ms : List Bool) (k : ℕ) (r : Inspected) (h : overview
   -- the four numbers of an accepted image
   pub told-sound : (w n d f : ℕ) → r ≡ Inspected.Sound w n d → f ≡ count-marks ms → Accepted s (numbers w n d f)
   told-sound w n d f q c =
-      let v = overview-sound k ms (image-from s) w n d (ap (λ (x : Inspected). overview x ms) (sym q) ∙ h) in
+      let v = overview-sound k ms (image-from s) r h w n d q in
       (v .image, v .is, sound-figures k ms (image-from s) w n d v f c)
 
   -- the refusal of another
   pub told-refused : (n : ℕ) → r ≡ Inspected.Refused n → image-lines (image-from s) ≡ image-lines (refused n)
-  told-refused n q = ap image-lines (overview-refused k ms (image-from s) n (ap (λ (x : Inspected). overview x ms) (sym q) ∙ h))
+  told-refused n q = ap image-lines (overview-refused k ms (image-from s) r h n q)

@@ -4,57 +4,21 @@ use mathlib.Core.Path.{_≡_, refl, sym, ap, _∙_}
 use mathlib.Core.Bool.{Bool, true, false, cond, not, _||_}
 use mathlib.Core.List.{List, [], _∷_, _++_, append-assoc}
 use native.Mathlib.Omega.{arith}
-use lib.ListN.{length, set, take, drop, length-append, take-append-drop}
-use lib.Seq.{take-at, drop-at, take-length, length-take-le, drop-drop}
+use lib.ListN.{length, set, length-append}
+use lib.Seq.{take-length}
 use lib.Dec.{eqb}
 use borrow.Author.Tests.{eq-eqb, ne-eqb}
 use Rattle.spec.specs.Bytes as BytesSpec
 use Rattle.spec.specs.Bytes.{write, bytes-at}
 use Rattle.spec.specs.Listing as ListingSpec
-use Rattle.spec.specs.Listing.{digits, column, line, first-line, image-lines}
+use Rattle.spec.specs.Listing.{digits, column, first-line, image-lines}
 use Rattle.spec.specs.Ascii as AsciiSpec
 use Rattle.spec.specs.Ascii.{ascii}
 use Rattle.spec.specs.Outcome.{refused}
 use Rattle.listing.specs.Lines as LinesSpec
 use Rattle.listing.specs.Lines.{entry-numbers, fields-line, numbers}
-use Rattle.spec.proofs.WriteLaws.{bytes-at-before, drop-write}
+use Rattle.spec.proofs.WriteLaws.{write-none, written-behind, write-ahead}
 use Rattle.byteops.proofs.Stores.{one-stored}
-
--- ---- one write beside another
--- no bytes written
-pub write-none : (i : ℕ) (d : List ℕ) → write i [] d ≡ d
-unfolding BytesSpec.write
-write-none i d =
-    let e : i + 0 ≡ i = omega arith in
-    rw (append-assoc, e) (take-append-drop i d)
-
--- bytes written behind others
-pub write-behind : (i : ℕ) (x y d : List ℕ) → i ≤ length d → write (i + length x) y (write i x d) ≡ write i (x ++ y) d
-unfolding BytesSpec.write
-write-behind i x y d h =
-    let l : length (take i d ++ x) ≡ i + length x = length-append (take i d) x ∙ ap (λ (n : ℕ). n + length x) (length-take-le i d h) in
-    let n : i + length (x ++ y) ≡ i + length x + length y = rw length-append (omega arith) in
-    rw (
-      take-at (take i d ++ x) (drop (i + length x) d) (i + length x) l,
-      ← drop-drop (length y) (i + length x) (take i d ++ x ++ drop (i + length x) d),
-      drop-at (take i d ++ x) (drop (i + length x) d) (i + length x) l,
-      drop-drop (length y) (i + length x) d,
-      n,
-      append-assoc (take i d) x y,
-    )
-
--- bytes written in front of others
-pub write-before : (i : ℕ) (x y d : List ℕ) → i + length x + length y ≤ length d → write i x (write (i + length x) y d) ≡ write i (x ++ y) d
-unfolding BytesSpec.write BytesSpec.bytes-at
-write-before i x y d h =
-    let f : take i (write (i + length x) y d) ≡ take i d = bytes-at-before (i + length x) y d h 0 i (omega arith) in
-    let g : drop (i + length x) (write (i + length x) y d) ≡ y ++ drop (i + length x + length y) d = drop-write (i + length x) y d h in
-    let n : i + length (x ++ y) ≡ i + length x + length y = rw length-append (omega arith) in
-    rw (f, g, n, ← append-assoc (take i d) x y, ← append-assoc (take i d ++ x) y (drop (i + length x + length y) d))
-
--- the same by the results of two calls
-pub written-behind : (d d₁ d₂ x y : List ℕ) (i j : ℕ) → i ≤ length d → i + length x ≡ j → d₁ ≡ write i x d → d₂ ≡ write j y d₁ → d₂ ≡ write i (x ++ y) d
-written-behind d d₁ d₂ x y i j h e p q = q ∙ rw (p, ← e) (write-behind i x y d h)
 
 -- ---- columns
 -- so many digits, so many bytes
@@ -86,14 +50,14 @@ module _ (d₀ d : List ℕ) (at w n left m : ℕ) (h : write at (digits false l
       let x : List ℕ = digits false (left - 1) (m / 10) in
       let l : length x ≡ left - 1 = digits-length false (left - 1) (m / 10) in
       let g : write at (digits false (suc (left - 1)) m) d ≡ write at (digits false w n) d₀ = ap (λ (j : ℕ). write at (digits false j m) d) (sym k) ∙ h in
-      ap (write at x) (one-stored d (at + (left - 1)) b (omega arith) ∙ ap (λ (j : ℕ). write (at + j) (b ∷ []) d) (sym l)) ∙ write-before at x (b ∷ []) d (omega arith) ∙ rw e g
+      ap (write at x) (one-stored d (at + (left - 1)) b (omega arith)) ∙ write-ahead d x (b ∷ []) at (at + (left - 1)) (omega arith) (omega arith) ∙ rw e g
 
   -- none is left
   pub columns-end : left ≤ 0 → d ≡ write at (digits false w n) d₀
   unfolding digits
   columns-end p =
       let k : left ≡ 0 = omega arith in
-      sym (write-none at d) ∙ (rw k at h)
+      sym (write-none d at) ∙ (rw k at h)
 
 -- a column by its last digit and those in front of it
 pub column-by : (d d₁ d₂ : List ℕ) (at w n b : ℕ) → 1 ≤ w → at + w ≤ length d → b ≡ 48 + n % 10 → d₁ ≡ write at (digits false (w - 1) (n / 10)) d → d₂ ≡ write (at + (w - 1)) (b ∷ []) d₁ → d₂ ≡ write at (column w n) d

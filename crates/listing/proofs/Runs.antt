@@ -22,7 +22,7 @@ use Rattle.index.proofs.Laws.{inside-next, elements-next}
 use Rattle.tally.proofs.RunsLaws.{run-slice, slice-same, slice-long}
 use Rattle.listing.specs.Lines.{RunPrinted, Printable, AllPrinted}
 use Rattle.listing.specs.declared.Printed.{Printed}
-use Rattle.listing.proofs.Lines.{write-none, write-behind}
+use Rattle.spec.proofs.WriteLaws.{write-none, write-behind}
 
 -- no run, no line
 no-lines : (k : ℕ) → run-lines k [] ≡ []
@@ -66,7 +66,7 @@ module _ (F : Format) (index area : List ℕ) (n D : ℕ) (out₀ out : List ℕ
       let e : v .rest ≡ [] = no-runs F D area (v .rest) (rw z at (v .read)) in
       let l : run-lines ordinal (v .rest) ≡ [] = ap (run-lines ordinal) e ∙ no-lines ordinal in
       let s : v .all ≡ rs = same-value (v .all) rs (sym (v .all-read) ∙ h) in
-      rw (← s) (sym (write-none at out) ∙ (rw l at (v .lines)), omega (arith, v .ends, ap (λ (x : List ℕ). length x) l))
+      rw (← s) (sym (write-none out at) ∙ (rw l at (v .lines)), omega (arith, v .ends, ap (λ (x : List ℕ). length x) l))
 
   module _ (p : 0 < left) (long : 256 * D ≡ length area) (b : ℕ) (number : b ≡ from-little-endian (bytes-at place 2 index)) where
     others : List Element
@@ -130,6 +130,6 @@ module _ (F : Format) (index area : List ℕ) (n D : ℕ) (out₀ out : List ℕ
             rest = rs;
             read = rw z (first .4);
             room = omega (arith, slice-length, its-size, v .room, ap run-blocks (first .2), blocks-cons r rs);
-            lines = ap (write (printed .at) y) u ∙ ap (λ (i : ℕ). write i y (write at x out)) w ∙ write-behind at x y out (omega (arith, v .room, v .kept)) ∙ ap (λ (l : List ℕ). write at l out) (sym all′) ∙ v .lines;
+            lines = ap (write (printed .at) y) u ∙ ap (λ (i : ℕ). write i y (write at x out)) w ∙ write-behind out x y at (omega (arith, v .room, v .kept)) ∙ ap (λ (l : List ℕ). write at l out) (sym all′) ∙ v .lines;
             ends = omega (arith, v .ends, w, ap (λ (l : List ℕ). length l) all′, length-append x y);
           }

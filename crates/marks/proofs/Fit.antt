@@ -278,10 +278,3 @@ best-fit-room ws g d n r a b e h =
     let w : Each (Roomy fl g d) (extents g 0 (drop g fl)) = rw m at (roomy-extents fl g (drop g fl) g 0 refl (omega arith) (omega arith) (λ j p q. absurd (omega arith))) in
     let t : Room fl g d n r = rw s (room-found fl g d n _ (held-best (Roomy fl g d) n _ w) (rw s at h)) in
     record { low = t .low; high = t .high; marked = λ j p q. sym (getD-take d (marks ws) j false (omega (arith, t .high))) ∙ t .marked j p q }
-
-pub best-fit-high : (ws : List ℕ) (g d n r : ℕ) → g ≤ d → d ≤ 64 * length ws → r ≡ best-fit g d (take (d - g) (drop g (marks ws))) n → r < d → r + n ≤ d
-best-fit-high ws g d n r a b e h = best-fit-room ws g d n r a b e h .high
-
--- what `unmark_range` requires there
-pub best-fit-inside : (ws : List ℕ) (g d n r : ℕ) → g ≤ d → d ≤ 64 * length ws → r ≡ best-fit g d (take (d - g) (drop g (marks ws))) n → r < d → r + n ≤ 64 * length ws
-best-fit-inside ws g d n r a b e h = omega (arith, best-fit-high ws g d n r a b e h)

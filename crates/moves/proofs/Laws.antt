@@ -4,18 +4,19 @@ use mathlib.Core.Path.{_≡_, refl, sym, ap, _∙_}
 use mathlib.Core.Bool.{Bool, true, false}
 use mathlib.Core.List.{List, [], _∷_, _++_, map, map-append}
 use native.Mathlib.Omega.{arith}
-use lib.ListN.{length, getD, set, take, drop, length-set, length-map}
+use lib.ListN.{length, getD, set, take, drop, length-map}
 use lib.Seq.{getD-set-other}
 use lib.Dec.{eqb}
 use borrow.Author.Tests.{lt-ltb, le-ltb, eq-eqb, ne-eqb, eqb-true, eqb-false}
 use Rattle.spec.specs.Bytes.{from-little-endian, bytes-at, write}
 use Rattle.spec.specs.Blocks.{best-fit}
 use Rattle.spec.specs.Index.{Element}
-use Rattle.spec.proofs.ListsLaws.{All, all-front, all-back}
-use Rattle.index.specs.Elements.{element-end, element-at, elements-at, Inside}
-use Rattle.index.proofs.Laws.{inside-next, elements-next}
+use Rattle.spec.proofs.ListsLaws.{All, all-map, all-front, all-back}
+use Rattle.index.specs.Elements.{element-end, element-at, elements-at}
+use Rattle.index.proofs.Laws.{elements-next}
 use Rattle.marks.specs.Marks.{with-range}
 use Rattle.placing.specs.Spread.{Spread, placed-first, spread}
+use Rattle.placing.proofs.SpreadLaws.{spread-grows}
 use Rattle.moves.specs.Moved.{noted, starts, size-at, freed, tabled, moved-written}
 
 -- ---- the table noted
@@ -47,10 +48,6 @@ unfolding element-at
 note-turn index g at left b end T T₁ R inv p e n f =
     rw (f, n, e) (sym (noted-append g (from-little-endian (bytes-at at 2 index) ∷ []) (blocks (elements-at index (element-end index at + 1) (left - 1))) T)
     ∙ rw (elements-next index at left p) at inv)
-
--- they stand inside the index
-pub note-inside : (index : List ℕ) (at left end : ℕ) → Inside index at left → 0 < left → end ≡ element-end index at → Inside index (end + 1) (left - 1)
-note-inside index at left end h p e = rw e (inside-next index at left h p)
 
 -- all are noted
 pub note-end : (index : List ℕ) (g at left : ℕ) (T R : List ℕ) → noted g (blocks (elements-at index at left)) T ≡ R → left ≤ 0 → T ≡ R
@@ -194,14 +191,6 @@ unfolding spread placed-first
 length-places g d ms [] = refl
 length-places g d ms (n ∷ ns) = ap suc (length-places g _ _ ns)
 
--- the end does not fall
-pub spread-end : (g d : ℕ) (ms : List Bool) (ns : List ℕ) → d ≤ spread g d ms ns .end
-unfolding spread placed-first
-spread-end g d ms [] = omega arith
-spread-end g d ms (n ∷ ns) =
-    let p : ℕ = best-fit g d (take (d - g) (drop g ms)) n in
-    omega (arith, spread-end g (max d (p + n)) (with-range p n false ms) ns)
-
 -- places tabled after others
 pub tabled-append : (bs cs ps qs T : List ℕ) → length ps ≡ length bs → tabled (bs ++ cs) (ps ++ qs) T ≡ tabled cs qs (tabled bs ps T)
 unfolding tabled
@@ -209,13 +198,6 @@ tabled-append [] cs [] qs T h = refl
 tabled-append [] cs (p ∷ ps) qs T h = absurd (omega arith)
 tabled-append (b ∷ bs) cs [] qs T h = absurd (omega arith)
 tabled-append (b ∷ bs) cs (p ∷ ps) qs T h = tabled-append bs cs ps qs (set T b p) (omega arith)
-
--- the table keeps its length
-pub length-tabled : (bs ps T : List ℕ) → length (tabled bs ps T) ≡ length T
-unfolding tabled
-length-tabled [] ps T = refl
-length-tabled (b ∷ bs) [] T = refl
-length-tabled (b ∷ bs) (p ∷ ps) T = length-tabled bs ps (set T b p) ∙ length-set T b p
 
 -- no other block changes
 pub get-tabled-below : (bs ps T : List ℕ) (c : ℕ) → All (λ b. b < c) bs → getD (tabled bs ps T) c 0 ≡ getD T c 0
@@ -235,11 +217,7 @@ starts-low T b c h = go (eqb (getD T b 0) 0) refl
 -- what is placed in front of b does not change where runs start from b on
 starts-behind : (bs ps T : List ℕ) (b k : ℕ) → All (λ a. a < b) bs → starts b k (tabled bs ps T) ≡ starts b k T
 starts-behind bs ps T b k h =
-    starts-same (tabled bs ps T) T b k (λ c p q. ap (λ (x : ℕ). eqb x 0) (get-tabled-below bs ps T c (all-lower bs c p h)))
-  where
-    all-lower : (cs : List ℕ) (c : ℕ) → b ≤ c → All (λ a. a < b) cs → All (λ a. a < c) cs
-    all-lower [] c p h = tt
-    all-lower (a ∷ cs) c p (h, hs) = (omega arith, all-lower cs c p hs)
+    starts-same (tabled bs ps T) T b k (λ c p q. ap (λ (x : ℕ). eqb x 0) (get-tabled-below bs ps T c (all-map (λ a. a < b) (λ a. a < c) (λ a l. omega arith) bs h)))
 
 -- the runs of k blocks from b on placed
 abbrev pub spread-from : List ℕ → ℕ → ℕ → ℕ → List Bool → ℕ → ℕ → List ℕ → Spread
@@ -263,15 +241,10 @@ module _ (area T : List ℕ) (d g end b : ℕ) (ms : List Bool) where
     place-none-table = rw (starts-none T b e)
 
   module _ (e : getD T b 0 ≡ 0 → ⊥) (n p : ℕ) (size : n ≡ size-at area d b) (place : p ≡ best-fit g end (take (end - g) (drop g ms)) n) where
-    -- where one starts, the end is behind it
-    pub place-past : end < p + n → p + n ≡ spread-from area d g end ms b 1 T .end
+    -- where one starts, the end is behind it, or stays
+    pub place-last : (r : ℕ) → r ≡ max end (p + n) → r ≡ spread-from area d g end ms b 1 T .end
     unfolding spread placed-first
-    place-past h = rw (starts-one T b e, ← size, ← place) (omega arith)
-
-    -- or stays
-    pub place-among : p + n ≤ end → end ≡ spread-from area d g end ms b 1 T .end
-    unfolding spread placed-first
-    place-among h = rw (starts-one T b e, ← size, ← place) (omega arith)
+    place-last r h = rw (starts-one T b e, ← size, ← place) h
 
     -- its blocks are free no more
     pub place-free : (ns : List Bool) → ns ≡ with-range p n false ms → ns ≡ spread-from area d g end ms b 1 T .free
@@ -335,7 +308,7 @@ module _ (area : List ℕ) (d g end : ℕ) (T₀ : List ℕ) (ms₀ : List Bool)
 
     -- an end past the limit is not taken back
     pub place-over : (limit : ℕ) → limit < e₁ → limit < spread-from area d g end ms₀ 0 g T₀ .end
-    place-over limit l = omega (arith, place-turn .0, spread-end g e₁ ms₁ (map (size-at area d) (starts (b + 1) (g - (b + 1)) T₁)))
+    place-over limit l = omega (arith, place-turn .0, spread-grows g e₁ ms₁ (map (size-at area d) (starts (b + 1) (g - (b + 1)) T₁)))
 
   -- at the end none
   pub place-end : g ≤ b → (e ≡ spread-from area d g end ms₀ 0 g T₀ .end) × (ms ≡ spread-from area d g end ms₀ 0 g T₀ .free)

@@ -1,31 +1,30 @@
 -- For the callers: the blocks that the table names are those of the runs that move, in order of old number, and the table then tells their places.
-use Prim.Native.Nat.{ℕ, zero, suc, _+_, _-_, _≤_, _<_, max}
+use Prim.Native.Nat.{ℕ, zero, suc, _+_, _≤_, _<_}
 use mathlib.Core.Path.{_≡_, refl, sym, ap, _∙_}
-use mathlib.Core.Logic.{inl, ⊎-elim}
-use mathlib.Core.Bool.{Bool, true, false, not, _||_, cond, false≢true}
-use mathlib.Core.Option.{Option, none, some}
+use mathlib.Core.Logic.{_⊎_, inl, inr, ⊎-elim}
+use mathlib.Core.Bool.{Bool, true, false, not, _||_, false≢true}
 use mathlib.Core.List.{List, [], _∷_, map}
 use native.Mathlib.Omega.{arith}
-use lib.ListN.{length, getD, set, take, drop, replicate, length-set, length-replicate, getD-replicate}
+use lib.ListN.{length, getD, set, replicate, length-set, length-replicate, getD-replicate}
 use lib.Seq.{getD-set-same, getD-set-other, set-out}
 use lib.Dec.{leb, ltb, eqb}
 use borrow.Author.Tests.{le-leb, lt-leb, ltb-true, ltb-false, eq-eqb, ne-eqb, eqb-true, eqb-false}
 use Rattle.spec.specs.Lists.{any, filter, range-from}
 use Rattle.spec.specs.Run.{Run}
-use Rattle.spec.specs.Blocks.{covers, FreeExtent, ended, extents, shorter, best, start-or, best-fit}
+use Rattle.spec.specs.Blocks.{covers}
 use Rattle.spec.specs.Place.{by-number, in-number-order, touches, moves, new-number}
-use Rattle.spec.proofs.ListsLaws.{All, all-map, less-or, or-right, or-neither, filter-yes, filter-no, range-some}
+use Rattle.spec.proofs.ListsLaws.{All, all-true, all-map, less-or, or-right, or-neither, or-false, filter-yes, filter-no, filter-nothing, all-range, range-some}
 use Rattle.spec.proofs.BlocksLaws.{Apart, Laid, covers-inside, covers-outside}
 use Rattle.spec.proofs.LaidLaws.{Sized}
-use Rattle.spec.proofs.FreeListLaws.{Ascending}
-use Rattle.marks.specs.Marks.{with-range}
-use Rattle.placing.specs.Spread.{placed-first, spread}
+use Rattle.spec.proofs.FreeListLaws.{Ascending, filter-ascending}
+use Rattle.placing.specs.Spread.{spread}
+use Rattle.placing.proofs.SpreadLaws.{places-from}
 use Rattle.moves.specs.Moved.{noted, starts, tabled}
 use Rattle.moves.proofs.Laws.{starts-same}
 
 -- ---- ranges
 -- tests that agree on a range hold for the same of its numbers
-filter-range : (f h : ℕ → Bool) (i n : ℕ) → ((b : ℕ) → i ≤ b → b < i + n → f b ≡ h b) → filter f (range-from i n) ≡ filter h (range-from i n)
+pub filter-range : (f h : ℕ → Bool) (i n : ℕ) → ((b : ℕ) → i ≤ b → b < i + n → f b ≡ h b) → filter f (range-from i n) ≡ filter h (range-from i n)
 unfolding filter range-from
 filter-range f h i zero e = refl
 filter-range f h i (suc n) e = go (h i) refl (filter-range f h (suc i) n (λ b p q. e b (omega arith) (omega arith)))
@@ -40,16 +39,12 @@ unfolding any range-from
 range-none f i zero h = refl
 range-none f i (suc n) h = rw (h i (omega arith) (omega arith)) (range-none f (suc i) n (λ b p q. h b (omega arith) (omega arith)))
 
--- numbers that ascend from i on do so from below
-lower : (i j D : ℕ) (l : List ℕ) → i ≤ j → Ascending j D l → Ascending i D l
-lower i j D [] h a = tt
-lower i j D (b ∷ l) h (p, q, a) = (omega arith, q, a)
-
--- a number in front of those that ascend is none of them
-not-among : (b i D : ℕ) (l : List ℕ) → b < i → Ascending i D l → any (eqb b) l ≡ false
+-- a number in front of those that ascend, or behind them, is none of them
+pub not-among : (b i D : ℕ) (l : List ℕ) → (b < i) ⊎ (D ≤ b) → Ascending i D l → any (eqb b) l ≡ false
 unfolding any
-not-among b i D [] h a = refl
-not-among b i D (c ∷ l) h (p, q, a) = rw (ne-eqb b c (λ e. omega arith)) (not-among b (suc c) D l (omega arith) a)
+not-among b i D [] o a = refl
+not-among b i D (c ∷ l) (inl h) (p, q, a) = rw (ne-eqb b c (λ e. omega arith)) (not-among b (suc c) D l (inl (omega arith)) a)
+not-among b i D (c ∷ l) (inr h) (p, q, a) = rw (ne-eqb b c (λ e. omega arith)) (not-among b (suc c) D l (inr h) a)
 
 -- ---- the blocks noted
 -- a table of which blocks have runs
@@ -68,15 +63,7 @@ starts-filter T b (suc k) = go (eqb (getD T b 0) 0) refl (starts-filter T (suc b
 
 -- they ascend
 pub starts-ascending : (T : List ℕ) (b k : ℕ) → Ascending b (b + k) (starts b k T)
-unfolding starts
-starts-ascending T b zero = tt
-starts-ascending T b (suc k) =
-    let e : suc b + k ≡ b + suc k = omega arith in
-    go (eqb (getD T b 0) 0) refl (rw e at (starts-ascending T (suc b) k))
-  where
-    go : (t : Bool) → eqb (getD T b 0) 0 ≡ t → Ascending (suc b) (b + suc k) (starts (suc b) k T) → Ascending b (b + suc k) (starts b (suc k) T)
-    go true e a = rw (e, starts) (lower b (suc b) (b + suc k) (starts (suc b) k T) (omega arith) a)
-    go false e a = rw (e, starts) (omega arith, omega arith, a)
+starts-ascending T b k = rw (starts-filter T b k) (filter-ascending (has T) (b + k) b k (omega arith))
 
 -- the table keeps its length
 pub length-noted : (g : ℕ) (bs T : List ℕ) → length (noted g bs T) ≡ length T
@@ -107,11 +94,7 @@ noted-has g (b ∷ bs) T c h l = go (ltb b g) refl (λ U m. noted-has g bs U c h
 pub starts-noted : (g k : ℕ) (bs : List ℕ) → g ≤ k → starts 0 g (noted g bs (replicate k 0)) ≡ filter (λ b. any (eqb b) bs) (range-from 0 g)
 starts-noted g k bs h =
     starts-filter (noted g bs (replicate k 0)) 0 g ∙ filter-range (has (noted g bs (replicate k 0))) (λ b. any (eqb b) bs) 0 g
-    (λ c p q. noted-has g bs (replicate k 0) c (omega arith) (omega (arith, length-replicate {A = ℕ} k 0)) ∙ rw (getD-replicate {A = ℕ} k c 0 0 (omega arith)) (or-none (any (eqb c) bs)))
-  where
-    or-none : (a : Bool) → a || false ≡ a
-    or-none true = refl
-    or-none false = refl
+    (λ c p q. noted-has g bs (replicate k 0) c (omega arith) (omega (arith, length-replicate {A = ℕ} k 0)) ∙ rw (getD-replicate {A = ℕ} k c 0 0 (omega arith)) (sym (or-false (any (eqb c) bs))))
 
 -- ---- the runs that move
 -- a number among others that ascend
@@ -146,26 +129,13 @@ unfolding insert
 insert-front b D [] a = refl
 insert-front b D (c ∷ l) (p, q, a) = insert-yes b c l (omega arith)
 
--- the numbers of a range for which a test holds ascend
-filter-ascending : (f : ℕ → Bool) (i n : ℕ) → Ascending i (i + n) (filter f (range-from i n))
-unfolding filter range-from
-filter-ascending f i zero = tt
-filter-ascending f i (suc n) =
-    let e : suc i + n ≡ i + suc n = omega arith in
-    go (f i) (rw e at (filter-ascending f (suc i) n))
-  where
-    go : (t : Bool) → Ascending (suc i) (i + suc n) (filter f (range-from (suc i) n))
-        → Ascending i (i + suc n) (elim t as (λ x. List ℕ) [ true ↦ i ∷ filter f (range-from (suc i) n) | false ↦ filter f (range-from (suc i) n) ])
-    go true a = (omega arith, omega arith, a)
-    go false a = lower i (suc i) (i + suc n) (filter f (range-from (suc i) n)) (omega arith) a
-
 -- the first number of a range put among those for which a test holds
 insert-first : (f : ℕ → Bool) (i n : ℕ) → f i ≡ false → insert i (filter f (i ∷ range-from (suc i) n)) ≡ filter (λ c. eqb c i || f c) (i ∷ range-from (suc i) n)
 insert-first f i n e =
     rw (
       filter-no f i (range-from (suc i) n) e,
       filter-yes (λ c. eqb c i || f c) i (range-from (suc i) n) (rw (eq-eqb i i refl)),
-      insert-front i (suc i + n) (filter f (range-from (suc i) n)) (filter-ascending f (suc i) n),
+      insert-front i (suc i + n) (filter f (range-from (suc i) n)) (filter-ascending f (suc i + n) (suc i) n (omega arith)),
     )
     (ap (λ (l : List ℕ). i ∷ l) (filter-range f (λ c. eqb c i || f c) (suc i) n (λ c p q. rw (ne-eqb c i (λ x. omega arith)))))
 
@@ -204,17 +174,11 @@ apart-other b n (r ∷ rs) h (k, s) (o, a) =
     let z = k .0 in
     rw (ne-eqb b (r .block) (λ e. ⊎-elim (λ p. omega arith) (λ p. omega arith) o)) (apart-other b n rs h s a)
 
--- a test that never holds keeps none
-filter-never : (f : ℕ → Bool) (l : List ℕ) → ((b : ℕ) → f b ≡ false) → filter f l ≡ []
-unfolding filter
-filter-never f [] h = refl
-filter-never f (b ∷ l) h = filter-no f b l (h b) ∙ filter-never f l h
-
 -- the numbers of the runs that move, in order, are the first g that runs have
 pub moving-blocks : (g D : ℕ) (rs : List Run) → Laid D rs → All Sized rs
     → map (λ r. r .block) (in-number-order (filter (touches g) rs)) ≡ filter (λ b. any (eqb b) (map (λ r. r .block) rs)) (range-from 0 g)
 unfolding in-number-order filter any
-moving-blocks g D [] l s = sym (filter-never (λ b. any (eqb b) []) (range-from 0 g) (λ b. refl))
+moving-blocks g D [] l s = sym (filter-nothing (λ b. any (eqb b) []) (range-from 0 g) (all-true _ (λ b. true) (λ b p. refl) (range-from 0 g) (all-range (λ b. true) 0 g (λ b p q. refl))))
 moving-blocks g D (r ∷ rs) (n, i, a, l) (z, s) = ⊎-elim (below (moving-blocks g D rs l s)) (above (moving-blocks g D rs l s)) (less-or (r .block) g)
   where
     Moving : List Run → Type 0
@@ -248,24 +212,7 @@ get-tabled-other (c ∷ bs) (p ∷ ps) T b h =
 
 -- the first block placed has the first place
 tabled-first : (b p D : ℕ) (bs ps T : List ℕ) → Ascending (suc b) D bs → b < length T → getD (tabled bs ps (set T b p)) b 0 ≡ p
-tabled-first b p D bs ps T a h = get-tabled-other bs ps (set T b p) b (not-among b (suc b) D bs (omega arith) a) ∙ getD-set-same T b p 0 h
-
--- each has its own
-pub get-tabled : (i D : ℕ) (bs ps T : List ℕ) (j : ℕ) → Ascending i D bs → D ≤ length T → length ps ≡ length bs → j < length bs → getD (tabled bs ps T) (getD bs j 0) 0 ≡ getD ps j 0
-unfolding tabled
-get-tabled i D [] ps T j a h l k = absurd (omega arith)
-get-tabled i D (b ∷ bs) [] T j a h l k = absurd (omega arith)
-get-tabled i D (b ∷ bs) (p ∷ ps) T zero (x, y, a) h l k = tabled-first b p D bs ps T a (omega arith)
-get-tabled i D (b ∷ bs) (p ∷ ps) T (suc j) (x, y, a) h l k = get-tabled (suc b) D bs ps (set T b p) j a (omega (arith, length-set T b p)) (omega arith) (omega arith)
-
--- all places, in order
-pub tabled-places : (i D : ℕ) (bs ps T : List ℕ) → Ascending i D bs → D ≤ length T → length ps ≡ length bs → map (λ b. getD (tabled bs ps T) b 0) bs ≡ ps
-unfolding tabled
-tabled-places i D [] [] T a h l = refl
-tabled-places i D [] (p ∷ ps) T a h l = absurd (omega arith)
-tabled-places i D (b ∷ bs) [] T a h l = absurd (omega arith)
-tabled-places i D (b ∷ bs) (p ∷ ps) T (x, y, a) h l =
-    rw (tabled-first b p D bs ps T a (omega arith), tabled-places (suc b) D bs ps (set T b p) a (omega (arith, length-set T b p)) (omega arith))
+tabled-first b p D bs ps T a h = get-tabled-other bs ps (set T b p) b (not-among b (suc b) D bs (inl (omega arith)) a) ∙ getD-set-same T b p 0 h
 
 -- the number that a moved run has after the moves is its place by the table
 pub get-tabled-moves : (i D : ℕ) (rs qs : List Run) (T : List ℕ) (b : ℕ) → Ascending i D (map (λ r. r .block) rs) → D ≤ length T → length qs ≡ length rs
@@ -296,44 +243,7 @@ number-stays (r ∷ rs) (q ∷ qs) b h =
     rw (ne-eqb (r .block) b (λ z. eqb-false b (r .block) x (sym z)), new-number) (number-stays rs qs b y)
 
 -- ---- the places
--- a free extent by the marks of the blocks from i up starts from g on, where those in front of i do
-extents-from : (g i k : ℕ) (ms : List Bool) → g + k ≤ i → All (λ x. g ≤ x .start) (extents i k ms)
-unfolding extents ended
-extents-from g i zero [] h = tt
-extents-from g i (suc k) [] h = (omega arith, tt)
-extents-from g i k (true ∷ ms) h = extents-from g (suc i) (suc k) ms (omega arith)
-extents-from g i zero (false ∷ ms) h = extents-from g (suc i) 0 ms (omega arith)
-extents-from g i (suc k) (false ∷ ms) h = (omega arith, extents-from g (suc i) 0 ms (omega arith))
-
--- the best of such extents starts there, and so does what stands behind them
-best-from : (g D n : ℕ) (xs : List FreeExtent) → g ≤ D → All (λ x. g ≤ x .start) xs → g ≤ start-or D (best n xs)
-unfolding best start-or shorter
-best-from g D n [] h a = h
-best-from g D n (x ∷ xs) h (p, a) = go (leb n (x .blocks)) (best n xs) (best-from g D n xs h a)
-  where
-    one : (t : Bool) (y : FreeExtent) → g ≤ y .start → g ≤ start-or D (cond t (some x) (some y))
-    one true y q = p
-    one false y q = q
-
-    go : (t : Bool) (o : Option FreeExtent) → g ≤ start-or D o → g ≤ start-or D (elim t as (λ y. Option FreeExtent) [ true ↦ shorter x o | false ↦ o ])
-    go true none q = p
-    go true (some y) q = one (leb (x .blocks) (y .blocks)) y q
-    go false o q = q
-
--- no run is placed in front of g
-pub best-fit-from : (g D : ℕ) (ms : List Bool) (n : ℕ) → g ≤ D → g ≤ best-fit g D ms n
-unfolding best-fit
-best-fit-from g D ms n h = best-from g D n (extents g 0 ms) h (extents-from g g 0 ms (omega arith))
-
--- nor one of several
-pub places-from : (g d : ℕ) (ms : List Bool) (ns : List ℕ) → g ≤ d → All (λ p. g ≤ p) (spread g d ms ns .places)
-unfolding spread placed-first
-places-from g d ms [] h = tt
-places-from g d ms (n ∷ ns) h =
-    let p : ℕ = best-fit g d (take (d - g) (drop g ms)) n in
-    (best-fit-from g d (take (d - g) (drop g ms)) n h, places-from g (max d (p + n)) (with-range p n false ms) ns (omega arith))
-
--- so no place is 0
+-- no place is 0 where the allowed blocks start behind block 0
 pub places-some : (g d : ℕ) (ms : List Bool) (ns : List ℕ) → 1 ≤ g → g ≤ d → All (λ p. p ≡ 0 → ⊥) (spread g d ms ns .places)
 places-some g d ms ns k h = all-map (λ p. g ≤ p) (λ p. p ≡ 0 → ⊥) (λ p l z. omega arith) (spread g d ms ns .places) (places-from g d ms ns h)
 

@@ -106,10 +106,7 @@ fn place_one(
     let n = size_at(area, d, b);
     let p = placing::place(free, g, end, n);
     numbers[b] = p as u32;
-    if end < p + n {
-        return p + n;
-    }
-    end
+    placing::larger(end, p + n)
 }
 
 // Places all displaced runs in order of their old numbers; answers the end then. Stops where that passes the limit.
@@ -128,16 +125,16 @@ pub fn place_moved(
     ensures { λ r. ⌜ (r ≤ limit → now (numbers .exit) ≡ tabled (starts 0 g (now (numbers .entry))) (spread g end (marks (now (free .entry))) (map (size-at (now (area .entry)) d) (starts 0 g (now (numbers .entry)))) .places) (now (numbers .entry))) ⌝ }
     ensures { λ r. ⌜ (length (now (free .exit)) ≡ length (now (free .entry))) × (length (now (numbers .exit)) ≡ length (now (numbers .entry))) × (end ≤ r) ⌝ }
 {
-    let mut d2 = end;
+    let mut last = end;
     let mut b = 0;
     while b < g {
-        d2 = place_one(area, d, numbers, g, b, free, d2);
-        if limit < d2 {
-            return d2;
+        last = place_one(area, d, numbers, g, b, free, last);
+        if limit < last {
+            return last;
         }
         b += 1;
     }
-    d2
+    last
 }
 
 // Copies the run at block b of the old data area to its new place, if one starts there.

@@ -1,12 +1,11 @@
 -- What a turn of planning or writing the parts shows, in the terms of the code.
 use Prim.Native.Nat.{ℕ, _+_, _-_, _*_, _<_, _≤_, max}
-use mathlib.Core.Path.{_≡_, refl, sym, ap, ap₂, _∙_}
-use mathlib.Core.Logic.{⊎-elim}
+use mathlib.Core.Path.{_≡_, sym, ap, ap₂, _∙_}
 use mathlib.Core.Bool.{Bool, true, false}
-use mathlib.Core.List.{List, [], _∷_, _++_, map}
+use mathlib.Core.List.{List, [], _∷_, _++_, map, append-nil}
 use native.Mathlib.Omega.{arith}
-use lib.ListN.{length, take, drop, length-append, length-take, length-drop, take-append-drop}
-use lib.Seq.{length-take-le, take-all}
+use lib.ListN.{length, take, drop, length-append, length-take, length-drop, take-append-drop, drop-of-length-le}
+use lib.Seq.{length-take-le, take-all, drop-drop}
 use Rattle.spec.specs.Bytes.{write, bytes-at, no-zero, blocks-for}
 use Rattle.spec.specs.Header.{format4}
 use Rattle.spec.specs.Entry.{Entry, entry-bytes}
@@ -14,18 +13,17 @@ use Rattle.spec.specs.Run.{entries-bytes, run-size, run-bytes}
 use Rattle.spec.specs.Index.{element-bytes, elements-bytes}
 use Rattle.spec.specs.Blocks.{best-fit}
 use Rattle.spec.specs.Place.{cut, first-headword, new-run, at-block, element-of}
-use Rattle.spec.proofs.ListsLaws.{All, less-or}
+use Rattle.spec.proofs.ListsLaws.{All}
 use Rattle.spec.proofs.IndexLaws.{headword-no-zero}
-use Rattle.spec.proofs.WriteLaws.{write-left, write-right}
-use Rattle.marks.specs.Marks.{marks, with-range}
-use Rattle.marks.proofs.Fit.{best-fit-room}
+use Rattle.spec.proofs.WriteLaws.{write-right}
+use Rattle.marks.specs.Marks.{with-range}
 use Rattle.placing.specs.Spread.{Spread, spread, placed-first, Within}
 use Rattle.placing.proofs.SpreadLaws.{spread-grows}
 use Rattle.encoder.specs.Framed.{framed-run}
 use Rattle.encoder.proofs.Laws.{run-framed, length-framed}
 use Rattle.elements.proofs.Laws.{element-size}
 use Rattle.parts.specs.Part.{part-of, past-part}
-use Rattle.parts.proofs.PartLaws.{Short, part-empty, part-first, part-headword, part-size, part-some, part-stands, past-fewer, cut-parts}
+use Rattle.parts.proofs.PartLaws.{Short, part-first, part-headword, part-size, front-stored, some-left, cut-next}
 use Rattle.parts.proofs.Laws.{headword-at}
 use Rattle.plan.specs.Written.{part-element, parts-written, part-runs}
 
@@ -84,16 +82,20 @@ module _ (g end : ℕ) (ms₀ : List Bool) (es₀ : List Entry) (d : ℕ) (ms : 
       (λ k. (p, q), λ k. omega arith)
 
 -- ---- a lent part
+-- what a callee left in the rest of a slice
+pub lent-rest : (i : ℕ) (s : List ℕ) (f : List ℕ → List ℕ) → f (take (length s - i) (drop i s)) ++ drop (length s - i) (drop i s) ≡ f (drop i s)
+lent-rest i s f =
+    let k : take (length s - i) (drop i s) ≡ drop i s = take-all (length s - i) (drop i s) (omega (arith, length-drop i s)) in
+    let n : drop (length s - i) (drop i s) ≡ [] = drop-drop (length s - i) i s ∙ drop-of-length-le s {i = i + (length s - i)} (omega arith) in
+    ap₂ (λ (x y : List ℕ). f x ++ y) k n ∙ append-nil (f (drop i s))
+
 -- bytes written to the front of the part from a on are written at a
-pub write-lent : (a k : ℕ) (x s s′ : List ℕ) → k ≡ length s - a → a + length x ≤ length s → s′ ≡ write 0 x (take k (drop a s)) → take a s ++ (s′ ++ drop k (drop a s)) ≡ write a x s
+write-lent : (a k : ℕ) (x s s′ : List ℕ) → k ≡ length s - a → a + length x ≤ length s → s′ ≡ write 0 x (take k (drop a s)) → take a s ++ (s′ ++ drop k (drop a s)) ≡ write a x s
 write-lent a k x s s′ e h p =
     let la : length (take a s) ≡ a = length-take-le a s (omega arith) in
-    let ld : length (drop a s) ≡ length s - a = length-drop a s in
-    let t : take k (drop a s) ≡ drop a s = take-all k (drop a s) (omega arith) in
-    let w : write 0 x (take k (drop a s)) ++ drop k (drop a s) ≡ write 0 x (drop a s) = sym (write-left 0 x (take k (drop a s)) (drop k (drop a s)) (omega (arith, ap length t))) ∙ ap (write 0 x) (take-append-drop k (drop a s)) in
     let z : a - length (take a s) ≡ 0 = omega arith in
-    ap (λ (l : List ℕ). take a s ++ (l ++ drop k (drop a s))) p
-    ∙ ap (λ (l : List ℕ). take a s ++ l) w
+    ap₂ (λ (l : List ℕ) (n : ℕ). take a s ++ (l ++ drop n (drop a s))) (p ∙ ap (λ (n : ℕ). write 0 x (take n (drop a s))) e) e
+    ∙ ap (λ (l : List ℕ). take a s ++ l) (lent-rest a s (write 0 x))
     ∙ ap (λ (i : ℕ). take a s ++ write i x (drop a s)) (sym z)
     ∙ sym (write-right a x (take a s) (drop a s) (omega arith))
     ∙ ap (write a x) (take-append-drop a s)
@@ -110,11 +112,6 @@ run-room used n a k part image p q e ek h =
     let m : blocks-for (2 + length (take used part) + 2) ≡ n = sym (e ∙ ap (λ (x : ℕ). blocks-for (2 + x + 2)) (sym l)) in
     (omega arith, omega (arith, length-take k (drop a image), length-drop a image))
 
--- ---- a place
--- no run is placed in front of g
-pub place-from : (ws : List ℕ) (g d n b : ℕ) → g ≤ d → d ≤ 64 * length ws → b ≡ best-fit g d (take (d - g) (drop g (marks ws))) n → g ≤ b
-place-from ws g d n b h k e = ⊎-elim (λ (l : b < d). best-fit-room ws g d n b h k e l .low) (λ (l : d ≤ b). omega arith) (less-or b d)
-
 -- ---- the next part
 -- its element takes three bytes beside its headword
 pub element-long : (number : ℕ) (p : List Entry) (head : List ℕ) → head ≡ first-headword p → length (element-bytes format4 (part-element number p)) ≡ 3 + length head
@@ -125,83 +122,54 @@ element-long number p head e = element-size (part-element number p) ∙ ap (λ (
 pub element-past : (out r number : ℕ) (p : List Entry) (head : List ℕ) → head ≡ first-headword p → r ≡ out + 3 + length head → r ≡ out + length (element-bytes format4 (part-element number p))
 element-past out r number p head e q = omega (arith, element-long number p head e)
 
-module _ (es : List Entry) (used : ℕ) (size : used ≡ length (entries-bytes [] (part-of 1_024 0 [] es))) where
-  -- a part of no bytes: no entry is left
-  pub none-left : used ≡ 0 → es ≡ []
-  none-left z = part-empty 1_024 es (sym size ∙ z)
+module _ (es : List Entry) (used : ℕ) (size : used ≡ length (entries-bytes [] (part-of 1_024 0 [] es))) (some : used ≡ 0 → ⊥) (Q : List Entry) (behind : Q ≡ past-part 1_024 0 [] es) where
+  -- the parts: this one, then those of what is behind it
+  parts-next : cut 1_024 es ≡ part-of 1_024 0 [] es ∷ cut 1_024 Q
+  parts-next = cut-next es used size some Q behind
 
-  -- any other: some are
-  pub some-left : (used ≡ 0 → ⊥) → (e : Entry) × (ds : List Entry) × (es ≡ e ∷ ds)
-  unfolding part-of entries-bytes
-  some-left z = go es size
-    where
-      go : (xs : List Entry) → used ≡ length (entries-bytes [] (part-of 1_024 0 [] xs)) → (e : Entry) × (ds : List Entry) × (xs ≡ e ∷ ds)
-      go [] p = absurd (z p)
-      go (e ∷ ds) p = (e, ds, refl)
+  module _ (g d d′ n b : ℕ) (ms ms′ : List Bool) (blocks : n ≡ blocks-for (2 + used + 2)) (place : b ≡ best-fit g d (take (d - g) (drop g ms)) n) (later : d′ ≡ max d (b + n)) (taken : ms′ ≡ with-range b n false ms) where
+    -- its place, then the others'
+    pub laid-next : laid g d ms es ≡ placed-first b (laid g d′ ms′ Q)
+    unfolding spread
+    laid-next =
+        let q : run-size (part-of 1_024 0 [] es) ≡ n = part-size (part-of 1_024 0 [] es) ∙ sym (blocks ∙ ap (λ (k : ℕ). blocks-for (2 + k + 2)) size) in
+        ap (λ (l : List (List Entry)). spread g d ms (map run-size l)) parts-next ∙ rw (q, later, taken, place)
 
-  module _ (some : used ≡ 0 → ⊥) where
-    -- it takes four bytes or more
-    pub used-some : 4 ≤ used
-    used-some =
-        let (e, ds, p) = some-left some in
-        rw (size, p) (part-some 1_024 e ds)
+    -- it is placed
+    pub planning-more : (end : ℕ) (ms₀ : List Bool) (es₀ : List Entry) → Planning g end ms₀ es₀ d ms es → Planning g end ms₀ es₀ d′ ms′ Q
+    unfolding placed-first
+    planning-more end ms₀ es₀ p = record { end-all = sym (ap (λ (s : Spread). s .end) laid-next) ∙ p .end-all; free-all = sym (ap (λ (s : Spread). s .free) laid-next) ∙ p .free-all }
 
-    module _ (Q : List Entry) (behind : Q ≡ past-part 1_024 0 [] es) where
-      -- fewer entries are left
-      pub fewer-left : length Q < length es
-      fewer-left =
-          let (e, ds, p) = some-left some in
-          rw (behind, p) (past-fewer 1_024 [] e ds)
+    -- the bytes of its element, then the others'
+    pub elements-next : elements-long g (laid g d ms es .places) es ≡ length (element-bytes format4 (part-element (b - g) (part-of 1_024 0 [] es))) + elements-long g (laid g d′ ms′ Q .places) Q
+    unfolding placed-first part-runs elements-bytes part-element element-of at-block new-run
+    elements-next =
+        ap₂ (λ (s : Spread) (l : List (List Entry)). length (elements-bytes format4 (map element-of (part-runs g (s .places) l)))) laid-next parts-next
+        ∙ length-append (element-bytes format4 (part-element (b - g) (part-of 1_024 0 [] es))) (elements-bytes format4 (map element-of (part-runs g (laid g d′ ms′ Q .places) (cut 1_024 Q))))
 
-      -- the parts: this one, then those of what is behind it
-      pub cut-next : cut 1_024 es ≡ part-of 1_024 0 [] es ∷ cut 1_024 Q
-      cut-next =
-          let (e, ds, p) = some-left some in
-          rw (behind, p) (cut-parts 1_024 e ds)
+    -- what `put_element` requires
+    pub element-fits : (start at end : ℕ) (ms₀ : List Bool) (es₀ : List Entry) (image₀ : List ℕ) (out m : ℕ) (image head : List ℕ) → head ≡ first-headword (part-of 1_024 0 [] es)
+        → Writing start g at end ms₀ es₀ image₀ out d ms es image → at + elements-long g (laid g end ms₀ es₀ .places) es₀ ≤ length image₀ → length image ≡ length image₀ → m ≡ length image → out + 3 + length head ≤ m
+    element-fits start at end ms₀ es₀ image₀ out m image head e w h l k = omega (arith, elements-next, w .size, element-long (b - g) (part-of 1_024 0 [] es) head e)
 
-      module _ (g d d′ n b : ℕ) (ms ms′ : List Bool) (blocks : n ≡ blocks-for (2 + used + 2)) (place : b ≡ best-fit g d (take (d - g) (drop g ms)) n) (later : d′ ≡ max d (b + n)) (taken : ms′ ≡ with-range b n false ms) where
-        -- its place, then the others'
-        pub laid-next : laid g d ms es ≡ placed-first b (laid g d′ ms′ Q)
-        unfolding spread
-        laid-next =
-            let q : run-size (part-of 1_024 0 [] es) ≡ n = part-size (part-of 1_024 0 [] es) ∙ sym (blocks ∙ ap (λ (k : ℕ). blocks-for (2 + k + 2)) size) in
-            ap (λ (l : List (List Entry)). spread g d ms (map run-size l)) cut-next ∙ rw (q, later, taken, place)
-
-        -- it is placed
-        pub planning-more : (end : ℕ) (ms₀ : List Bool) (es₀ : List Entry) → Planning g end ms₀ es₀ d ms es → Planning g end ms₀ es₀ d′ ms′ Q
-        unfolding placed-first
-        planning-more end ms₀ es₀ p = record { end-all = sym (ap (λ (s : Spread). s .end) laid-next) ∙ p .end-all; free-all = sym (ap (λ (s : Spread). s .free) laid-next) ∙ p .free-all }
-
-        -- the bytes of its element, then the others'
-        pub elements-next : elements-long g (laid g d ms es .places) es ≡ length (element-bytes format4 (part-element (b - g) (part-of 1_024 0 [] es))) + elements-long g (laid g d′ ms′ Q .places) Q
-        unfolding placed-first part-runs elements-bytes part-element element-of at-block new-run
-        elements-next =
-            ap₂ (λ (s : Spread) (l : List (List Entry)). length (elements-bytes format4 (map element-of (part-runs g (s .places) l)))) laid-next cut-next
-            ∙ length-append (element-bytes format4 (part-element (b - g) (part-of 1_024 0 [] es))) (elements-bytes format4 (map element-of (part-runs g (laid g d′ ms′ Q .places) (cut 1_024 Q))))
-
-        -- what `put_element` requires
-        pub element-fits : (start at end : ℕ) (ms₀ : List Bool) (es₀ : List Entry) (image₀ : List ℕ) (out m : ℕ) (image head : List ℕ) → head ≡ first-headword (part-of 1_024 0 [] es)
-            → Writing start g at end ms₀ es₀ image₀ out d ms es image → at + elements-long g (laid g end ms₀ es₀ .places) es₀ ≤ length image₀ → length image ≡ length image₀ → m ≡ length image → out + 3 + length head ≤ m
-        element-fits start at end ms₀ es₀ image₀ out m image head e w h l k = omega (arith, elements-next, w .size, element-long (b - g) (part-of 1_024 0 [] es) head e)
-
-        -- it is written
-        pub writing-more : (start at end : ℕ) (ms₀ : List Bool) (es₀ : List Entry) (image₀ : List ℕ) (out out′ : ℕ) (image image′ : List ℕ)
-            → image′ ≡ write out (element-bytes format4 (part-element (b - g) (part-of 1_024 0 [] es))) (write (start + 256 * b) (run-bytes (part-of 1_024 0 [] es)) image)
-            → out′ ≡ out + length (element-bytes format4 (part-element (b - g) (part-of 1_024 0 [] es)))
-            → Writing start g at end ms₀ es₀ image₀ out d ms es image → Writing start g at end ms₀ es₀ image₀ out′ d′ ms′ Q image′
-        unfolding placed-first parts-written
-        writing-more start at end ms₀ es₀ image₀ out out′ image image′ ei eo w =
-            record {
-              planning = planning-more end ms₀ es₀ (w .planning);
-              whole = rw (ei, eo) (sym (ap₂ (λ (s : Spread) (l : List (List Entry)). parts-written start g out (s .places) l image) laid-next cut-next) ∙ w .whole);
-              size = omega (arith, elements-next, w .size);
-            }
+    -- it is written
+    pub writing-more : (start at end : ℕ) (ms₀ : List Bool) (es₀ : List Entry) (image₀ : List ℕ) (out out′ : ℕ) (image image′ : List ℕ)
+        → image′ ≡ write out (element-bytes format4 (part-element (b - g) (part-of 1_024 0 [] es))) (write (start + 256 * b) (run-bytes (part-of 1_024 0 [] es)) image)
+        → out′ ≡ out + length (element-bytes format4 (part-element (b - g) (part-of 1_024 0 [] es)))
+        → Writing start g at end ms₀ es₀ image₀ out d ms es image → Writing start g at end ms₀ es₀ image₀ out′ d′ ms′ Q image′
+    unfolding placed-first parts-written
+    writing-more start at end ms₀ es₀ image₀ out out′ image image′ ei eo w =
+        record {
+          planning = planning-more end ms₀ es₀ (w .planning);
+          whole = rw (ei, eo) (sym (ap₂ (λ (s : Spread) (l : List (List Entry)). parts-written start g out (s .places) l image) laid-next parts-next) ∙ w .whole);
+          size = omega (arith, elements-next, w .size);
+        }
 
 -- ---- the bytes of the next part
-module _ (es : List Entry) (used : ℕ) (part part′ : List ℕ) (size : used ≡ length (entries-bytes [] (part-of 1_024 0 [] es))) (there : part′ ≡ write 0 (entries-bytes [] (part-of 1_024 0 [] es)) part) (room : used ≤ length part) where
+module _ (es : List Entry) (used : ℕ) (part part′ : List ℕ) (size : used ≡ length (entries-bytes [] (part-of 1_024 0 [] es))) (there : part′ ≡ write 0 (entries-bytes [] (part-of 1_024 0 [] es)) part) where
   -- they stand at the front of the slice
   pub entries-stand : take used part′ ≡ entries-bytes [] (part-of 1_024 0 [] es)
-  entries-stand = part-stands (entries-bytes [] (part-of 1_024 0 [] es)) part part′ used there size room
+  entries-stand = front-stored (entries-bytes [] (part-of 1_024 0 [] es)) part part′ used there size
 
   -- and are framed as its run
   pub run-stands : framed-run (take used part′) ≡ run-bytes (part-of 1_024 0 [] es)

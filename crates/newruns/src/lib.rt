@@ -2,7 +2,7 @@
 ghost use mathlib.Core.Path.{_≡_};
 ghost use mathlib.Core.Bool.{true};
 ghost use mathlib.Core.List.{map};
-ghost use Prim.Native.Nat.{_+_, _*_, _≤_, max};
+ghost use Prim.Native.Nat.{_+_, _*_, _≤_};
 ghost use lib.ListN.{length};
 ghost use Rattle.spec.specs.Header.{format4};
 ghost use Rattle.spec.specs.Entry.{headword-ok};
@@ -13,16 +13,6 @@ ghost use Rattle.marks.specs.Marks.{marks};
 ghost use Rattle.placing.specs.Spread.{spread, Within};
 ghost use Rattle.parts.specs.Merge.{changed-entries};
 ghost use Rattle.plan.specs.Written.{part-runs, parts-written};
-
-// The larger of two numbers.
-fn larger(a: usize, b: usize) -> usize
-    ensures { λ r. ⌜ r ≡ max a b ⌝ }
-{
-    if a < b {
-        return b;
-    }
-    a
-}
 
 // Places all parts of the changed run, and answers the end of the blocks then. Stops where that passes the limit.
 pub fn plan_parts(
@@ -50,7 +40,7 @@ pub fn plan_parts(
             return d;
         }
         let n = encoder::run_blocks(p.used);
-        d = larger(d, placing::place(free, g, d, n) + n);
+        d = placing::larger(d, placing::place(free, g, d, n) + n);
         if limit < d {
             return d;
         }
@@ -93,7 +83,7 @@ pub fn write_parts(
         }
         let n = encoder::run_blocks(p.used);
         let b = placing::place(free, g, d, n);
-        d = larger(d, b + n);
+        d = placing::larger(d, b + n);
         encoder::write_run(&mut image[start + 256 * b..], &part[..p.used]);
         let e = parts::head_end(&part, p.used);
         out = elements::put_element(image, out, b - g, &part[3..e]);

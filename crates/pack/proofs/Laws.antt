@@ -1,11 +1,10 @@
--- Laws of packing: writes that do not touch one another, and what a turn of the loop shows.
+-- Laws of packing: packed runs and their elements as they are written, and what a turn of the loop shows.
 use Prim.Native.Nat.{ℕ, zero, suc, _+_, _-_, _*_, _/_, _<_, _≤_}
 use mathlib.Core.Path.{_≡_, refl, sym, ap, ap₂, _∙_}
 use mathlib.Core.Logic.{_⊎_, ⊎-elim}
-use mathlib.Core.List.{List, [], _∷_, _++_, map, append-assoc}
+use mathlib.Core.List.{List, [], _∷_, _++_, map}
 use native.Mathlib.Omega.{arith}
-use lib.ListN.{length, take, drop, length-append, take-append-drop}
-use lib.Seq.{length-take-le, take-append-le, drop-append-le, take-append-add, drop-append-add}
+use lib.ListN.{length, take, drop, length-append}
 use borrow.Author.Needs.{needs}
 use Rattle.spec.specs.Outcome.{ok}
 use Rattle.spec.specs.Bytes as BytesSpec
@@ -21,61 +20,18 @@ use Rattle.spec.specs.Place.{element-of, packed, runs-written}
 use Rattle.spec.proofs.ListsLaws.{All, all-map, less-or}
 use Rattle.spec.proofs.OutcomeLaws.{same-value, not-both}
 use Rattle.spec.proofs.PartLaws.{length-bytes-at}
-use Rattle.spec.proofs.WriteLaws.{bytes-at-before, length-write}
-use Rattle.spec.proofs.ReadLaws.{RunTold, run-told, no-runs, runs-first}
+use Rattle.spec.proofs.WriteLaws.{length-write, write-swap, write-behind, write-ahead, write-none}
+use Rattle.spec.proofs.ReadLaws.{RunTold, run-told, no-runs, runs-first, runs-elements}
 use Rattle.spec.proofs.HoldsLaws.{Holds, runs-hold}
 use Rattle.index.specs.Elements as Elements
 use Rattle.index.specs.Elements.{element-end, element-headword, element-at, elements-at, Inside}
-use Rattle.index.proofs.Laws.{inside-start, elements-next}
-use Rattle.elements.proofs.Laws.{write-behind, write-none, element-size, elements-size, here-end, here-next}
+use Rattle.index.proofs.Laws.{inside-start, here-end, here-next, elements-next}
+use Rattle.elements.proofs.Laws.{element-size, elements-size}
 use Rattle.tally.specs.Tally.{Sized}
 use Rattle.pack.specs.Packing as Packing
 use Rattle.pack.specs.Packing.{blocks-needed, runs-bytes, packed-elements, runs-packed, RunsFit}
 
--- ---- writes that do not touch one another
--- what stands in front of a write, up to a place before it
-pub take-before : (i k : ℕ) (x d : List ℕ) → i + length x ≤ length d → k ≤ i → take k (write i x d) ≡ take k d
-unfolding BytesSpec.bytes-at
-take-before i k x d h p = bytes-at-before i x d h 0 k (omega arith)
-
--- bytes written inside the first of two lists
-pub write-front : (i : ℕ) (y p t : List ℕ) → i + length y ≤ length p → write i y (p ++ t) ≡ write i y p ++ t
-unfolding BytesSpec.write
-write-front i y p t h =
-    let a : i ≤ length p = omega arith in
-    rw (take-append-le i p t, drop-append-le (i + length y) p t) (sym (append-assoc (take i p ++ y) (drop (i + length y) p) t))
-
--- bytes written inside the second
-pub write-back : (k : ℕ) (y p t : List ℕ) → write (length p + k) y (p ++ t) ≡ p ++ write k y t
-unfolding BytesSpec.write
-write-back k y p t =
-    let e : length p + k + length y ≡ length p + (k + length y) = omega arith in
-    rw (e, take-append-add p t k, drop-append-add p t (k + length y), append-assoc p (take k t) y, append-assoc p (take k t ++ y) (drop (k + length y) t))
-
--- two writes in either order
-pub write-swap : (i j : ℕ) (x y d : List ℕ) → i + length x ≤ j → j + length y ≤ length d → write i x (write j y d) ≡ write j y (write i x d)
-write-swap i j x y d h k =
-    let p : List ℕ = take (i + length x) d in
-    let t : List ℕ = drop (i + length x) d in
-    let m : ℕ = j - (i + length x) in
-    let s : p ++ t ≡ d = take-append-drop (i + length x) d in
-    let l : length p ≡ i + length x = length-take-le (i + length x) d (omega arith) in
-    let q : length (write i x p) ≡ length p = length-write i x p (omega arith) in
-    let e : j ≡ length p + m = omega arith in
-    let f : length p + m ≡ length (write i x p) + m = omega arith in
-    ap (λ (z : List ℕ). write i x (write j y z)) (sym s)
-    ∙ ap (λ (n : ℕ). write i x (write n y (p ++ t))) e
-    ∙ ap (write i x) (write-back m y p t)
-    ∙ write-front i x p (write m y t) (omega arith)
-    ∙ sym (write-back m y (write i x p) t)
-    ∙ ap (λ (n : ℕ). write n y (write i x p ++ t)) (sym f ∙ sym e)
-    ∙ ap (write j y) (sym (write-front i x p t (omega arith)))
-    ∙ ap (λ (z : List ℕ). write j y (write i x z)) s
-
--- bytes written in front of others are written with them
-pub write-ahead : (d x y : List ℕ) (i j : ℕ) → j ≡ i + length x → j + length y ≤ length d → write i x (write j y d) ≡ write i (x ++ y) d
-write-ahead d x y i j e h = write-swap i j x y d (omega arith) h ∙ rw e (write-behind d x y i (omega arith))
-
+-- ---- writes
 -- bytes at two places, in each written in two parts
 pub write-two : (d x y g h : List ℕ) (i p i₁ p₁ : ℕ) → i₁ ≡ i + length g → p₁ ≡ p + length x → i₁ + length h ≤ p → p₁ + length y ≤ length d
     → write i₁ h (write p₁ y (write i g (write p x d))) ≡ write i (g ++ h) (write p (x ++ y) d)
@@ -83,7 +39,7 @@ write-two d x y g h i p i₁ p₁ e f front back =
     let l : length (write p x d) ≡ length d = length-write p x d (omega arith) in
     let s : write p₁ y (write p x d) ≡ write p (x ++ y) d = rw f (write-behind d x y p (omega arith)) in
     let m : length (write p (x ++ y) d) ≡ length d = length-write p (x ++ y) d (omega (arith, length-append x y)) in
-    ap (write i₁ h) (sym (write-swap i p₁ g y (write p x d) (omega arith) (omega arith)) ∙ ap (write i g) s) ∙ rw e (write-behind (write p (x ++ y) d) g h i (omega arith))
+    ap (write i₁ h) (sym (write-swap (write p x d) g y i p₁ (omega arith) (omega arith)) ∙ ap (write i g) s) ∙ rw e (write-behind (write p (x ++ y) d) g h i (omega arith))
 
 -- ---- packed runs
 -- their elements, one and those behind it
@@ -153,16 +109,6 @@ need-some (suc n) bytes h =
 pub ruleset need-laws = (need-none, need-some, needs)
 
 -- ---- write_runs
--- runs that are read have their elements
-pub runs-elements : (d : ℕ) (area : List ℕ) (es : List Element) (rs : List Run) → runs-from format4 d area es ≡ ok rs → map element-of rs ≡ es
-unfolding PlaceSpec.element-of
-runs-elements d area [] rs h = ap (map element-of) (no-runs format4 d area rs h)
-runs-elements d area (e ∷ es) rs h =
-    let (r, qs, p, u, k) = runs-first format4 d area e es rs h in
-    let t : RunTold format4 d area e (next-headword es) r = run-told format4 d area e (next-headword es) r u in
-    let x : element-of r ≡ e = rw (t .block, t .headword) in
-    ap (map element-of) p ∙ ap₂ (λ (a : Element) (l : List Element). a ∷ l) x (runs-elements d area es qs k)
-
 -- the runs from `at` on are still to be written: their elements from `out` on, they from block b on
 pub record Underway (index area : List ℕ) (n d base : ℕ) (image₀ image : List ℕ) (at out b left : ℕ) : Type 0 where
   pub runs : List Run
@@ -180,7 +126,7 @@ underway-start index area image n d base v =
     record {
       runs = v .runs;
       read = v .read;
-      index-room = ap (λ (k : ℕ). 256 + k) (packed-same 0 (v .runs) ∙ ap (λ (es : List Element). length (elements-bytes format4 es)) (runs-elements d area (elements-at index 0 n) (v .runs) (v .read)));
+      index-room = ap (λ (k : ℕ). 256 + k) (packed-same 0 (v .runs) ∙ ap (λ (es : List Element). length (elements-bytes format4 es)) (runs-elements format4 d area (elements-at index 0 n) (v .runs) (v .read)));
       area-room = omega (arith, v .area-room);
       whole = λ rs h. rw (e, same-value (v .runs) rs (sym (v .read) ∙ h));
     }

@@ -7,7 +7,6 @@ use native.Mathlib.Omega.{arith}
 use lib.ListN.{length, take, drop, length-drop, length-map}
 use lib.Seq.{length-take-le, drop-drop}
 use lib.Dec.{ltb, eqb}
-use borrow.Author.Needs.{needs}
 use borrow.Author.Tests.{ltb-false, eqb-true, not-false}
 use Rattle.spec.specs.Outcome.{Outcome, ok, _>>=_, _>>_, refuse_when_}
 use Rattle.spec.specs.Bytes as BytesSpec
@@ -28,25 +27,25 @@ use Rattle.spec.specs.Calls as CallsSpec
 use Rattle.spec.specs.Calls.{plan-length, given-up-zeroed}
 use Rattle.spec.proofs.ListsLaws.{and-right}
 use Rattle.spec.proofs.OutcomeLaws.{same-value, when-ok, bind-ok}
-use Rattle.spec.proofs.WriteLaws.{take-write, drop-write, length-write}
+use Rattle.spec.proofs.WriteLaws.{take-write, drop-write, length-write, write-behind}
 use Rattle.spec.proofs.IndexLaws.{index-bytes-length}
-use Rattle.spec.proofs.ReadLaws.{ImageTold, image-told, runs-inside, free-list-below}
+use Rattle.spec.proofs.ReadLaws.{ImageTold, image-told, runs-elements, runs-inside, free-list-below}
 use Rattle.spec.proofs.CountLaws.{blocks-once}
 use Rattle.spec.proofs.PlaceLaws.{packed-entries}
 use Rattle.spec.proofs.MoveFormLaws.{packed-as-worded}
 use Rattle.index.specs.Elements as Elements
 use Rattle.index.specs.Elements.{element-end, element-headword, element-at, elements-at, Inside}
-use Rattle.index.proofs.Laws.{element-then, element-read, elements-found-from, width4}
+use Rattle.index.proofs.Laws.{element-then, element-read, elements-found-from, elements-count, width4}
 use Rattle.elements.specs.Renewed as Renewed
 use Rattle.elements.specs.Renewed.{elements-end}
-use Rattle.elements.proofs.Laws.{write-behind, elements-length}
+use Rattle.elements.proofs.Laws.{elements-length}
 use Rattle.header.proofs.Laws.{header-front, index-slice, frame-index-few}
 use Rattle.inspect.specs.Overview.{AcceptedImage}
 use Rattle.inspect.proofs.Laws.{index-part, data-part, data-long, index-few}
 use Rattle.inspect.proofs.Accepted.{accepted-frame, accepted-inside, accepted-runs}
 use Rattle.pack.specs.Packing as Packing
 use Rattle.pack.specs.Packing.{blocks-needed, runs-bytes, packed-elements, runs-packed, RunsFit}
-use Rattle.pack.proofs.Laws.{Whole, take-before, packed-same, runs-bytes-length, packed-written, runs-elements, runs-whole}
+use Rattle.pack.proofs.Laws.{Whole, packed-same, runs-bytes-length, packed-written, runs-whole}
 
 -- ---- the index of an accepted image
 -- behind elements that are read there are at least four bytes
@@ -127,30 +126,18 @@ module _ (s : List ℕ) (n d : ℕ) (a : AcceptedImage s n d) (whole : 256 + 256
   index-short k h = omega (arith, index-few s n d whole (frame-index-few s n d (told .frame ∙ ap ok (accepted-frame s n d a))))
 
   module _ (e : ℕ) (number : e ≡ get (layout4 .nindex2) s) where
-    -- its elements stand inside the index
-    pub index-inside : Inside (index-part s n) 0 e
-    index-inside = accepted-inside s n d a e number
-
-    -- its runs are read
-    runs-read : runs-from format4 d (data-part s n) (elements-at (index-part s n) 0 e) ≡ ok (a .image .runs)
-    runs-read = accepted-runs s n d a e number
-
-    -- the data area has its blocks
-    pub area-long : 256 * d ≡ length (data-part s n)
-    area-long = data-long s n d whole
-
     -- the elements are those of the runs
     elements-are : map element-of (a .image .runs) ≡ elements-at (index-part s n) 0 e
-    elements-are = runs-elements d (data-part s n) (elements-at (index-part s n) 0 e) (a .image .runs) runs-read
+    elements-are = runs-elements format4 d (data-part s n) (elements-at (index-part s n) 0 e) (a .image .runs) (accepted-runs s n d a e number)
 
     -- which have the bytes of their blocks
     runs-sized : Whole (a .image .runs)
-    runs-sized = runs-whole d (data-part s n) (elements-at (index-part s n) 0 e) (a .image .runs) area-long runs-read
+    runs-sized = runs-whole d (data-part s n) (elements-at (index-part s n) 0 e) (a .image .runs) (data-long s n d whole) (accepted-runs s n d a e number)
 
     module _ (end m : ℕ) (ends : end ≡ elements-end (index-part s n) 0 e) (needed : m ≡ blocks-needed e end) where
       -- the blocks found needed are the specification's
       need-is : m ≡ index-need format4 (elements-at (index-part s n) 0 e)
-      need-is = needed-is (index-part s n) e m index-inside (rw ends at needed)
+      need-is = needed-is (index-part s n) e m (accepted-inside s n d a e number) (rw ends at needed)
 
       -- the new index is no longer than the old one
       pub index-fewer : m ≤ n
@@ -171,7 +158,7 @@ module _ (s : List ℕ) (n d : ℕ) (a : AcceptedImage s n d) (whole : 256 + 256
     -- runs fit where there is room for their elements in front of them and for their blocks
     pub runs-fit : (base long : ℕ) → 256 + length (elements-bytes format4 (elements-at (index-part s n) 0 e)) ≤ base → base + 256 * run-blocks (a .image .runs) ≤ long
         → RunsFit (index-part s n) (data-part s n) e d base long
-    runs-fit base long p q = record { runs = a .image .runs; read = runs-read; index-room = p; area-room = q }
+    runs-fit base long p q = record { runs = a .image .runs; read = accepted-runs s n d a e number; index-room = p; area-room = q }
 
 -- ---- the slice
 -- packed runs are as many
@@ -237,7 +224,7 @@ module _ (rs : List Run) (m : ℕ) (need : m ≡ index-need format4 (map element
 
   -- the header is as it was
   front-kept : take 256 (write 256 index (write base (runs-bytes rs) s)) ≡ take 256 s
-  front-kept = take-write 256 index (write base (runs-bytes rs) s) (omega (arith, area-written, index-long)) ∙ take-before base 256 (runs-bytes rs) s (omega (arith, bytes-long)) (omega arith)
+  front-kept = take-write 256 index (write base (runs-bytes rs) s) (omega (arith, area-written, index-long)) 256 (omega arith) ∙ take-write base (runs-bytes rs) s (omega (arith, bytes-long)) 256 (omega arith)
 
   -- behind it stand the index, the runs, and what stood there
   back-is : drop 256 (write 256 index (write base (runs-bytes rs) s)) ≡ index ++ (runs-bytes rs ++ rest)
@@ -278,12 +265,6 @@ module _ (rs : List Run) (m : ℕ) (need : m ≡ index-need format4 (map element
   length-is : plan-length (plan-packed format4 rs) ≡ base + 256 * run-blocks rs
   unfolding CallsSpec.plan-length CheckSpec.frame-length CheckSpec.data-start PlaceSpec.plan-packed HeaderSpec.format4
   length-is = rw need
-
--- there are as many elements as are asked for
-elements-count : (index : List ℕ) (at n : ℕ) → length (elements-at index at n) ≡ n
-unfolding Elements.elements-at
-elements-count index at zero = refl
-elements-count index at (suc n) = ap suc (elements-count index (element-end index at + 1) n)
 
 -- ---- pack
 module _ (s : List ℕ) (n d : ℕ) (a : AcceptedImage s n d) (whole : 256 + 256 * n + 256 * d ≡ length s) (e : ℕ) (number : e ≡ get (layout4 .nindex2) s) (blocks : ℕ) (counted : blocks ≡ get (layout4 .nblock2) s)
@@ -334,7 +315,7 @@ module _ (s : List ℕ) (n d : ℕ) (a : AcceptedImage s n d) (whole : 256 + 256
       let sized : Whole runs = runs-sized s n d a whole e number in
       let fits : 256 + 256 * m + 256 * run-blocks runs ≤ length image = omega (arith, packed-shorter, blocks-of) in
       let o : out ≡ 256 + length (packed-elements 0 runs) = e₂ ∙ ap (λ (es : List Element). 256 + length (elements-bytes format4 es)) (sym (elements-are s n d a whole e number)) ∙ ap (λ (k : ℕ). 256 + k) (sym (packed-same 0 runs)) in
-      let x₁ : image₁ ≡ runs-packed (256 + 256 * m) runs image = e₁ runs (runs-read s n d a whole e number) in
+      let x₁ : image₁ ≡ runs-packed (256 + 256 * m) runs image = e₁ runs (accepted-runs s n d a e number) in
       let x₂ : image₂ ≡ write 256 (index-bytes format4 m (map element-of (packed 0 runs))) (write (256 + 256 * m) (runs-bytes runs) image) = e₃ ∙ ap (write out (zeros (256 + 256 * m - out))) x₁ ∙ index-written runs m need-of sized image fits out o in
       let c : Counts = record { index-blocks = m; entries = words; first-free = 4294967295; elements = e; run-blocks = blocks } in
       let k : c ≡ plan-counts (plan-packed format4 runs) = packed-counts runs m words e blocks need-of (e₄ (a .image) (a .is)) elements-of blocks-of in

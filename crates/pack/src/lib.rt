@@ -2,7 +2,7 @@
 ghost use mathlib.Core.Path.{_≡_};
 ghost use mathlib.Core.List.{List};
 ghost use Prim.Native.Nat.{_+_, _*_, _≤_};
-ghost use lib.ListN.{length, take};
+ghost use lib.ListN.{length};
 ghost use Rattle.spec.specs.Outcome.{ok};
 ghost use Rattle.spec.specs.Check.{Image, runs-from, image-from, entries-of};
 ghost use Rattle.spec.specs.Place.{plan-packed, plan-written};
@@ -13,11 +13,9 @@ ghost use Rattle.spec.specs.Run.{Run};
 ghost use Rattle.index.specs.Elements.{elements-at, Inside};
 ghost use Rattle.inspect.specs.Overview.{AcceptedImage};
 ghost use Rattle.pack.specs.Packing.{blocks-needed, runs-packed, RunsFit};
+use byteops::LIST_END;
 use byteops::read_u16;
 use index::element_end;
-
-// The number that stands for no free block.
-const END: usize = 0xFFFFFFFF;
 
 // How many blocks an index of so many elements needs, which take so many bytes.
 fn need(elements: usize, bytes: usize) -> usize
@@ -57,10 +55,10 @@ fn write_runs(image: &mut [u8], base: usize, index: &[u8], n: usize, area: &[u8]
     out
 }
 
-// Packs an accepted image of n index blocks and d data blocks, of which `old` is a copy; answers the new length.
+// Packs the accepted image `old`, of n index blocks, d data blocks and `words` entries, into `image`; answers the new length.
 pub fn pack(image: &mut [u8], old: &[u8], n: usize, d: usize, words: usize) -> usize
     requires { ⌜ AcceptedImage (now old) n d ⌝ }
-    requires { ⌜ (take (length (now old)) (now image) ≡ now old) × (256 + 256 * n + 256 * d ≡ length (now old)) × (length (now old) ≤ length (now image)) ⌝ }
+    requires { ⌜ (256 + 256 * n + 256 * d ≡ length (now old)) × (length (now old) ≤ length (now image)) ⌝ }
     requires { ⌜ ((i : Image) → image-from (now old) ≡ ok i → words ≡ length (entries-of i)) ⌝ }
     ensures { λ r. ⌜ ((i : Image) → image-from (now (old .entry)) ≡ ok i → now (image .exit) ≡ given-up-zeroed (length (now (old .entry))) (plan-packed (i .frame .format) (i .runs)) (plan-written (plan-packed (i .frame .format) (i .runs)) (now (image .entry)))) ⌝ }
     ensures { λ r. ⌜ ((i : Image) → image-from (now (old .entry)) ≡ ok i → r ≡ plan-length (plan-packed (i .frame .format) (i .runs))) ⌝ }
@@ -74,7 +72,7 @@ pub fn pack(image: &mut [u8], old: &[u8], n: usize, d: usize, words: usize) -> u
     let data = 256 + 256 * m;
     let out = write_runs(image, data, index, elements, &old[start..], d);
     byteops::fill_zero(image, out, data - out);
-    header::write_counts(image, m, words, END, elements, blocks);
+    header::write_counts(image, m, words, LIST_END, elements, blocks);
     let len = data + 256 * blocks;
     byteops::fill_zero(image, len, old.len() - len);
     len

@@ -2,11 +2,11 @@
 use Prim.Native.Nat.{ℕ, zero, suc, _+_, _-_, _<_, _≤_}
 use mathlib.Core.Path.{_≡_, refl, sym, ap, _∙_}
 use mathlib.Core.Logic.{_⊎_, inl, inr}
-use mathlib.Core.Bool.{Bool, true, false, _||_}
+use mathlib.Core.Bool.{Bool, true, false}
 use mathlib.Core.List.{List, [], _∷_, _++_, append-assoc}
 use native.Mathlib.Omega.{arith}
 use lib.ListN.{length, take, drop, length-append, length-take, length-drop}
-use lib.Seq.{take-at, take-all, length-take-le}
+use lib.Seq.{take-at, take-all, take-length, length-take-le}
 use lib.Dec.{eqb}
 use borrow.Author.Tests.{eq-eqb, ne-eqb, eqb-false, le-leb, lt-leb}
 use Rattle.spec.specs.Lists.{all}
@@ -15,9 +15,9 @@ use Rattle.spec.specs.Order.{below-of, common-prefix}
 use Rattle.spec.specs.Header.{format4}
 use Rattle.spec.specs.Entry.{Entry, headword-ok, headword-suffix, shared-front, field-bytes, entry-bytes}
 use Rattle.spec.specs.Run.{read-entry, entries-bytes}
-use Rattle.spec.proofs.ListsLaws.{All, all-map, one}
-use Rattle.spec.proofs.RunLaws.{body-short}
-use Rattle.spec.proofs.WriteLaws.{bytes-at-take, bytes-at-write}
+use Rattle.spec.proofs.ListsLaws.{All, all-map, one, or-right}
+use Rattle.spec.proofs.RunLaws.{body-short, headword-by}
+use Rattle.spec.proofs.WriteLaws.{bytes-at-take}
 use Rattle.scans.specs.declared.Comparison.{Comparison}
 use Rattle.scans.specs.declared.Comparison.the-variants.{Below, Same, Above}
 use Rattle.scans.specs.Compare.{comparison}
@@ -31,8 +31,8 @@ use Rattle.parts.specs.declared.Turn.{Turn}
 use Rattle.parts.specs.Merge.{entries-left, merge, ahead, todo, changed-entries, turn-of, CursorOk}
 use Rattle.parts.specs.Part.{has-room, Appended}
 use Rattle.parts.proofs.MergeLaws.{left-refused, left-none, left-some, left-ok, left-few, merge-few, merge-all, ahead-none, ahead-some, taken, todo-done, todo-skip, todo-old, todo-new, turn-skips, turn-keeps, turn-enters, skip-some, old-some, new-fresh}
-use Rattle.parts.proofs.MeasureLaws.{parts-of, bytes-of, blocks-of, parts-few, bytes-few, blocks-few, Counting, counting-start}
-use Rattle.parts.proofs.PartLaws.{Short, Filling, Filled, filling-end, filling-full, filling-more}
+use Rattle.parts.proofs.MeasureLaws.{parts-in, bytes-in, blocks-in, parts-few, bytes-few, blocks-few, Counting, counting-start}
+use Rattle.parts.proofs.PartLaws.{Short, copied-front, Filling, Filled, filling-end, filling-full, filling-more}
 
 -- the first bytes of a list are so many
 pub first-bytes : (s : List ℕ) (n : ℕ) → n ≤ length s → n ≡ length (take n s)
@@ -120,11 +120,7 @@ module _ (used n : ℕ) (prev h b part part′ last′ : List ℕ) (size : n ≡
   room-by : (used ≡ 0) ⊎ (used + n ≤ 1020) → has-room 1_024 used prev (record { headword = h; body = b }) ≡ true
   unfolding has-room
   room-by (inl z) = rw (eq-eqb used 0 z)
-  room-by (inr k) = rw (le-leb (4 + (used + length (entry-bytes prev (record { headword = h; body = b })))) 1_024 (omega arith)) (or-true (eqb used 0))
-    where
-      or-true : (t : Bool) → t || true ≡ true
-      or-true true = refl
-      or-true false = refl
+  room-by (inr k) = rw (le-leb (4 + (used + length (entry-bytes prev (record { headword = h; body = b })))) 1_024 (omega arith)) (or-right (eqb used 0) true refl)
 
   -- the entry behind those that stand there
   pub append-done : (used ≡ 0) ⊎ (used + n ≤ 1020) → 4 ≤ n → part′ ≡ write used (entry-bytes prev (record { headword = h; body = b })) part → take (length h) last′ ≡ h
@@ -132,12 +128,8 @@ module _ (used n : ℕ) (prev h b part part′ last′ : List ℕ) (size : n ≡
   append-done c p w k = (λ z. absurd (omega arith), λ z. (room-by c, ap (λ (x : ℕ). used + x) size, w, k))
 
 -- a headword that was copied to the front of a buffer is there
-pub last-renewed : (h last last′ : List ℕ) → last′ ≡ write 0 (bytes-at 0 (length h) h) last → length h ≤ 248 → 248 ≤ length last → take (length h) last′ ≡ h
-unfolding bytes-at
-last-renewed h last last′ l k m =
-    let t : take (length h) h ≡ h = take-all (length h) h (omega arith) in
-    let v : last′ ≡ write 0 h last = l ∙ ap (λ (x : List ℕ). write 0 x last) t in
-    rw v (bytes-at-write 0 h last (omega arith))
+pub last-renewed : (h last last′ : List ℕ) → last′ ≡ write 0 (bytes-at 0 (length h) h) last → take (length h) last′ ≡ h
+last-renewed h last last′ l = copied-front h last last′ (length h) l (omega arith) ∙ take-length h
 
 -- ---- encode_part
 -- how much is to do: the old entries, and the new one
@@ -222,15 +214,12 @@ pub old-length : (word h : List ℕ) (fresh : Bool) (n : ℕ) (t : Turn) → t �
 old-length word h fresh n t told q = omega (arith, eqb-false n 0 (old-some [] word h [] (record { length = n; zero = 0; next = 0; fresh = fresh }) (sym told ∙ q)))
 
 -- ---- the entries to do keep the bounds of their lengths
-headword-by : (h : List ℕ) → 1 ≤ length h → length h ≤ 248 → no-zero h ≡ true → headword-ok h ≡ true
-unfolding headword-ok
-headword-by h p q r = rw (le-leb 1 (length h) p, le-leb (length h) 248 q, r)
-
-few : (i n : ℕ) (s : List ℕ) → n ≤ 3_001 → length (bytes-at i n s) ≤ 3_001
-unfolding bytes-at
-few i n s h = omega (arith, length-take n (drop i s))
+-- the body of an old entry is not too long
+pub body-few : (run : List ℕ) (z e : ℕ) → e ≤ z + 3002 → length (take (e - (z + 1)) (drop (z + 1) run)) ≤ 3001
+body-few run z e h = omega (arith, length-take (e - (z + 1)) (drop (z + 1) run))
 
 ahead-short : (run word : List ℕ) (c : Cursor) → CursorOk run word c → All Short (ahead run word c)
+unfolding bytes-at
 ahead-short run word c k = go (eqb (c .length) 0) refl
   where
     go : (t : Bool) → eqb (c .length) 0 ≡ t → All Short (ahead run word c)
@@ -239,7 +228,7 @@ ahead-short run word c k = go (eqb (c .length) 0) refl
         let n : length (take (c .length) word) ≡ c .length = length-take-le (c .length) word (omega (arith, k .short, k .room)) in
         let p : 1 ≤ c .length = omega (arith, eqb-false (c .length) 0 q) in
         rw (ahead-some run word c q) (
-          (headword-by (take (c .length) word) (omega arith) (omega (arith, k .short)) (k .clean), few (c .zero + 1) (c .next - (c .zero + 1)) run (omega (arith, k .body-short))),
+          (headword-by (take (c .length) word) (omega arith) (omega (arith, k .short)) (k .clean), body-few run (c .zero) (c .next) (k .body-short)),
           all-map _ _ (λ d w. (w .0, body-short (d .body) (w .1))) (entries-left format4 (take (c .length) word) (drop (c .next) run)) (left-ok format4 (take (c .length) word) (drop (c .next) run)),
         )
 
@@ -293,10 +282,6 @@ module _ (part : List ℕ) (used : ℕ) (e : Entry) (es : List Entry) (stands : 
 pub word-few : (word : List ℕ) (n : ℕ) → 248 ≤ length word → 1 ≤ n → n ≤ 248 → (1 ≤ length (take n word)) × (length (take n word) ≤ 248)
 word-few word n h p q = (omega (arith, length-take-le n word (omega arith)), omega (arith, length-take-le n word (omega arith)))
 
--- its body is not too long
-pub body-few : (run : List ℕ) (z e : ℕ) → e ≤ z + 3002 → length (take (e - (z + 1)) (drop (z + 1) run)) ≤ 3001
-body-few run z e h = omega (arith, length-take (e - (z + 1)) (drop (z + 1) run))
-
 -- a cursor whose new entry was taken
 pub cursor-taken : (run word : List ℕ) (c : Cursor) → CursorOk run word c → CursorOk run word (taken c)
 cursor-taken run word c k = record { room = k .room; short = k .short; clean = k .clean; inside = k .inside; body = k .body; body-short = k .body-short }
@@ -319,7 +304,7 @@ module _ (run word h body : List ℕ) (fresh : Bool) (c : Cursor) (begun : ahead
 
   -- the numbers of all parts are small
   pub measure-bounds : CursorOk run word c → headword-ok h ≡ true → length body ≤ 3_001 → length run ≤ 8388608
-      → (parts-of (changed-entries run h body fresh) ≤ 8388609) × (bytes-of (changed-entries run h body fresh) ≤ 2105540859) × (blocks-of (changed-entries run h body fresh) ≤ 109051917)
+      → (parts-in (changed-entries run h body fresh) ≤ 8388609) × (bytes-in (changed-entries run h body fresh) ≤ 2105540859) × (blocks-in (changed-entries run h body fresh) ≤ 109051917)
   measure-bounds k p q r =
       let es : List Entry = changed-entries run h body fresh in
       let s : All Short es = rw begun-todo at (todo-short run word h body c k p q) in

@@ -1,6 +1,6 @@
 -- The numbers of the parts of a cut: how many, the bytes of their elements, and their blocks.
 use Prim.Native.Nat.{ℕ, zero, suc, _+_, _*_, _<_, _≤_}
-use mathlib.Core.Path.{_≡_, refl, sym, ap, _∙_}
+use mathlib.Core.Path.{_≡_, refl, ap, _∙_}
 use mathlib.Core.Bool.{true}
 use mathlib.Core.List.{List, [], _∷_, map}
 use native.Mathlib.Omega.{arith}
@@ -17,51 +17,51 @@ use Rattle.spec.proofs.BytesLaws.{length-to-little-endian}
 use Rattle.spec.proofs.IndexLaws.{headword-no-zero}
 use Rattle.spec.proofs.RunLaws.{head-bounds}
 use Rattle.parts.specs.Part.{part-of, past-part, Measured}
-use Rattle.parts.proofs.PartLaws.{Short, part-stands, part-first, part-some, part-empty, part-size, part-short, past-all, past-fewer, cut-parts}
+use Rattle.parts.proofs.PartLaws.{Short, front-stored, part-first, part-size, part-short, past-all, past-fewer, cut-parts, none-left, some-left}
 
 -- the parts of entries
-unfoldable pub parts-of : List Entry → ℕ
-parts-of es = length (map new-run (cut 1_024 es))
+unfoldable pub parts-in : List Entry → ℕ
+parts-in es = length (map new-run (cut 1_024 es))
 
 -- the bytes of their elements
-unfoldable pub bytes-of : List Entry → ℕ
-bytes-of es = length (elements-bytes format4 (map element-of (map new-run (cut 1_024 es))))
+unfoldable pub bytes-in : List Entry → ℕ
+bytes-in es = length (elements-bytes format4 (map element-of (map new-run (cut 1_024 es))))
 
 -- their blocks
-unfoldable pub blocks-of : List Entry → ℕ
-blocks-of es = run-blocks (map new-run (cut 1_024 es))
+unfoldable pub blocks-in : List Entry → ℕ
+blocks-in es = run-blocks (map new-run (cut 1_024 es))
 
 -- without entries there are none
-pub none-of : (parts-of [] ≡ 0) × (bytes-of [] ≡ 0) × (blocks-of [] ≡ 0)
-unfolding parts-of bytes-of blocks-of cut elements-bytes run-blocks
-none-of = (refl, refl, refl)
+pub none-in : (parts-in [] ≡ 0) × (bytes-in [] ≡ 0) × (blocks-in [] ≡ 0)
+unfolding parts-in bytes-in blocks-in cut elements-bytes run-blocks
+none-in = (refl, refl, refl)
 
 -- the first part, and the others
 module _ (e : Entry) (es : List Entry) where
-  parts-cons : parts-of (e ∷ es) ≡ 1 + parts-of (past-part 1_024 0 [] (e ∷ es))
-  unfolding parts-of
+  parts-cons : parts-in (e ∷ es) ≡ 1 + parts-in (past-part 1_024 0 [] (e ∷ es))
+  unfolding parts-in
   parts-cons = rw (cut-parts 1_024 e es) (omega arith)
 
   element-long : length (element-bytes format4 (element-of (new-run (part-of 1_024 0 [] (e ∷ es))))) ≡ 3 + length (e .headword)
   unfolding element-bytes element-of new-run first-headword format4
   element-long = rw (part-first 1_024 [] e es) (simp (length-append, length-to-little-endian) (omega arith))
 
-  bytes-cons : bytes-of (e ∷ es) ≡ 3 + length (e .headword) + bytes-of (past-part 1_024 0 [] (e ∷ es))
-  unfolding bytes-of elements-bytes
+  bytes-cons : bytes-in (e ∷ es) ≡ 3 + length (e .headword) + bytes-in (past-part 1_024 0 [] (e ∷ es))
+  unfolding bytes-in elements-bytes
   bytes-cons = rw (cut-parts 1_024 e es, length-append) (omega (arith, element-long))
 
-  blocks-cons : blocks-of (e ∷ es) ≡ blocks-for (2 + length (entries-bytes [] (part-of 1_024 0 [] (e ∷ es))) + 2) + blocks-of (past-part 1_024 0 [] (e ∷ es))
-  unfolding blocks-of run-blocks new-run
+  blocks-cons : blocks-in (e ∷ es) ≡ blocks-for (2 + length (entries-bytes [] (part-of 1_024 0 [] (e ∷ es))) + 2) + blocks-in (past-part 1_024 0 [] (e ∷ es))
+  unfolding blocks-in run-blocks new-run
   blocks-cons = rw (cut-parts 1_024 e es) (rw (part-size (part-of 1_024 0 [] (e ∷ es))) refl)
 
 blocks-most : (n : ℕ) → n ≤ 3253 → blocks-for (2 + n + 2) ≤ 13
 unfolding blocks-for
 blocks-most n h = omega arith
 
-bounded : (n : ℕ) (es : List Entry) → length es ≤ n → All Short es → (parts-of es ≤ length es) × (bytes-of es ≤ 251 * length es) × (blocks-of es ≤ 13 * length es)
-bounded zero [] h s = (omega (arith, none-of .0), omega (arith, none-of .1), omega (arith, none-of .2))
+bounded : (n : ℕ) (es : List Entry) → length es ≤ n → All Short es → (parts-in es ≤ length es) × (bytes-in es ≤ 251 * length es) × (blocks-in es ≤ 13 * length es)
+bounded zero [] h s = (omega (arith, none-in .0), omega (arith, none-in .1), omega (arith, none-in .2))
 bounded zero (e ∷ es) h s = absurd (omega arith)
-bounded (suc n) [] h s = (omega (arith, none-of .0), omega (arith, none-of .1), omega (arith, none-of .2))
+bounded (suc n) [] h s = (omega (arith, none-in .0), omega (arith, none-in .1), omega (arith, none-in .2))
 bounded (suc n) (e ∷ es) h s =
     let Q : List Entry = past-part 1_024 0 [] (e ∷ es) in
     let l : length Q < suc (length es) = past-fewer 1_024 [] e es in
@@ -74,27 +74,22 @@ bounded (suc n) (e ∷ es) h s =
 -- no number is more than so many times the entries
 module _ (es : List Entry) (s : All Short es) where
   -- one part for each entry at most
-  pub parts-few : parts-of es ≤ length es
+  pub parts-few : parts-in es ≤ length es
   parts-few = bounded (length es) es (omega arith) s .0
 
   -- an element takes 251 bytes at most
-  pub bytes-few : bytes-of es ≤ 251 * length es
+  pub bytes-few : bytes-in es ≤ 251 * length es
   bytes-few = bounded (length es) es (omega arith) s .1
 
   -- a part takes 13 blocks at most
-  pub blocks-few : blocks-of es ≤ 13 * length es
+  pub blocks-few : blocks-in es ≤ 13 * length es
   blocks-few = bounded (length es) es (omega arith) s .2
-
--- a part of no entries has no bytes
-part-nothing : length (entries-bytes [] (part-of 1_024 0 [] [])) ≡ 0
-unfolding part-of entries-bytes
-part-nothing = refl
 
 -- what was counted, and what is still to come
 pub record Counting (es₀ es : List Entry) (parts bytes blocks : ℕ) : Type 0 where
-  pub parts-all : parts + parts-of es ≡ parts-of es₀
-  pub bytes-all : bytes + bytes-of es ≡ bytes-of es₀
-  pub blocks-all : blocks + blocks-of es ≡ blocks-of es₀
+  pub parts-all : parts + parts-in es ≡ parts-in es₀
+  pub bytes-all : bytes + bytes-in es ≡ bytes-in es₀
+  pub blocks-all : blocks + blocks-in es ≡ blocks-in es₀
 
 -- nothing is counted at first
 pub counting-start : (es : List Entry) → Counting es es 0 0 0
@@ -103,57 +98,37 @@ counting-start es = record { parts-all = omega arith; bytes-all = omega arith; b
 module _ (es₀ es : List Entry) (parts bytes blocks used : ℕ) (counting : Counting es₀ es parts bytes blocks) (size : used ≡ length (entries-bytes [] (part-of 1_024 0 [] es))) where
   -- a part of no bytes: all are counted
   pub counted : used ≡ 0 → Measured (map new-run (cut 1_024 es₀)) parts bytes blocks
-  unfolding parts-of bytes-of blocks-of
+  unfolding parts-in bytes-in blocks-in
   counted z =
-      let e : es ≡ [] = part-empty 1_024 es (sym size ∙ z) in
+      let e : es ≡ [] = none-left es used size z in
       let k : Counting es₀ [] parts bytes blocks = rw e at counting in
-      (omega (arith, k .parts-all, none-of .0), omega (arith, k .bytes-all, none-of .1), omega (arith, k .blocks-all, none-of .2))
-
-  -- any other: the first part, and those behind it
-  pub counting-first : (used ≡ 0 → ⊥) → (e : Entry) × (ds : List Entry) × (es ≡ e ∷ ds)
-  counting-first z = go es size
-    where
-      go : (xs : List Entry) → used ≡ length (entries-bytes [] (part-of 1_024 0 [] xs)) → (e : Entry) × (ds : List Entry) × (xs ≡ e ∷ ds)
-      go [] p = absurd (z (p ∙ part-nothing))
-      go (e ∷ ds) p = (e, ds, refl)
-
-  -- it takes four bytes or more
-  pub used-some : (used ≡ 0 → ⊥) → 4 ≤ used
-  used-some z =
-      let (e, ds, p) = counting-first z in
-      rw (size, p) (part-some 1_024 e ds)
+      (omega (arith, k .parts-all, none-in .0), omega (arith, k .bytes-all, none-in .1), omega (arith, k .blocks-all, none-in .2))
 
   module _ (some : used ≡ 0 → ⊥) (Q : List Entry) (behind : Q ≡ past-part 1_024 0 [] es) where
-    -- fewer entries are left
-    pub counting-less : length Q < length es
-    counting-less =
-        let (e, ds, p) = counting-first some in
-        rw (behind, p) (past-fewer 1_024 [] e ds)
-
     -- one part more
-    pub parts-more : parts + 1 + parts-of Q ≡ parts-of es₀
+    pub parts-more : parts + 1 + parts-in Q ≡ parts-in es₀
     parts-more =
-        let (e, ds, p) = counting-first some in
-        let k : parts + parts-of (e ∷ ds) ≡ parts-of es₀ = rw p at (counting .parts-all) in
+        let (e, ds, p) = some-left es used size some in
+        let k : parts + parts-in (e ∷ ds) ≡ parts-in es₀ = rw p at (counting .parts-all) in
         rw (behind, p) (omega (arith, parts-cons e ds))
 
     -- its blocks
-    pub blocks-more : (n : ℕ) → n ≡ blocks-for (2 + used + 2) → blocks + n + blocks-of Q ≡ blocks-of es₀
+    pub blocks-more : (n : ℕ) → n ≡ blocks-for (2 + used + 2) → blocks + n + blocks-in Q ≡ blocks-in es₀
     blocks-more n q =
-        let (e, ds, p) = counting-first some in
-        let k : blocks + blocks-of (e ∷ ds) ≡ blocks-of es₀ = rw p at (counting .blocks-all) in
+        let (e, ds, p) = some-left es used size some in
+        let k : blocks + blocks-in (e ∷ ds) ≡ blocks-in es₀ = rw p at (counting .blocks-all) in
         let m : n ≡ blocks-for (2 + length (entries-bytes [] (part-of 1_024 0 [] (e ∷ ds))) + 2) = q ∙ ap (λ (x : ℕ). blocks-for (2 + x + 2)) (rw p at size) in
         rw (behind, p) (omega (arith, blocks-cons e ds))
 
     -- its element's bytes
-    pub bytes-more : (part part′ : List ℕ) (r : ℕ) → All Short es → part′ ≡ write 0 (entries-bytes [] (part-of 1_024 0 [] es)) part → used ≤ length part
+    pub bytes-more : (part part′ : List ℕ) (r : ℕ) → All Short es → part′ ≡ write 0 (entries-bytes [] (part-of 1_024 0 [] es)) part
         → ((e : Entry) (ds : List Entry) → take used part′ ≡ entries-bytes [] (e ∷ ds) → no-zero (e .headword) ≡ true → r ≡ 3 + length (e .headword))
-        → bytes + r + bytes-of Q ≡ bytes-of es₀
-    bytes-more part part′ r s w l h =
-        let (e, ds, p) = counting-first some in
-        let k : bytes + bytes-of (e ∷ ds) ≡ bytes-of es₀ = rw p at (counting .bytes-all) in
+        → bytes + r + bytes-in Q ≡ bytes-in es₀
+    bytes-more part part′ r s w h =
+        let (e, ds, p) = some-left es used size some in
+        let k : bytes + bytes-in (e ∷ ds) ≡ bytes-in es₀ = rw p at (counting .bytes-all) in
         let X : List ℕ = entries-bytes [] (part-of 1_024 0 [] es) in
-        let a : take used part′ ≡ X = part-stands X part part′ used w size l in
+        let a : take used part′ ≡ X = front-stored X part part′ used w size in
         let b : X ≡ entries-bytes [] (e ∷ part-of 1_024 (length (entry-bytes [] e)) (e .headword) ds) = ap (λ (xs : List Entry). entries-bytes [] (part-of 1_024 0 [] xs)) p ∙ ap (entries-bytes []) (part-first 1_024 [] e ds) in
         let ok : All Short (e ∷ ds) = rw p at s in
         let q : r ≡ 3 + length (e .headword) = h e (part-of 1_024 (length (entry-bytes [] e)) (e .headword) ds) (a ∙ b) (headword-no-zero (e .headword) (ok .0 .0)) in

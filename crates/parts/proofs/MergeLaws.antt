@@ -2,7 +2,7 @@
 use Prim.Native.Nat.{ℕ, zero, suc, _+_, _-_, _<_, _≤_}
 use mathlib.Core.Path.{_≡_, refl, sym, ap, _∙_}
 use mathlib.Core.Logic.{_⊎_, inl, inr, ⊎-elim}
-use mathlib.Core.Bool.{Bool, true, false, not, true≢false}
+use mathlib.Core.Bool.{Bool, true, false, not}
 use mathlib.Core.List.{List, [], _∷_, _++_, map}
 use mathlib.Core.Option.{Option, none, some}
 use native.Mathlib.Omega.{arith}
@@ -18,16 +18,16 @@ use Rattle.spec.specs.Run.{read-entry, entries-from}
 use Rattle.spec.specs.SortedList.{Sorted, has-headword, replace, remove}
 use Rattle.spec.proofs.ListsLaws.{All, all-map, clash, and-left, and-right, filter-yes, filter-no, filter-every, filter-nothing}
 use Rattle.spec.proofs.OutcomeLaws.{ok-not-refused, same-value, bind-ok}
-use Rattle.spec.proofs.OrderLaws.{one-way, order-of}
-use Rattle.spec.proofs.ReadLaws.{entry-told, after-step, entries-told, same-bytes, bytes-self}
-use Rattle.spec.proofs.SortedLaws.{ok-sorted}
+use Rattle.spec.proofs.OrderLaws.{one-way}
+use Rattle.spec.proofs.ReadLaws.{entry-told, after-step, bytes-self}
+use Rattle.spec.proofs.SearchLaws.{other, other-way}
 use Rattle.scans.specs.declared.Comparison.{Comparison}
 use Rattle.scans.specs.declared.Comparison.the-variants.{Below, Same, Above}
 use Rattle.scans.specs.Compare.{comparison}
 use Rattle.scans.proofs.Laws.{comparison-below, comparison-above, comparison-above-not, comparison-same, comparison-below-not}
 use Rattle.parts.specs.declared.Cursor.{Cursor}
 use Rattle.parts.specs.declared.Turn.{Turn}
-use Rattle.parts.specs.Merge.{entries-until, entries-left, merge, ahead, todo, changed-entries, turn-of}
+use Rattle.parts.specs.Merge.{entries-until, entries-left, merge, ahead, todo, turn-of}
 
 -- ---- the entries left
 -- by what stands at the front
@@ -191,20 +191,6 @@ module _ (below : List ℕ → List ℕ → Bool) (a : Entry) where
       go false ih Above q = rw (merge-above e es q) (h, ih false)
 
   module _ (order : IsOrder below) where
-    not-equal : (x y : List ℕ) → below x y ≡ true → bytes-equal x y ≡ false
-    not-equal x y p = go (bytes-equal x y) refl
-      where
-        go : (t : Bool) → bytes-equal x y ≡ t → bytes-equal x y ≡ false
-        go false e = e
-        go true e = absurd (true≢false (sym p ∙ ap (λ (z : List ℕ). below z y) (same-bytes x y e) ∙ order .irreflexive y))
-
-    not-equal-above : (x y : List ℕ) → below y x ≡ true → bytes-equal x y ≡ false
-    not-equal-above x y p = go (bytes-equal x y) refl
-      where
-        go : (t : Bool) → bytes-equal x y ≡ t → bytes-equal x y ≡ false
-        go false e = e
-        go true e = absurd (true≢false (sym p ∙ ap (λ (z : List ℕ). below y z) (same-bytes x y e) ∙ order .irreflexive y))
-
     -- an entry that is not to come again: the entry with its headword goes
     pub merge-remove : (es : List Entry) → merge below a false es ≡ remove (a .headword) es
     unfolding merge remove filter has-headword
@@ -213,16 +199,16 @@ module _ (below : List ℕ → List ℕ → Bool) (a : Entry) where
       where
         go : merge below a false es ≡ remove (a .headword) es → (k : Comparison) → comparison below (e .headword) (a .headword) ≡ k → merge below a false (e ∷ es) ≡ remove (a .headword) (e ∷ es)
         go ih Below q = merge-below false e es q ∙ ap (λ (l : List Entry). e ∷ l) ih
-            ∙ sym (filter-yes (λ d. not (bytes-equal (d .headword) (a .headword))) e es (ap not (not-equal (e .headword) (a .headword) (comparison-below below (e .headword) (a .headword) q))))
+            ∙ sym (filter-yes (λ d. not (bytes-equal (d .headword) (a .headword))) e es (ap not (other below order (e .headword) (a .headword) (comparison-below below (e .headword) (a .headword) q))))
         go ih Same q = merge-same false e es q ∙ ih
             ∙ sym (filter-no (λ d. not (bytes-equal (d .headword) (a .headword))) e es (rw (comparison-same below (e .headword) (a .headword) order q, bytes-self (a .headword))))
         go ih Above q = merge-above e es q ∙ ap (λ (l : List Entry). e ∷ l) ih
-            ∙ sym (filter-yes (λ d. not (bytes-equal (d .headword) (a .headword))) e es (ap not (not-equal-above (e .headword) (a .headword) (comparison-above below (e .headword) (a .headword) q))))
+            ∙ sym (filter-yes (λ d. not (bytes-equal (d .headword) (a .headword))) e es (ap not (other-way below order (a .headword) (e .headword) (comparison-above below (e .headword) (a .headword) q))))
 
     -- entries above the new one stay as they are
     merge-stays : (es : List Entry) → All (λ d. below (a .headword) (d .headword) ≡ true) es → merge below a false es ≡ es
     unfolding remove has-headword
-    merge-stays es h = merge-remove es ∙ filter-every (λ d. not (bytes-equal (d .headword) (a .headword))) es (all-map _ _ (λ d q. ap not (not-equal-above (d .headword) (a .headword) q)) es h)
+    merge-stays es h = merge-remove es ∙ filter-every (λ d. not (bytes-equal (d .headword) (a .headword))) es (all-map _ _ (λ d q. ap not (other-way below order (a .headword) (d .headword) q)) es h)
 
     headwords-above : (k : List ℕ) (es : List Entry) → all (below k) (map (λ d. d .headword) es) ≡ true → All (λ d. below k (d .headword) ≡ true) es
     unfolding all
@@ -391,20 +377,3 @@ module _ (run word h body : List ℕ) (c : Cursor) where
       ap (λ (t : Bool). merge (below-of 0) a t (ahead run word c)) f
       ∙ ⊎-elim (λ (b : eqb (c .length) 0 ≡ true). new-alone (below-of 0) a (ahead run word c) (ahead-none run word c b))
       (λ (w : (eqb (c .length) 0 ≡ false) × (comparison (below-of 0) (take (c .length) word) h ≡ Above)). new-before (below-of 0) a (ahead run word c) _ _ (ahead-some run word c (w .0)) (w .1)) k
-
--- ---- the entries of a run that was read, changed
-module _ (n : ℕ) (run : List ℕ) (es : List Entry) (read : entries-from format4 n [] run ≡ ok es) (h body : List ℕ) where
-  -- a new entry at its place
-  pub changed-replace : changed-entries run h body true ≡ replace (below-of 0) (record { headword = h; body = body }) es
-  unfolding changed-entries format4
-  changed-replace =
-      let a : Entry = record { headword = h; body = body } in
-      ap (merge (below-of 0) a true) (entries-left-read format4 n [] run es read)
-      ∙ merge-replace (below-of 0) a (order-of 0) es (ok-sorted format4 (order-of 0) [] es (entries-told format4 n [] run es read))
-
-  -- an entry gone
-  pub changed-remove : changed-entries run h body false ≡ remove h es
-  unfolding changed-entries
-  changed-remove =
-      let a : Entry = record { headword = h; body = body } in
-      ap (merge (below-of 0) a false) (entries-left-read format4 n [] run es read) ∙ merge-remove (below-of 0) a (order-of 0) es

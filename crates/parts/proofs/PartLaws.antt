@@ -2,10 +2,11 @@
 use Prim.Native.Nat.{ℕ, suc, _+_, _<_, _≤_}
 use mathlib.Core.Path.{_≡_, refl, sym, ap, _∙_}
 use mathlib.Core.Bool.{Bool, true, false, _||_}
-use mathlib.Core.List.{List, [], _∷_, _++_, append-nil}
+use mathlib.Core.List.{List, [], _∷_, _++_}
 use native.Mathlib.Omega.{arith}
-use native.Mathlib.Nat.{zero-add, add-zero}
-use lib.ListN.{length, take, length-append, take-append-drop}
+use native.Mathlib.Nat.{zero-add}
+use lib.ListN.{length, take, length-append}
+use lib.Seq.{length-take-le}
 use lib.Dec.{leb, eqb}
 use borrow.Author.Tests.{leb-true, eqb-true}
 use Rattle.spec.specs.Bytes.{write, bytes-at, blocks-for}
@@ -14,20 +15,19 @@ use Rattle.spec.specs.Run.{entries-bytes, encoded-size, run-size}
 use Rattle.spec.specs.Place.{into-first, cut-after, cut, first-headword}
 use Rattle.spec.proofs.ListsLaws.{All, or-cases}
 use Rattle.spec.proofs.RunLaws.{head-bounds}
-use Rattle.spec.proofs.WriteLaws.{bytes-at-write}
-use Rattle.encoder.proofs.Laws.{length-entry, written-behind}
+use Rattle.spec.proofs.WriteLaws.{written-front, written-behind, write-none}
+use Rattle.encoder.proofs.Laws.{length-entry}
 use Rattle.parts.specs.Part.{has-room, part-of, past-part}
 
--- ---- no entry
--- a part of no entries has none
-pub part-none : (limit n : ℕ) (prev : List ℕ) → part-of limit n prev [] ≡ []
-unfolding part-of
-part-none limit n prev = refl
+-- ---- the front of a slice
+-- bytes written from the front on stand there
+pub front-stored : (x s s′ : List ℕ) (n : ℕ) → s′ ≡ write 0 x s → n ≡ length x → take n s′ ≡ x
+front-stored x s s′ n w q = ap (take n) w ∙ written-front x s n (sym q)
 
--- and none is behind
-pub past-none : (limit n : ℕ) (prev : List ℕ) → past-part limit n prev [] ≡ []
-unfolding past-part
-past-none limit n prev = refl
+-- so do bytes copied there
+pub copied-front : (s w w′ : List ℕ) (n : ℕ) → w′ ≡ write 0 (bytes-at 0 n s) w → n ≤ length s → take n w′ ≡ take n s
+unfolding bytes-at
+copied-front s w w′ n e p = front-stored (take n s) w w′ n e (sym (length-take-le n s p))
 
 -- ---- the next entry
 module _ (limit n : ℕ) (prev : List ℕ) (e : Entry) (es : List Entry) where
@@ -129,17 +129,7 @@ cut-parts limit e es =
     ap (into-first e) q ∙ sym (rw (part-first limit [] e es, past-first limit [] e es))
 
 -- ---- facts of all entries
--- are facts of those of a part
-pub part-all : (P : Entry → Type 0) (limit n : ℕ) (prev : List ℕ) (es : List Entry) → All P es → All P (part-of limit n prev es)
-unfolding part-of
-part-all P limit n prev [] h = tt
-part-all P limit n prev (e ∷ es) (h, hs) = go (part-all P limit (n + length (entry-bytes prev e)) (e .headword) es hs) (has-room limit n prev e) refl
-  where
-    go : All P (part-of limit (n + length (entry-bytes prev e)) (e .headword) es) → (t : Bool) → has-room limit n prev e ≡ t → All P (part-of limit n prev (e ∷ es))
-    go ih true q = rw (part-takes limit n prev e es q) (h, ih)
-    go ih false q = rw (part-full limit n prev e es q) tt
-
--- and of those behind it
+-- are facts of those behind a part
 pub past-all : (P : Entry → Type 0) (limit n : ℕ) (prev : List ℕ) (es : List Entry) → All P es → All P (past-part limit n prev es)
 unfolding past-part
 past-all P limit n prev [] h = tt
@@ -197,10 +187,40 @@ pub part-empty : (limit : ℕ) (es : List Entry) → length (entries-bytes [] (p
 part-empty limit [] h = refl
 part-empty limit (e ∷ es) h = absurd (omega (arith, part-some limit e es))
 
--- a part that was written from the front of a slice on stands there
-pub part-stands : (x part part′ : List ℕ) (used : ℕ) → part′ ≡ write 0 x part → used ≡ length x → used ≤ length part → take used part′ ≡ x
-unfolding bytes-at
-part-stands x part part′ used w q l = rw (w, q) (bytes-at-write 0 x part (omega arith))
+-- the next part of entries, by its bytes
+module _ (es : List Entry) (used : ℕ) (size : used ≡ length (entries-bytes [] (part-of 1_024 0 [] es))) where
+  -- no byte: no entry is left
+  pub none-left : used ≡ 0 → es ≡ []
+  none-left z = part-empty 1_024 es (sym size ∙ z)
+
+  -- else some are
+  pub some-left : (used ≡ 0 → ⊥) → (e : Entry) × (ds : List Entry) × (es ≡ e ∷ ds)
+  unfolding part-of entries-bytes
+  some-left z = go es size
+    where
+      go : (xs : List Entry) → used ≡ length (entries-bytes [] (part-of 1_024 0 [] xs)) → (e : Entry) × (ds : List Entry) × (xs ≡ e ∷ ds)
+      go [] p = absurd (z p)
+      go (e ∷ ds) p = (e, ds, refl)
+
+  module _ (some : used ≡ 0 → ⊥) where
+    -- it takes four bytes or more
+    pub used-some : 4 ≤ used
+    used-some =
+        let (e, ds, p) = some-left some in
+        rw (size, p) (part-some 1_024 e ds)
+
+    module _ (Q : List Entry) (behind : Q ≡ past-part 1_024 0 [] es) where
+      -- fewer entries are behind it
+      pub fewer-left : length Q < length es
+      fewer-left =
+          let (e, ds, p) = some-left some in
+          rw (behind, p) (past-fewer 1_024 [] e ds)
+
+      -- the parts: this one, then those of what is behind it
+      pub cut-next : cut 1_024 es ≡ part-of 1_024 0 [] es ∷ cut 1_024 Q
+      cut-next =
+          let (e, ds, p) = some-left some in
+          rw (behind, p) (cut-parts 1_024 e ds)
 
 -- its run has the headword of its first entry
 pub part-headword : (limit : ℕ) (e : Entry) (es : List Entry) → first-headword (part-of limit 0 [] (e ∷ es)) ≡ e .headword
@@ -224,10 +244,6 @@ pub record Filled (es₀ : List Entry) (part₀ : List ℕ) (es : List Entry) (p
   pub behind : es ≡ past-part 1_024 0 [] es₀
   pub size : used ≡ length (entries-bytes [] (part-of 1_024 0 [] es₀))
 
-write-none : (i : ℕ) (s : List ℕ) → write i [] s ≡ s
-unfolding write
-write-none i s = rw (append-nil, add-zero) (take-append-drop i s)
-
 -- nothing is filled at first
 pub filling-start : (es : List Entry) (part : List ℕ) → Filling es part es part [] 0
 filling-start es part = record { whole = refl; behind = refl; size = zero-add _ }
@@ -236,7 +252,7 @@ module _ (es₀ : List Entry) (part₀ : List ℕ) (part prev : List ℕ) (used 
   -- no entry is left
   pub filling-end : Filling es₀ part₀ [] part prev used → Filled es₀ part₀ [] part used
   unfolding part-of past-part entries-bytes
-  filling-end f = record { whole = sym (write-none used part) ∙ f .whole; behind = f .behind; size = omega (arith, f .size) }
+  filling-end f = record { whole = sym (write-none part used) ∙ f .whole; behind = f .behind; size = omega (arith, f .size) }
 
   module _ (e : Entry) (es : List Entry) (f : Filling es₀ part₀ (e ∷ es) part prev used) where
     -- the next entry has no room
@@ -246,7 +262,7 @@ module _ (es₀ : List Entry) (part₀ : List ℕ) (part prev : List ℕ) (used 
         let p : part-of 1_024 used prev (e ∷ es) ≡ [] = part-full 1_024 used prev e es q in
         let w : write used [] part ≡ write 0 (entries-bytes [] (part-of 1_024 0 [] es₀)) part₀ = rw p at (f .whole) in
         let s : used + 0 ≡ length (entries-bytes [] (part-of 1_024 0 [] es₀)) = rw p at (f .size) in
-        record { whole = sym (write-none used part) ∙ w; behind = sym (past-full 1_024 used prev e es q) ∙ f .behind; size = omega arith }
+        record { whole = sym (write-none part used) ∙ w; behind = sym (past-full 1_024 used prev e es q) ∙ f .behind; size = omega arith }
 
     -- it is appended
     pub filling-more : (part′ : List ℕ) (used′ : ℕ) → has-room 1_024 used prev e ≡ true → used′ ≡ used + length (entry-bytes prev e) → part′ ≡ write used (entry-bytes prev e) part → used ≤ length part

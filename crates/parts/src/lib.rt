@@ -212,6 +212,7 @@ pub fn head_end(part: &[u8], used: usize) -> usize
 pub fn measure(run: &[u8], h: &[u8], body: &[u8], fresh: bool) -> Sizes
     requires { ⌜ (headword-ok (now h) ≡ true) × (length (now body) ≤ 3001) × (length (now run) ≤ 8388608) ⌝ }
     ensures { λ r. ⌜ Measured (map new-run (cut 1024 (changed-entries (now (run .entry)) (now (h .entry)) (now (body .entry)) fresh))) (r .parts) (r .bytes) (r .blocks) ⌝ }
+    ensures { λ r. ⌜ (r .parts ≤ 8388609) × (r .bytes ≤ 2105540859) × (r .blocks ≤ 109051917) ⌝ }
 {
     let mut word = [0u8; 256];
     let mut part = [0u8; 3328];

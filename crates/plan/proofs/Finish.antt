@@ -1,30 +1,30 @@
 -- The plan of a change by its numbers: where the new runs go, when there is no room, and what is written then.
-use Prim.Native.Nat.{ℕ, zero, suc, _+_, _-_, _*_, _≤_, _<_, max}
+use Prim.Native.Nat.{ℕ, _+_, _-_, _*_, _≤_, _<_, max}
 use mathlib.Core.Path.{_≡_, refl, sym, ap, ap₂, subst, _∙_}
-use mathlib.Core.Bool.{Bool, true, false, not, _||_}
+use mathlib.Core.Bool.{Bool, true, false, _||_}
 use mathlib.Core.List.{List, [], _∷_, _++_, map, append-assoc}
-use mathlib.Core.List.{List·Permᴰ, List·Permᴰ·nil, List·Permᴰ·cons, List·Permᴰ·swap, List·Permᴰ·trans, Permᴰ·symm}
+use mathlib.Core.List.{List·Permᴰ, Permᴰ·symm}
 use native.Mathlib.Omega.{arith}
 use lib.ListN.{length, take, drop}
 use lib.Dec.{ltb}
 use borrow.Author.Tests.{lt-ltb, le-ltb}
 use Rattle.spec.specs.Bytes.{blocks-for}
-use Rattle.spec.specs.Header.{Format, format4, layout4, changed-header}
+use Rattle.spec.specs.Header.{format4, layout4, changed-header}
 use Rattle.spec.specs.Entry.{Entry}
-use Rattle.spec.specs.Run.{Run, run-size, encoded-size, entries-bytes}
+use Rattle.spec.specs.Run.{Run, run-size, encoded-size}
 use Rattle.spec.specs.Index.{index-need, index-bytes}
-use Rattle.spec.specs.Lists.{any, filter, range-from}
-use Rattle.spec.specs.Blocks.{covers, is-free, place-for, free-blocks, free-list-written}
-use Rattle.spec.specs.Check.{Frame, Image, data-start, data-area, frame-length}
-use Rattle.spec.specs.Place.{Plan, Target, Placed, Grown, target-run, cut, new-run, at-block, with-run, place, element-of, grown, plan-change, plan-full, plan-counts, plan-written, runs-written}
+use Rattle.spec.specs.Blocks.{is-free, place-for, free-blocks, free-list-written}
+use Rattle.spec.specs.Check.{Image, data-start, data-area, frame-length}
+use Rattle.spec.specs.Place.{Target, Placed, Grown, target-run, cut, new-run, at-block, with-run, place, element-of, grown, plan-change, plan-full, plan-counts, plan-written, runs-written}
 use Rattle.spec.specs.Calls.{plan-length}
-use Rattle.spec.proofs.ListsLaws.{All, all-map}
+use Rattle.spec.proofs.ListsLaws.{All, all-map, or-right}
 use Rattle.spec.proofs.PlanLaws.{plan-of}
 use Rattle.spec.proofs.LaidLaws.{between-perm}
 use Rattle.chain.specs.Numbers.{numbers}
 use Rattle.chain.proofs.Laws.{numbers-filter}
 use Rattle.placing.specs.Spread.{Spread, spread}
-use Rattle.placing.proofs.SpreadLaws.{Marked, SpreadIs, marked-part, spread-place, spread-over}
+use Rattle.placing.proofs.SpreadLaws.{Marked, SpreadIs, free-perm, marked-part, spread-place, spread-over}
+use Rattle.moves.proofs.Order.{filter-range}
 use Rattle.plan.specs.Written.{part-runs}
 
 -- the plan of a change by the index's growth, the runs under it, and the new runs' places
@@ -61,11 +61,7 @@ unfolding plan-full frame-length data-start format4
 full-is s n D rs = refl
 
 pub full-index : (s : List ℕ) (n D : ℕ) (rs : List Run) → 32_767 < n → plan-full s (plan-of format4 n D rs) ≡ true
-full-index s n D rs h = full-is s n D rs ∙ rw (lt-ltb 32_767 n h) (or-true (ltb (length s) (256 + 256 * n + 256 * D) || ltb 65_536 D))
-  where
-    or-true : (t : Bool) → t || true ≡ true
-    or-true true = refl
-    or-true false = refl
+full-index s n D rs h = full-is s n D rs ∙ rw (lt-ltb 32_767 n h) (or-right (ltb (length s) (256 + 256 * n + 256 * D) || ltb 65_536 D) true refl)
 
 pub full-blocks : (s : List ℕ) (n D : ℕ) (rs : List Run) → 65_536 < D → plan-full s (plan-of format4 n D rs) ≡ true
 full-blocks s n D rs h = full-is s n D rs ∙ rw (lt-ltb 65_536 D h) (or-middle (ltb (length s) (256 + 256 * n + 256 * D)) (ltb 32_767 n))
@@ -113,41 +109,13 @@ unfolding new-run run-size encoded-size blocks-for
 sizes-some k [] a = tt
 sizes-some k (p ∷ ps) (a, as′) = ((omega arith, a), sizes-some k ps as′)
 
--- whether a block is free does not depend on the order of the runs
-any-perm : {A : Type 0} (f : A → Bool) {l m : List A} → List·Permᴰ l m → any f l ≡ any f m
-unfolding any
-any-perm f List·Permᴰ·nil = refl
-any-perm f (List·Permᴰ·cons e d) = ap₂ (λ (x y : Bool). x || y) (ap f e) (any-perm f d)
-any-perm f (List·Permᴰ·swap {a = a} {b = b} {b′ = c} {l = l} e g) = or-swap (f a) (f b) (any f l) ∙ ap₂ (λ (x y : Bool). x || (y || any f l)) (ap f g) (ap f e)
-  where
-    or-swap : (s t u : Bool) → s || (t || u) ≡ t || (s || u)
-    or-swap true true u = refl
-    or-swap true false u = refl
-    or-swap false t u = refl
-any-perm f (List·Permᴰ·trans d e) = any-perm f d ∙ any-perm f e
-
-pub free-perm : {l m : List Run} → List·Permᴰ l m → (b : ℕ) → is-free l b ≡ is-free m b
-unfolding is-free
-free-perm d b = ap not (any-perm (covers b) d)
-
--- tests that agree pick the same numbers
-filter-range : (f h : ℕ → Bool) (i n : ℕ) → ((b : ℕ) → f b ≡ h b) → filter f (range-from i n) ≡ filter h (range-from i n)
-unfolding filter range-from
-filter-range f h i zero e = refl
-filter-range f h i (suc n) e = go (f i) (e i) (filter-range f h (suc i) n e)
-  where
-    go : (t : Bool) → t ≡ h i → filter f (range-from (suc i) n) ≡ filter h (range-from (suc i) n)
-        → _≡_ {A = List ℕ} (elim t [ true ↦ i ∷ filter f (range-from (suc i) n) | false ↦ filter f (range-from (suc i) n) ]) (elim (h i) [ true ↦ i ∷ filter h (range-from (suc i) n) | false ↦ filter h (range-from (suc i) n) ])
-    go true q ih = rw (← q) (ap (λ (l : List ℕ). i ∷ l) ih)
-    go false q ih = rw (← q) ih
-
 -- the numbers of the marks are those of the free blocks
 free-numbers : (g D : ℕ) (fs : List Bool) {rs qs : List Run} → List·Permᴰ rs qs → g + D ≤ length fs → Marked g 0 D fs rs → numbers 0 (take (g + D - g) (drop g fs)) ≡ free-blocks qs D
 unfolding free-blocks
 free-numbers g D fs {rs} {qs} u l k =
     let z : g + 0 ≡ g = omega arith in
     let y : D - 0 ≡ D = omega arith in
-    ap (numbers 0) (rw (z, y) at (marked-part g 0 D fs rs (omega arith) l k)) ∙ numbers-filter (is-free rs) 0 D ∙ filter-range (is-free rs) (is-free qs) 0 D (free-perm u)
+    ap (numbers 0) (rw (z, y) at (marked-part g 0 D fs rs (omega arith) l k)) ∙ numbers-filter (is-free rs) 0 D ∙ filter-range (is-free rs) (is-free qs) 0 D (λ b p q. free-perm u b)
 
 -- ---- the new runs placed on the marks
 module _ (m : Grown) (g : ℕ) (ps : List (List Entry)) (ms : List Bool) (end : ℕ) (end-is : end ≡ g + m .data-blocks) (marked : Marked g 0 (m .data-blocks) ms (m .before ++ m .after)) where
@@ -187,14 +155,6 @@ module _ (m : Grown) (g : ℕ) (ps : List (List Entry)) (ms : List Bool) (end : 
         let w : sp .end ≡ g + p .data-blocks = parts-end in
         let u : List·Permᴰ (p .runs ++ there) (m .before ++ p .runs ++ m .after) = subst (λ (x : List Run). List·Permᴰ (p .runs ++ there) x) (sym (append-assoc (m .before) (p .runs) (m .after))) (Permᴰ·symm (between-perm (m .before) (p .runs) (m .after))) in
         ap₂ (λ (x : ℕ) (y : List Bool). numbers 0 (take (x - g) (drop g y))) w e ∙ free-numbers g (p .data-blocks) _ u (omega (arith, fits, w, t .long)) (t .marked)
-
-    -- every place is from g on
-    pub parts-above : All (λ b. g ≤ b) (sp .places)
-    parts-above = rw parts-places (above-map (p .runs))
-      where
-        above-map : (rs : List Run) → All (λ b. g ≤ b) (map (λ r. g + r .block) rs)
-        above-map [] = tt
-        above-map (r ∷ rs) = (omega arith, above-map rs)
 
   -- where placing on the marks passes the limit, the plan has too many blocks
   pub parts-over : (limit k : ℕ) → All (λ q. run-size q ≤ k) ps → end ≤ limit → limit + k ≤ length ms → limit < sp .end → limit < g + p .data-blocks

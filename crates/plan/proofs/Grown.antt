@@ -1,16 +1,16 @@
 -- Step 4 of the plan, the index grown by g blocks: what code notes, frees, places, copies and renumbers is what `grown` says.
-use Prim.Native.Nat.{ℕ, suc, _+_, _-_, _*_, _≤_, _<_, max}
+use Prim.Native.Nat.{ℕ, _+_, _-_, _*_, _≤_, _<_, max}
 use mathlib.Core.Path.{_≡_, refl, sym, ap, ap₂, subst, _∙_}
 use mathlib.Core.Logic.{_⊎_, inl, inr}
 use mathlib.Core.Bool.{Bool, true, false, not, _||_}
 use mathlib.Core.List.{List, [], _∷_, _++_, map, map-append}
-use mathlib.Core.List.{List·Permᴰ, List·Permᴰ·nil, List·Permᴰ·cons, List·Permᴰ·swap, List·Permᴰ·trans, Permᴰ·symm, Permᴰ·middle}
+use mathlib.Core.List.{List·Permᴰ, Permᴰ·symm, Permᴰ·middle}
 use native.Mathlib.Nat.{zero-add}
 use native.Mathlib.Omega.{arith}
 use lib.ListN.{length, getD, take, drop, replicate, length-map, length-replicate, take-append-drop}
 use lib.Seq.{length-take-le}
 use lib.Dec.{eqb}
-use borrow.Author.Tests.{eq-eqb, ne-eqb}
+use borrow.Author.Tests.{eq-eqb}
 use Rattle.spec.specs.Lists.{any}
 use Rattle.spec.specs.Bytes.{from-little-endian, bytes-at, write}
 use Rattle.spec.specs.Run.{Run}
@@ -24,12 +24,12 @@ use Rattle.spec.proofs.FreeListLaws.{Ascending, ascending-below, Stands}
 use Rattle.marks.specs.Marks.{with-range}
 use Rattle.marks.proofs.Laws.{length-range, get-range-in, get-range-below, get-range-above}
 use Rattle.placing.specs.Spread.{Spread, spread}
-use Rattle.placing.proofs.SpreadLaws.{Marked, SpreadIs, spread-place, spread-over}
+use Rattle.placing.proofs.SpreadLaws.{Marked, SpreadIs, free-perm, spread-place, spread-over}
 use Rattle.elements.specs.Renewed.{number-after, renewed}
 use Rattle.elements.proofs.Laws.{number-moved, number-kept, renewed-none-all}
 use Rattle.moves.specs.Moved.{noted, starts, size-at, freed, tabled, moved-written}
-use Rattle.moves.proofs.Laws.{spread-end, noted-append, Ready}
-use Rattle.moves.proofs.Order.{starts-ascending, length-noted, noted-moving, get-tabled-moves, number-stays, places-some, tabled-own-starts, touches-above}
+use Rattle.moves.proofs.Laws.{noted-append}
+use Rattle.moves.proofs.Order.{not-among, starts-ascending, length-noted, noted-moving, get-tabled-moves, number-stays, places-some, tabled-own-starts, touches-above}
 use Rattle.plan.specs.Written.{runs-put}
 use Rattle.plan.proofs.RunsWritten.{runs-perm, runs-joined, runs-still, put-written}
 use Rattle.plan.proofs.Whole.{laid-front}
@@ -67,20 +67,6 @@ map-same : {A B : Type 0} (f h : A → B) (l : List A) → All (λ a. f a ≡ h 
 map-same f h [] e = refl
 map-same f h (a ∷ l) (e, es) = ap₂ (λ (x : _) (y : List _). x ∷ y) e (map-same f h l es)
 
--- whether a test holds for some element, in any order
-any-perm : {A : Type 0} (f : A → Bool) {l m : List A} → List·Permᴰ l m → any f l ≡ any f m
-unfolding any
-any-perm f List·Permᴰ·nil = refl
-any-perm f (List·Permᴰ·cons e d) = ap₂ (λ (x y : Bool). x || y) (ap f e) (any-perm f d)
-any-perm f (List·Permᴰ·swap {a = a} {b = b} {b′ = c} {l = l} e h) =
-    or-swap (f a) (f b) (any f l) ∙ ap (λ x. f b || (f x || any f l)) e ∙ ap (λ x. f x || (f c || any f l)) h
-  where
-    or-swap : (s t u : Bool) → s || (t || u) ≡ t || (s || u)
-    or-swap true true u = refl
-    or-swap true false u = refl
-    or-swap false t u = refl
-any-perm f (List·Permᴰ·trans d e) = any-perm f d ∙ any-perm f e
-
 -- the number of each run is among the numbers of all
 own-blocks : (rs : List Run) → All (λ r. any (eqb (r .block)) (map (λ q. q .block) rs) ≡ true) rs
 unfolding any
@@ -88,18 +74,7 @@ own-blocks [] = tt
 own-blocks (r ∷ rs) =
     (rw (eq-eqb (r .block) (r .block) refl), all-map _ _ (λ q h. or-right (eqb (q .block) (r .block)) (any (eqb (q .block)) (map (λ p. p .block) rs)) h) rs (own-blocks rs))
 
--- a number behind those that ascend is none of them
-not-below : (b i D : ℕ) (l : List ℕ) → D ≤ b → Ascending i D l → any (eqb b) l ≡ false
-unfolding any
-not-below b i D [] h a = refl
-not-below b i D (c ∷ l) h (p, q, a) = rw (ne-eqb b c (λ e. omega arith)) (not-below b (suc c) D l h a)
-
 -- ---- blocks free of runs
--- in any order of the runs
-pub free-perm : (b : ℕ) {l m : List Run} → List·Permᴰ l m → is-free l b ≡ is-free m b
-unfolding is-free
-free-perm b d = ap not (any-perm (covers b) d)
-
 -- "Then all numbers … fall by g.": a run then covers the blocks that are g lower
 covers-fallen : (g b : ℕ) (ms : List Move) (r : Run) → g ≤ new-number ms (r .block) → covers (g + b) (moved ms r) ≡ covers b (renumbered g ms r)
 unfolding renumbered at-block
@@ -123,7 +98,7 @@ free-fallen g b ms rs f = ap not (anys rs f)
 -- ---- runs freed
 -- the marks in any order of the runs
 pub marked-perm : (o g d : ℕ) (ms : List Bool) {l m : List Run} → List·Permᴰ l m → Marked o g d ms l → Marked o g d ms m
-marked-perm o g d ms e m = record { inside = λ x p q. m .inside x p q ∙ free-perm x e; beyond = m .beyond }
+marked-perm o g d ms e m = record { inside = λ x p q. m .inside x p q ∙ free-perm e x; beyond = m .beyond }
 
 -- a run freed: the marks are those of the other runs
 pub freed-one : (D n : ℕ) (ms : List Bool) (r : Run) (rest : List Run) → Laid D (r ∷ rest) → n ≡ r .size → D ≤ length ms → Marked 0 0 D ms (r ∷ rest) → Marked 0 0 D (with-range (r .block) n true ms) rest
@@ -299,10 +274,6 @@ module _ (area : List ℕ) (D g k : ℕ) (before after : List Run) (ms₀ : List
     sizes : map (size-at area D) (starts 0 g T₀) ≡ map (λ r. r .size) mv
     sizes = ap (map (size-at area D)) starts-are ∙ sizes-same area D mv moving-sizes
 
-    -- the end does not fall
-    ends : max D g ≤ sp .end
-    ends = spread-end g (max D g) ms₁ (map (size-at area D) (starts 0 g T₀))
-
     -- the marks after freeing
     marks-freed : Marked 0 0 D ms₁ st × (length ms₁ ≡ length ms₀)
     marks-freed =
@@ -376,7 +347,7 @@ module _ (area : List ℕ) (D g k : ℕ) (before after : List Run) (ms₀ : List
       numbers-after =
           all-perm _ (parted g D rs) (all-append _ mv st
           (all-both _ _ _ (λ r p q. number-moved T g (r .block) p ∙ ap (λ (n : ℕ). n - g) q) mv moving-below numbers)
-          (all-map _ _ (λ r p. number-kept T g (r .block) p ∙ ap (λ (n : ℕ). n - g) (sym (number-stays mv (gp .runs) (r .block) (not-below (r .block) 0 g (map (λ r. r .block) mv) p starts-ascend)))) st staying-above))
+          (all-map _ _ (λ r p. number-kept T g (r .block) p ∙ ap (λ (n : ℕ). n - g) (sym (number-stays mv (gp .runs) (r .block) (not-among (r .block) 0 g (map (λ r. r .block) mv) (inr p) starts-ascend)))) st staying-above))
 
       -- the runs start at the same blocks after placing
       starts-after : starts 0 g T ≡ map (λ r. r .block) mv
@@ -422,7 +393,7 @@ module _ (area : List ℕ) (D g k : ℕ) (before after : List Run) (ms₀ : List
           inner b q =
               at b ∙ placed-marked .inside (g + b) (omega arith) (omega (arith, blocks-are))
               ∙ ap (λ (l : List Run). is-free l (g + b)) (sym (moved-all g D rs laid sized))
-              ∙ free-perm (g + b) (map-perm (moved gm) (parted g D rs))
+              ∙ free-perm (map-perm (moved gm) (parted g D rs)) (g + b)
               ∙ free-fallen g b gm rs (moved-from g D rs laid sized)
               ∙ ap (λ (l : List Run). is-free l b) (sym all-are)
 
@@ -517,10 +488,6 @@ pub index-over : (area : List ℕ) (D g k : ℕ) (before after : List Run) (ms�
     → max D g ≤ limit → limit + 65_536 ≤ length ms₀ → D ≤ 65_536 → limit < spread g (max D g) ms₁ (map (size-at area D) (starts 0 g T₀)) .end → limit < g + grown g D before after .data-blocks
 index-over area D g k before after ms₀ some room laid sized stands counts marked₀ T₀ ms₁ limit e₁ e₂ p l few h =
     over area D g k before after ms₀ some room laid sized stands counts marked₀ (omega arith) limit p l few (rw (e₂, e₁) at h)
-
--- what copying the runs that move asks
-pub grown-ready : (area : List ℕ) (D g : ℕ) (before after : List Run) (n : ℕ) (T : List ℕ) (end : ℕ) (free : List Bool) (l : ℕ) → Growing area D g before after n T end free → 256 * end ≤ l → Ready area T D l (starts 0 g T)
-grown-ready area D g before after n T end free l h k = all-map _ _ (λ b p. (p .0, omega (arith, p .1))) (starts 0 g T) (h .moved-inside)
 
 -- the blocks of the elements are those of the runs
 element-blocks : (rs : List Run) → map (λ e. e .block) (map element-of rs) ≡ map (λ r. r .block) rs

@@ -1,17 +1,16 @@
 -- Runs that lie apart are written in any order, and one that stands already need not be.
 use Prim.Native.Nat.{ℕ, _+_, _*_, _≤_}
-use mathlib.Core.Path.{_≡_, refl, sym, ap, _∙_, subst}
+use mathlib.Core.Path.{_≡_, refl, sym, ap, _∙_}
 use mathlib.Core.Logic.{_⊎_, ⊎-elim}
 use mathlib.Core.List.{List, [], _∷_, _++_, append-nil}
 use native.Mathlib.Omega.{arith}
-use lib.ListN.{length, length-append}
-use mathlib.Core.List.{List·Permᴰ, List·Permᴰ·nil, List·Permᴰ·cons, List·Permᴰ·swap, List·Permᴰ·trans, Permᴰ·refl, Permᴰ·symm, Permᴰ·middle}
+use lib.ListN.{length}
+use mathlib.Core.List.{List·Permᴰ, List·Permᴰ·nil, List·Permᴰ·cons, List·Permᴰ·swap, List·Permᴰ·trans, Permᴰ·symm, Permᴰ·middle}
 use Rattle.spec.specs.Bytes.{write, bytes-at}
 use Rattle.spec.specs.Run.{Run}
 use Rattle.spec.specs.Place.{runs-written}
-use Rattle.spec.proofs.ListsLaws.{All}
 use Rattle.spec.proofs.WriteLaws.{length-write, write-swap, write-same}
-use Rattle.spec.proofs.BlocksLaws.{Apart, Laid}
+use Rattle.spec.proofs.BlocksLaws.{Laid}
 use Rattle.spec.proofs.FreeListLaws.{Stands}
 use Rattle.spec.proofs.LaidLaws.{laid-perm}
 use Rattle.plan.specs.Written.{runs-put}

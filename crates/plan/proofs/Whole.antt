@@ -1,16 +1,16 @@
 -- What code writes one after the other is the plan written over the slice.
-use Prim.Native.Nat.{ℕ, suc, _+_, _-_, _*_, _≤_}
+use Prim.Native.Nat.{ℕ, _+_, _-_, _*_, _≤_}
 use mathlib.Core.Path.{_≡_, refl, sym, ap, ap₂, subst, _∙_}
 use mathlib.Core.List.{List, [], _∷_, _++_, map, append-assoc, append-nil, map-append}
 use native.Mathlib.Omega.{arith}
-use lib.ListN.{length, take, drop, length-append, length-drop, take-append-drop}
+use lib.ListN.{length, take, drop, length-append, length-drop}
 use lib.Seq.{take-at, drop-at, length-take-le, take-take, drop-length}
 use Rattle.spec.specs.Bytes.{write, zeros}
 use Rattle.spec.specs.Header.{layout4, format4, Counts, changed-header}
 use Rattle.spec.specs.Entry.{Entry}
 use Rattle.spec.specs.Run.{Run, run-bytes}
 use Rattle.spec.specs.Index.{Element, element-bytes, elements-bytes, index-bytes}
-use Rattle.spec.specs.Blocks.{free-blocks, free-list-written}
+use Rattle.spec.specs.Blocks.{free-list-written}
 use Rattle.spec.specs.Place.{at-block, new-run, element-of, runs-written}
 use Rattle.spec.proofs.ListsLaws.{All, all-front}
 use Rattle.header.proofs.Laws.{header-front}
@@ -18,7 +18,6 @@ use Rattle.spec.proofs.BytesLaws.{length-zeros}
 use Rattle.spec.proofs.WriteLaws.{length-write, write-left, write-right, write-behind, write-none}
 use Rattle.spec.proofs.BlocksLaws.{Laid}
 use Rattle.spec.proofs.LaidLaws.{laid-perm, laid-back, between-perm}
-use Rattle.elements.proofs.Laws.{element-size, elements-size}
 use Rattle.plan.specs.Written.{part-element, parts-written, part-runs, runs-put}
 use Rattle.plan.proofs.RunsWritten.{runs-perm, runs-joined, put-written, length-runs}
 
@@ -29,10 +28,10 @@ elements-joined [] ds = refl
 elements-joined (e ∷ es) ds = ap (λ l. element-bytes format4 e ++ l) (elements-joined es ds) ∙ sym (append-assoc (element-bytes format4 e) (elements-bytes format4 es) (elements-bytes format4 ds))
 
 -- ---- parts
--- the element and the bytes of the first part
-part-first : (g b : ℕ) (p : List Entry) → element-of (at-block (b - g) (new-run p)) ≡ part-element (b - g) p
+-- the element, the bytes and the block of a part's run
+part-element-is : (g b : ℕ) (p : List Entry) → element-of (at-block (b - g) (new-run p)) ≡ part-element (b - g) p
 unfolding element-of at-block new-run part-element
-part-first g b p = refl
+part-element-is g b p = refl
 
 part-bytes : (b : ℕ) (p : List Entry) → at-block b (new-run p) .bytes ≡ run-bytes p
 unfolding at-block new-run
@@ -58,7 +57,7 @@ parts-apart start g at (b ∷ bs) [] H A l a r = ap (λ x. x ++ A) (sym (write-n
 parts-apart start g at (b ∷ bs) (p ∷ ps) H A l (a, as′) r =
     let x : List ℕ = element-bytes format4 (part-element (b - g) p) in
     let y : List ℕ = elements-bytes format4 (map element-of (part-runs g bs ps)) in
-    let e : element-bytes format4 (element-of (at-block (b - g) (new-run p))) ≡ x = ap (element-bytes format4) (part-first g b p) in
+    let e : element-bytes format4 (element-of (at-block (b - g) (new-run p))) ≡ x = ap (element-bytes format4) (part-element-is g b p) in
     let q : length (element-bytes format4 (element-of (at-block (b - g) (new-run p))) ++ y) ≡ length x + length y = ap (λ (z : List ℕ). length (z ++ y)) e ∙ length-append x y in
     let t : at + (length x + length y) ≤ length H = omega (arith, r, q) in
     let m : length (write at x H) ≡ length H = length-write at x H (omega arith) in
@@ -109,9 +108,18 @@ beside-written D mb q ma area l h =
 
 -- ---- the whole image
 -- the elements of all runs
-pub elements-parts : (mb q ma : List Run) → elements-bytes format4 (map element-of (mb ++ q ++ ma)) ≡ elements-bytes format4 (map element-of mb) ++ elements-bytes format4 (map element-of q) ++ elements-bytes format4 (map element-of ma)
+elements-parts : (mb q ma : List Run) → elements-bytes format4 (map element-of (mb ++ q ++ ma)) ≡ elements-bytes format4 (map element-of mb) ++ elements-bytes format4 (map element-of q) ++ elements-bytes format4 (map element-of ma)
 elements-parts mb q ma =
     rw (map-append element-of (mb ++ q) ma, map-append element-of mb q, elements-joined (map element-of mb ++ map element-of q) (map element-of ma), elements-joined (map element-of mb) (map element-of q))
+
+-- and how many bytes they take
+pub elements-sum : (mb q ma : List Run)
+    → length (elements-bytes format4 (map element-of (mb ++ q ++ ma))) ≡ length (elements-bytes format4 (map element-of mb)) + length (elements-bytes format4 (map element-of q)) + length (elements-bytes format4 (map element-of ma))
+elements-sum mb q ma =
+    let B : List ℕ = elements-bytes format4 (map element-of mb) in
+    let P : List ℕ = elements-bytes format4 (map element-of q) in
+    let A : List ℕ = elements-bytes format4 (map element-of ma) in
+    ap length (elements-parts mb q ma) ∙ length-append (B ++ P) A ∙ ap (λ (k : ℕ). k + length A) (length-append B P)
 
 module _ (s : List ℕ) (n g D : ℕ) (mb ma : List Run) (bs : List ℕ) (parts : List (List Entry)) where
   abbrev q : List Run

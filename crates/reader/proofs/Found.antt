@@ -2,14 +2,14 @@
 use Prim.Native.Nat.{ℕ, _+_, _-_, _<_, _≤_}
 use mathlib.Core.Path.{_≡_, sym, ap, _∙_}
 use mathlib.Core.Bool.{Bool, true, false, not}
-use mathlib.Core.List.{List, [], _∷_}
+use mathlib.Core.List.{List}
 use mathlib.Core.Option.{none, some}
 use native.Mathlib.Omega.{arith}
 use native.Mathlib.Nat.{sub-zero}
 use lib.ListN.{length, getD, take}
-use lib.Seq.{length-take-le, take-length}
+use lib.Seq.{take-length}
 use lib.Dec.{ltb}
-use borrow.Author.Tests.{lt-ltb, le-ltb, lt-leb, le-leb, not-false}
+use borrow.Author.Tests.{lt-ltb, le-ltb, lt-leb, le-leb}
 use Rattle.spec.specs.Outcome.{ok}
 use Rattle.spec.specs.Bytes as BytesSpec
 use Rattle.spec.specs.Bytes.{write, bytes-at, no-zero, bytes-equal}
@@ -28,33 +28,21 @@ use Rattle.spec.specs.Answers.{look-up-answer, walk-answer}
 use Rattle.spec.specs.declared.LookUpAnswer.{LookUpAnswer}
 use Rattle.spec.specs.declared.WalkAnswer.{WalkAnswer}
 use Rattle.spec.proofs.OutcomeLaws.{same-value}
-use Rattle.spec.proofs.OrderLaws.{order-of}
 use Rattle.spec.proofs.PartLaws.{length-bytes-at}
-use Rattle.spec.proofs.RunLaws.{EntriesOk, head-bounds}
-use Rattle.spec.proofs.ReadLaws.{runs-ascend}
-use Rattle.spec.proofs.SearchLaws.{exactly, entries-ascend, lookup-by-successor}
+use Rattle.spec.proofs.SearchLaws.{exactly}
 use Rattle.index.specs.Elements.{elements-at}
 use Rattle.runs.proofs.Laws.{attribute-in, text-in}
 use Rattle.seek.specs.Spot as SpotSpec
-use Rattle.seek.specs.Spot.{spot-entry, SpotInside}
+use Rattle.seek.specs.Spot.{spot-entry}
 use Rattle.seek.specs.declared.Spot.{Spot}
-use Rattle.seek.proofs.Laws.{spot-short}
 use Rattle.inspect.specs.Overview.{AcceptedImage}
 use Rattle.inspect.proofs.Laws.{index-part, data-part}
-use Rattle.inspect.proofs.Accepted.{accepted-frame, accepted-runs}
+use Rattle.inspect.proofs.Accepted.{accepted-frame, accepted-sought, accepted-lookup}
 use Rattle.header.specs.Framed.{frame4}
 
 -- the entry whose body stands in the data area
 abbrev pub entry-in : List ℕ → ℕ → ℕ → List ℕ → Entry
 entry-in area z e h = record { headword = h; body = bytes-at (z + 1) (e - (z + 1)) area }
-
--- the headword of a spot has room in the buffer, and as many bytes as it says
-module _ (area : List ℕ) (p : Spot) (h : SpotInside area p) (n z e : ℕ) (q : p ≡ Spot.At n z e) where
-  pub spot-room : (word : List ℕ) → length word ≡ 256 → n ≤ length word
-  spot-room word l = omega (arith, spot-short area p h n z e q)
-
-  pub spot-front : (word : List ℕ) → length word ≡ 256 → n ≡ length (take n word)
-  spot-front word l = sym (length-take-le n word (spot-room word l))
 
 module _ (area : List ℕ) (z e : ℕ) (p : z + 2 ≤ e) (q : e ≤ length area) (out : List ℕ) where
   text-length : (h : List ℕ) → length (text (entry-in area z e h)) ≡ e - (z + 2)
@@ -85,18 +73,7 @@ module _ (s h out : List ℕ) (n d : ℕ) (a : AcceptedImage s n d) (t : Bool) (
       (sought : (rs : List Run) → runs-from format4 d (data-part s n) (elements-at (index-part s n) 0 e) ≡ ok rs → spot-entry (data-part s n) word p ≡ successor (below-of 0) false h (all-entries rs))
       (i : Image) (o : image-from s ≡ ok i) where
     found : lookup h (entries-of i) ≡ exactly h (spot-entry (data-part s n) word p)
-    unfolding Check.entries-of Header.format4
-    found =
-        let j : a .image ≡ i = same-value (a .image) i (sym (a .is) ∙ o) in
-        let rs : List Run = a .image .runs in
-        let r = accepted-runs s n d a e number in
-        let x : lookup h (all-entries rs) ≡ exactly h (successor (below-of 0) false h (all-entries rs)) =
-        known h (head-bounds h (sym rule ∙ not-false t q) .0) (all-entries rs) (entries-ascend format4 (order-of 0) rs (runs-ascend format4 d (data-part s n) (elements-at (index-part s n) 0 e) rs r)) in
-        rw (← j) (x ∙ ap (exactly h) (sym (sought rs r)))
-      where
-        known : (k : List ℕ) → 1 ≤ length k → (es : List Entry) → EntriesOk format4 [] es → lookup k es ≡ exactly k (successor (below-of 0) false k es)
-        known [] l es g = absurd (omega arith)
-        known (b ∷ k) l es g = lookup-by-successor format4 (order-of 0) b k [] es g
+    found = accepted-lookup s n d a e number (spot-entry (data-part s n) word p) h sought i o
 
     opened : look-up-in i h out ≡ text-fitted out (exactly h (spot-entry (data-part s n) word p))
     unfolding Calls.look-up-in
@@ -184,7 +161,7 @@ module _ (s h out text-out : List ℕ) (n d : ℕ) (a : AcceptedImage s n d) (ab
     walked i o =
         let j : a .image ≡ i = same-value (a .image) i (sym (a .is) ∙ o) in
         let f : i .frame ≡ frame4 n d = ap (λ (x : Image). x .frame) (sym j) ∙ accepted-frame s n d a in
-        let x : spot-entry (data-part s n) word p ≡ successor (below-of 0) above h (all-entries (i .runs)) = sought (i .runs) (rw (← j) (accepted-runs s n d a e number)) in
+        let x : spot-entry (data-part s n) word p ≡ successor (below-of 0) above h (entries-of i) = accepted-sought s n d a e number (spot-entry (data-part s n) word p) above h sought i o in
         rw (← rule, q, f, ← x)
 
     -- past the last

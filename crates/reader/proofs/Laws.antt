@@ -11,15 +11,15 @@ use Rattle.spec.specs.Blocks.{count-marks}
 use Rattle.spec.specs.Check as Check
 use Rattle.spec.specs.Check.{Image, slice-ok, image-from, image-in}
 use Rattle.spec.specs.Calls as Calls
-use Rattle.spec.specs.Calls.{text-fitted, look-up-in, entry-fitted, start-ok, walk-in, check, look-up-result, look-up, walk-result, walk}
+use Rattle.spec.specs.Calls.{look-up-in, walk-in, check, look-up-result, look-up, walk-result, walk}
 use Rattle.spec.specs.Answers as Answers
 use Rattle.spec.specs.Answers.{check-answer, look-up-answer, walk-answer}
 use Rattle.spec.specs.declared.CheckAnswer.{CheckAnswer}
 use Rattle.spec.specs.declared.LookUpAnswer.{LookUpAnswer}
 use Rattle.spec.specs.declared.WalkAnswer.{WalkAnswer}
 use Rattle.header.proofs.Laws.{slice-refused, slice-accepted, slice-has-header, slice-in-blocks, slice-holds}
-use Rattle.inspect.specs.Overview.{overview, viewed, AcceptedImage}
-use Rattle.inspect.proofs.Accepted.{accepted-index}
+use Rattle.inspect.specs.Overview.{overview, viewed}
+use Rattle.inspect.proofs.Accepted.{accepted-index, is-accepted, front-header}
 use Rattle.inspect.specs.declared.Inspected.{Inspected}
 use Rattle.inspect.proofs.Laws.{SoundImage, overview-refused, overview-sound, sound-figures}
 
@@ -51,7 +51,7 @@ module _ (s : List ℕ) (len : ℕ) (t : Bool) (slice : t ≡ accepted (slice-ok
     slice-front = sym (length-take-le len s (slice-holds s len (sym slice ∙ not-false t q)))
 
     pub slice-header : 256 ≤ length (take len s)
-    slice-header = rw (← slice-front) (slice-has-header s len (sym slice ∙ not-false t q))
+    slice-header = front-header s len (slice-holds s len (sym slice ∙ not-false t q)) (slice-has-header s len (sym slice ∙ not-false t q))
 
     pub slice-blocks : length (take len s) % 256 ≡ 0
     slice-blocks = rw (← slice-front) (slice-in-blocks s len (sym slice ∙ not-false t q))
@@ -59,7 +59,7 @@ module _ (s : List ℕ) (len : ℕ) (t : Bool) (slice : t ≡ accepted (slice-ok
     module _ (k : ℕ) (ms : List Bool) (r : Inspected) (seen : overview r ms ≡ viewed k (image-from (take len s))) where
       -- rows 3 to 10
       image-refused : (j : ℕ) → r ≡ Inspected.Refused j → image-in s len ≡ refused j
-      image-refused j h = sliced ∙ overview-refused k ms (image-from (take len s)) j (ap (λ (x : Inspected). overview x ms) (sym h) ∙ seen)
+      image-refused j h = sliced ∙ overview-refused k ms (image-from (take len s)) r seen j h
 
       pub check-refused : (j : ℕ) → r ≡ Inspected.Refused j → check-answer (CheckAnswer.Refused j) ≡ check s len
       unfolding Calls.check Answers.check-answer
@@ -77,7 +77,7 @@ module _ (s : List ℕ) (len : ℕ) (t : Bool) (slice : t ≡ accepted (slice-ok
 
       module _ (w n d : ℕ) (h : r ≡ Inspected.Sound w n d) where
         sound : SoundImage k ms (image-from (take len s)) w n d
-        sound = overview-sound k ms (image-from (take len s)) w n d (ap (λ (x : Inspected). overview x ms) (sym h) ∙ seen)
+        sound = overview-sound k ms (image-from (take len s)) r seen w n d h
 
         -- the four numbers
         pub check-counted : (c : ℕ) → c ≡ count-marks ms → check-answer (CheckAnswer.Counted w n d c) ≡ check s len
@@ -86,13 +86,9 @@ module _ (s : List ℕ) (len : ℕ) (t : Bool) (slice : t ≡ accepted (slice-ok
             let o : image-in s len ≡ ok (sound .image) = sliced ∙ sound .is in
             sym (rw o (ap ok (sound-figures k ms (image-from (take len s)) w n d sound c e)))
 
-        -- the image is accepted
-        pub accepted-image : AcceptedImage (take len s) n d
-        accepted-image = record { image = sound .image; is = sound .is; index-blocks = sound .index-blocks; data-blocks = sound .data-blocks }
-
-        -- and its data area starts inside it
+        -- the data area starts inside the image
         pub accepted-start : 256 + 256 * n ≤ length (take len s)
-        accepted-start = accepted-index (take len s) n d accepted-image
+        accepted-start = accepted-index (take len s) n d (is-accepted (take len s) k ms r seen w n d h)
 
         image-ok : image-in s len ≡ ok (sound .image)
         image-ok = sliced ∙ sound .is

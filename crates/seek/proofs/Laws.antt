@@ -1,10 +1,11 @@
 -- Laws of a search, for the crates above: where the entry found stands.
 use Prim.Native.Nat.{ℕ, _+_, _-_, _≤_}
-use mathlib.Core.Path.{_≡_}
+use mathlib.Core.Path.{_≡_, sym}
 use mathlib.Core.Bool.{false≢true}
 use mathlib.Core.List.{List}
-use lib.ListN.{length}
-use Rattle.spec.specs.Entry.{attribute}
+use native.Mathlib.Omega.{arith}
+use lib.ListN.{length, take}
+use lib.Seq.{length-take-le}
 use Rattle.seek.specs.Spot.{SpotInside}
 use Rattle.seek.specs.declared.Spot.{Spot}
 
@@ -28,3 +29,11 @@ module _ (area : List ℕ) (p : Spot) (h : SpotInside area p) (n z e : ℕ) (q :
   -- its headword has at most 248 bytes
   pub spot-short : n ≤ 248
   spot-short = h n z e q .4
+
+  -- has room in the buffer
+  pub spot-room : (word : List ℕ) → length word ≡ 256 → n ≤ length word
+  spot-room word l = omega (arith, spot-short)
+
+  -- and is its first n bytes
+  pub spot-front : (word : List ℕ) → length word ≡ 256 → n ≡ length (take n word)
+  spot-front word l = sym (length-take-le n word (spot-room word l))

@@ -1,22 +1,21 @@
 -- What each call of the claim gives on an accepted image: the first row that applies, else its answer and its bytes.
-use Prim.Native.Nat.{ℕ, _+_}
+use Prim.Native.Nat.{ℕ}
 use mathlib.Core.Path.{_≡_, refl, ap, ap₂, _∙_}
 use mathlib.Core.Bool.{Bool, true, false, not, _&&_, _||_}
 use mathlib.Core.List.{List, [], _∷_}
 use mathlib.Core.Option.{Option, none, some}
-use lib.ListN.{length, take, drop}
-use lib.Seq.{take-at}
+use lib.ListN.{length, take}
 use lib.Dec.{ltb}
 use Rattle.spec.specs.Outcome.{Outcome, refused, ok, _>>=_, _>>_, refuse_when_}
-use Rattle.spec.specs.Bytes.{write}
 use Rattle.spec.specs.Header.{writable}
 use Rattle.spec.specs.Entry.{Entry, headword-ok, attribute, text}
 use Rattle.spec.specs.Check.{Image, image-in, image-from, slice-ok, work-ok, entries-of}
-use Rattle.spec.specs.SortedList.{lookup, successor, remove}
+use Rattle.spec.specs.SortedList.{lookup, successor}
 use Rattle.spec.specs.Place.{Plan, plan-full, plan-written}
 use Rattle.spec.specs.Calls.{text-fitted, look-up-in, look-up-entry, look-up-result, look-up, entry-fitted, start-ok, walk-in, walk-entry, walk-result, walk, changeable, fitting, changed, plan-length, insert-plan, insert-result, insert, delete-plan, delete-result, delete, optimise-plan, given-up-zeroed, optimise-result, optimise}
 use Rattle.spec.specs.Claim.{look-up-call, walk-call, insert-call, delete-call, optimise-call, Observed, text-found, entry-found, done, tell-text, tell-entry, tell-removed, Performed, new-length, new-length-or, observed-text, observed-entry, observed-done, observed-removed, perform, Row, _if_, first-row, too-short, short-for-text, short-for-entry, is-there, insert-placing, delete-placing, optimise-placing, rows, expected}
 use Rattle.spec.proofs.OutcomeLaws.{next-ok}
+use Rattle.spec.proofs.WriteLaws.{written-front}
 
 -- a refusal by its number, or an answer
 abbrev verdict : {A : Type 0} → Option ℕ → A → Outcome A
@@ -43,11 +42,6 @@ pub in-told : (s : List ℕ) (L : ℕ) (i : Image) → image-in s L ≡ ok i →
 unfolding image-in
 in-told s L i h = let (u, a, k) = next-ok (slice-ok s L) (image-from (take L s)) i h in (a, k)
 
--- bytes written at the front of a slice, read again
-written-front : (x out : List ℕ) → take (length x) (write 0 x out) ≡ x
-unfolding write
-written-front x out = take-at x (drop (0 + length x) out) (length x) refl
-
 module _ (s : List ℕ) (L : ℕ) (i : Image) (got : image-in s L ≡ ok i) where
   short-text : (out : List ℕ) (o : Option Entry) → elim o [ none ↦ false | some e ↦ ltb (length out) (length (text e)) ] ≡ short-for-text out o
   unfolding short-for-text too-short
@@ -66,7 +60,7 @@ module _ (s : List ℕ) (L : ℕ) (i : Image) (got : image-in s L ≡ ok i) wher
       go : (n : Option ℕ) (o : Option Entry) → observed-text (look-up-result out (verdict n o) .answer) (look-up-result out (verdict n o) .text) ≡ expected n (tell-text o)
       go (some n) o = refl
       go none none = refl
-      go none (some e) = ap (λ (x : List ℕ). ok (text-found (attribute e) x (length (text e)))) (written-front (text e) out)
+      go none (some e) = ap (λ (x : List ℕ). ok (text-found (attribute e) x (length (text e)))) (written-front (text e) out (length (text e)) refl)
 
   short-entry : (out-headword out-text : List ℕ) (o : Option Entry)
       → elim o [ none ↦ false | some e ↦ ltb (length out-headword) (length (e .headword)) || ltb (length out-text) (length (text e)) ] ≡ short-for-entry out-headword out-text o
@@ -96,7 +90,7 @@ module _ (s : List ℕ) (L : ℕ) (i : Image) (got : image-in s L ≡ ok i) wher
       go (some n) o = refl
       go none none = refl
       go none (some e) =
-          ap₂ (λ (x y : List ℕ). ok (entry-found x y (attribute e) (length (e .headword)) (length (text e)))) (written-front (e .headword) out-headword) (written-front (text e) out-text)
+          ap₂ (λ (x y : List ℕ). ok (entry-found x y (attribute e) (length (e .headword)) (length (text e)))) (written-front (e .headword) out-headword (length (e .headword)) refl) (written-front (text e) out-text (length (text e)) refl)
 
   -- rows 2 and 11 of a changing call, then what follows
   changes : {A : Type 0} (work : List ℕ) (k : Image → Outcome A)

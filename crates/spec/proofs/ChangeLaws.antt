@@ -5,9 +5,8 @@ use mathlib.Core.Logic.{_⊎_, inl, inr}
 use mathlib.Core.List.{List, [], _∷_, _++_, map, map-append}
 use native.Mathlib.Omega.{arith}
 use native.Mathlib.Nat.{zero-add}
-use lib.ListN.{length, take, length-append, length-drop}
+use lib.ListN.{length, length-append, length-drop}
 use Rattle.spec.specs.Outcome.{ok}
-use Rattle.spec.specs.Lists.{all}
 use Rattle.spec.specs.Bytes.{blocks-for}
 use Rattle.spec.specs.Header.{Format, Lawful}
 use Rattle.spec.specs.Entry.{Entry}
@@ -64,15 +63,15 @@ abbrev heads : List Run → List (List ℕ)
 heads rs = map (λ r. r .headword) rs
 
 -- elements with the same headwords take the same bytes
-same-bytes : (F : Format) (rs qs : List Run) → heads rs ≡ heads qs → length (elements-bytes F (map element-of rs)) ≡ length (elements-bytes F (map element-of qs))
+same-length : (F : Format) (rs qs : List Run) → heads rs ≡ heads qs → length (elements-bytes F (map element-of rs)) ≡ length (elements-bytes F (map element-of qs))
 unfolding elements-bytes element-bytes element-of
-same-bytes F [] [] e = refl
-same-bytes F [] (q ∷ qs) e = absurd (omega (arith, ap length e))
-same-bytes F (r ∷ rs) [] e = absurd (omega (arith, ap length e))
-same-bytes F (r ∷ rs) (q ∷ qs) e =
+same-length F [] [] e = refl
+same-length F [] (q ∷ qs) e = absurd (omega (arith, ap length e))
+same-length F (r ∷ rs) [] e = absurd (omega (arith, ap length e))
+same-length F (r ∷ rs) (q ∷ qs) e =
     let h : r .headword ≡ q .headword = cc in
     let t : heads rs ≡ heads qs = cc in
-    simp (length-append, length-to-little-endian, h) (omega (arith, same-bytes F rs qs t))
+    simp (length-append, length-to-little-endian, h) (omega (arith, same-length F rs qs t))
 
 -- and the same index
 same-need : (F : Format) (rs qs : List Run) → heads rs ≡ heads qs → index-need F (map element-of rs) ≡ index-need F (map element-of qs)
@@ -80,7 +79,7 @@ unfolding index-need
 same-need F [] [] e = refl
 same-need F [] (q ∷ qs) e = absurd (omega (arith, ap length e))
 same-need F (r ∷ rs) [] e = absurd (omega (arith, ap length e))
-same-need F (r ∷ rs) (q ∷ qs) e = ap (λ (k : ℕ). blocks-for (k + 4)) (same-bytes F (r ∷ rs) (q ∷ qs) e)
+same-need F (r ∷ rs) (q ∷ qs) e = ap (λ (k : ℕ). blocks-for (k + 4)) (same-length F (r ∷ rs) (q ∷ qs) e)
 
 -- placed runs keep their headwords
 place-heads : (g D : ℕ) (there rs : List Run) → heads (place g D there rs .runs) ≡ heads rs

@@ -35,8 +35,8 @@ use Rattle.runs.specs.Step.{step-entry, Kept}
 use Rattle.runs.proofs.Laws.{inside-short, step-less, told-broken, told-end, told-entry}
 use Rattle.runs.specs.declared.Step.{Step}
 use Rattle.index.specs.Elements as Elements
-use Rattle.index.specs.Elements.{element-end, element-headword, element-at, elements-at, Inside}
-use Rattle.index.proofs.Laws.{inside-start, inside-end, inside-next, elements-next, element-headword-length}
+use Rattle.index.specs.Elements.{element-end, element-at, elements-at, Inside}
+use Rattle.index.proofs.Laws.{here-end, here-next, inside-start, inside-next, elements-next, element-headword-length}
 use Rattle.marks.specs.Marks.{with-range}
 use Rattle.tally.specs.Tally.{covered, tally, runs-answer, last-below, Sized, Started}
 use Rattle.tally.specs.declared.Runs.{Runs}
@@ -392,10 +392,6 @@ module _ (index : List ℕ) (at left : ℕ) (standing : Inside index at left) (s
   pub number-inside : at + 2 ≤ length index
   number-inside = inside-start index at left standing (omega arith)
 
-  -- so does its headword, and its zero byte
-  pub headword-inside : (end : ℕ) → end ≡ element-end index at → end < length index
-  headword-inside end e = rw e (inside-end index at left standing (omega arith))
-
 -- the walk inside the run of an element, in the terms of the code
 pub record Underway (index area : List ℕ) (D words blocks at left b size : ℕ) (run : List ℕ) (end : ℕ) (word : List ℕ) (len pos count : ℕ) : Type 0 where
   pub standing : Inside index at left
@@ -444,7 +440,7 @@ module _ (index area : List ℕ) (n D : ℕ) (ms₀ : List Bool) (words blocks a
             → Underway index area D words blocks at left b size (run-slice area b size) end word′ (end - (at + 2)) x 1
         walk-reading there w l few =
             let told = sized .1 (omega arith) in
-            let past : end < length index = headword-inside index at left (v .standing) some-left end e in
+            let past : end < length index = here-end index at left end (v .standing) e (omega arith) in
             record {
               standing = v .standing;
               some-left = some-left;
@@ -509,7 +505,7 @@ module _ (index area : List ℕ) (D words blocks at left b size : ℕ) (run : Li
     (u : Underway index area D words blocks at left b size run end word len pos count) where
   -- the other elements stand behind
   pub walk-behind : Inside index (end + 1) (left - 1)
-  walk-behind = rw (u .ended) (inside-next index at left (u .standing) (omega (arith, u .some-left)))
+  walk-behind = here-next index at left end (u .standing) (u .ended) (omega (arith, u .some-left))
 
   -- the headword in the buffer has as many bytes as are counted
   pub walk-front : (word′ : List ℕ) → length word′ ≡ length word → len ≡ length (take len word′)

@@ -1,14 +1,14 @@
--- Laws of the run concerned: where its element stands, that its run is the one of the specification, and what its blocks are beside those of the other runs.
+-- Laws of the run concerned: where its element stands, that its run is the one of the specification, and how many blocks the other runs take.
 use Prim.Native.Nat.{ℕ, zero, suc, _+_, _-_, _*_, _<_, _≤_}
 use mathlib.Core.Path.{_≡_, refl, sym, ap, ap₂, subst, _∙_}
 use mathlib.Core.Logic.{_⊎_, inl, inr, ⊎-elim}
-use mathlib.Core.Bool.{Bool, true, false, not, _&&_, _||_, true≢false}
-use mathlib.Core.List.{List, [], _∷_, _++_, map, cons-ne-nil, Permᴰ·middle}
+use mathlib.Core.Bool.{Bool, true, false, not, true≢false}
+use mathlib.Core.List.{List, [], _∷_, _++_, map, cons-ne-nil}
 use mathlib.Core.Option.{Option, none, some}
 use native.Mathlib.Omega.{arith}
-use lib.ListN.{length, drop, length-append, length-map}
+use lib.ListN.{length, drop, length-map}
 use lib.Seq.{drop-drop}
-use lib.Dec.{leb, ltb}
+use lib.Dec.{eqb}
 use borrow.Author.Needs.{needs}
 use borrow.Author.Tests.{eq-eqb, ne-eqb}
 use Rattle.spec.specs.Outcome.{ok}
@@ -22,22 +22,20 @@ use Rattle.spec.specs.Header.{Format, format4}
 use Rattle.spec.specs.Entry.{Entry}
 use Rattle.spec.specs.Run.{Run, entries-from}
 use Rattle.spec.specs.Index.{Element, elements-bytes}
-use Rattle.spec.specs.Blocks.{covers, is-free, run-blocks}
+use Rattle.spec.specs.Blocks.{run-blocks}
 use Rattle.spec.specs.Check.{ends-below, run-from, runs-from, next-headword}
 use Rattle.spec.specs.Place as Place
 use Rattle.spec.specs.Place.{target-run, element-of}
-use Rattle.spec.proofs.ListsLaws.{All, all-map, all-back, or-false}
+use Rattle.spec.proofs.ListsLaws.{All, all-map, all-back}
 use Rattle.spec.proofs.OutcomeLaws.{ok-not-refused}
 use Rattle.spec.proofs.OrderLaws.{order-of}
 use Rattle.spec.proofs.RunLaws.{EntriesOk}
-use Rattle.spec.proofs.ReadLaws.{RunsAscend, run-told, no-runs, runs-first, runs-ascend}
-use Rattle.spec.proofs.BlocksLaws.{Laid, covers-true, free-no, free-yes, apart-free}
-use Rattle.spec.proofs.LaidLaws.{laid-perm}
+use Rattle.spec.proofs.ReadLaws.{RunsAscend, ascend-back, run-told, no-runs, runs-first, runs-elements, runs-ascend}
 use Rattle.marks.proofs.Laws.{drop-take}
 use Rattle.index.specs.Elements as Elements
 use Rattle.index.specs.Elements.{element-end, element-headword, element-at, elements-at, Inside, concerned-from}
 use Rattle.index.specs.declared.Place as IndexPlace
-use Rattle.index.proofs.Laws.{element-end-past, inside-start, inside-end, inside-next, elements-next, concerned-rule, concerned-stops}
+use Rattle.index.proofs.Laws.{element-end-past, inside-start, inside-end, inside-next, elements-next, elements-count, concerned-rule, concerned-stops}
 use Rattle.elements.specs.Renewed as Renewed
 use Rattle.elements.specs.Renewed.{elements-end}
 use Rattle.elements.proofs.Laws.{elements-length, elements-split, inside-split, ends-split, end-turn}
@@ -56,6 +54,15 @@ pub start-some : (b size : ℕ) → (size ≡ 0 → ⊥) → 256 * b + 2 ≡ ent
 unfolding entries-start
 start-some b size z = rw (ne-eqb size 0 z, entries-start)
 
+-- not before the run
+pub start-least : (b size : ℕ) → 256 * b ≤ entries-start b size
+unfolding entries-start
+start-least b size = go (eqb size 0)
+  where
+    go : (t : Bool) → 256 * b ≤ (elim t [ true ↦ 256 * b | false ↦ 256 * b + 2 ])
+    go true = omega arith
+    go false = omega arith
+
 -- every need of entries_start
 pub ruleset start-laws = (start-none, start-some, needs)
 
@@ -66,16 +73,15 @@ pub record Known (F : Format) (D : ℕ) (area : List ℕ) (r : Run) : Type 0 whe
   pub read : run-from F D area (element-of r) next ≡ ok r
 
 module _ (F : Format) (D : ℕ) (area : List ℕ) where
-  -- runs that were read have the elements they were read by
-  pub runs-known : (es : List Element) (rs : List Run) → runs-from F D area es ≡ ok rs → (map element-of rs ≡ es) × All (Known F D area) rs
+  -- so are all runs that were read
+  pub runs-known : (es : List Element) (rs : List Run) → runs-from F D area es ≡ ok rs → All (Known F D area) rs
   unfolding element-of
-  runs-known [] rs h = rw (no-runs F D area rs h) (refl, tt)
+  runs-known [] rs h = rw (no-runs F D area rs h) tt
   runs-known (e ∷ es) rs h =
       let (r, qs, p, u, k) = runs-first F D area e es rs h in
       let t = run-told F D area e (next-headword es) r u in
       let m : element-of r ≡ e = rw (t .block, t .headword) in
-      let i = runs-known es qs k in
-      rw p (ap₂ (λ (a : Element) (l : List Element). a ∷ l) m (i .0), (record { next = next-headword es; read = rw m u }, i .1))
+      rw p (record { next = next-headword es; read = rw m u }, runs-known es qs k)
 
 -- lists that are the same have the same first element
 same-first : {A : Type 0} (a b : A) (l m : List A) → _≡_ {A = List A} (a ∷ l) (b ∷ m) → a ≡ b
@@ -156,11 +162,6 @@ module _ (F : Format) (h : List ℕ) where
         let v : ends-below F (some (r .headword)) (f ∷ o) ≡ true = rw s at e in
         let w : F .below (q .headword) (r .headword) ≡ true = rw b at (starts-below [] (r .headword) f o u v) in
         (a, all-above r rs p (order .transitive h (q .headword) (r .headword) a w))
-
-  -- runs behind others ascend
-  ascend-back : (rs qs : List Run) → RunsAscend F (rs ++ qs) → RunsAscend F qs
-  ascend-back [] qs p = p
-  ascend-back (r ∷ rs) qs p = ascend-back rs qs (p .3)
 
 -- ---- where the element of the run concerned stands
 -- of n elements so many from `at` on, the first of which is not above h, or the first of all
@@ -320,14 +321,14 @@ module _ (index h : List ℕ) (n : ℕ) (some-elements : n ≡ 0 → ⊥) (all-i
           bytes = bytes-parts end ends;
         }
       where
-        all-known : (map element-of rs ≡ elements-at index 0 n) × All (Known format4 D area) rs
+        all-known : All (Known format4 D area) rs
         all-known = runs-known format4 D area (elements-at index 0 n) rs read
 
         d : Parted rs (elements-at index 0 (n - c .left)) (element-at index (c .at)) (elements-at index (element-end index (c .at) + 1) (c .left - 1))
-        d = parted rs (elements-at index 0 (n - c .left)) (element-at index (c .at)) (elements-at index (element-end index (c .at) + 1) (c .left - 1)) (all-known .0 ∙ elements-parts)
+        d = parted rs (elements-at index 0 (n - c .left)) (element-at index (c .at)) (elements-at index (element-end index (c .at) + 1) (c .left - 1)) (runs-elements format4 D area (elements-at index 0 n) rs read ∙ elements-parts)
 
         ascending : RunsAscend format4 (d .run ∷ d .after)
-        ascending = ascend-back format4 h (d .before) (d .run ∷ d .after) (rw (d .split) at (runs-ascend format4 D area (elements-at index 0 n) rs read))
+        ascending = ascend-back format4 (d .before) (d .run ∷ d .after) (rw (d .split) at (runs-ascend format4 D area (elements-at index 0 n) rs read))
 
         above : All (λ q. format4 .below h (q .headword) ≡ true) (d .after)
         above = behind-above (element-end index (c .at) + 1) (c .left - 1) (d .after) (d .after-is) (⊎-elim (λ z. inl (omega arith)) inr stops) (ascending .3)
@@ -336,7 +337,7 @@ module _ (index h : List ℕ) (n : ℕ) (some-elements : n ≡ 0 → ⊥) (all-i
         t = ap (target-run format4 h) (d .split) ∙ target-at format4 h (d .before) (d .run) (d .after) (first-or-low (d .before) (d .run) (d .before-is) (d .run-is)) above
 
         known : Known format4 D area (d .run)
-        known = all-back (Known format4 D area) (d .before) (d .run ∷ d .after) (rw (d .split) at (all-known .1)) .0
+        known = all-back (Known format4 D area) (d .before) (d .run ∷ d .after) (rw (d .split) at all-known) .0
 
         own : (d .run .block ≡ b) × (d .run .size ≡ size) × (1 ≤ size)
         own = run-placed (d .run) known (d .run-is)
@@ -375,43 +376,6 @@ numbers-within F D area index at (suc n) rs h =
     let t = run-told F D area (element-at index at) (next-headword (elements-at index (element-end index at + 1) n)) r u in
     (omega (arith, t .block, t .inside), numbers-within F D area index (element-end index at + 1) n qs k)
 
--- so many elements are
-elements-count : (index : List ℕ) (at n : ℕ) → length (elements-at index at n) ≡ n
-unfolding Elements.elements-at
-elements-count index at zero = refl
-elements-count index at (suc n) = ap suc (elements-count index (element-end index at + 1) n)
-
--- as many runs are read as there are elements
-pub runs-count : (F : Format) (D : ℕ) (area index : List ℕ) (at n : ℕ) (rs : List Run) → runs-from F D area (elements-at index at n) ≡ ok rs → length rs ≡ n
-runs-count F D area index at n rs h = sym (length-map rs element-of) ∙ ap length (runs-known F D area (elements-at index at n) rs h .0) ∙ elements-count index at n
-
--- a block is free of runs in any order
-free-later : (x : List Run) (r : Run) (y : List Run) (b : ℕ) → is-free (x ++ r ∷ y) b ≡ is-free (r ∷ (x ++ y)) b
-unfolding is-free Lists.any
-free-later x r y b = ap not (any-later x)
-  where
-    or-swap : (s t u : Bool) → s || (t || u) ≡ t || (s || u)
-    or-swap true true u = refl
-    or-swap true false u = refl
-    or-swap false t u = refl
-
-    any-later : (x : List Run) → Lists.any (covers b) (x ++ r ∷ y) ≡ covers b r || Lists.any (covers b) (x ++ y)
-    any-later [] = refl
-    any-later (q ∷ x) = ap (λ (t : Bool). covers b q || t) (any-later x) ∙ or-swap (covers b q) (covers b r) (Lists.any (covers b) (x ++ y))
-
--- beside the others a block is free if it was free, or is one of the run's
-free-beside : (D : ℕ) (x : List Run) (r : Run) (y : List Run) (b : ℕ) → Laid D (x ++ r ∷ y) → is-free (x ++ y) b ≡ is-free (x ++ r ∷ y) b || covers b r
-free-beside D x r y b laid = go (covers b r) refl
-  where
-    apart : Laid D (r ∷ (x ++ y))
-    apart = laid-perm D (Permᴰ·middle r x y) laid
-
-    go : (t : Bool) → covers b r ≡ t → is-free (x ++ y) b ≡ is-free (x ++ r ∷ y) b || covers b r
-    go true e =
-        let (p, q) = covers-true b r e in
-        rw (free-later x r y b, free-yes b r (x ++ y) e, e) (apart-free b (r .block) (r .size) (x ++ y) p q (apart .2))
-    go false e = rw (free-later x r y b, free-no b r (x ++ y) e, e) (or-false (is-free (x ++ y) b))
-
 -- the blocks of runs taken apart at one
 blocks-beside : (x : List Run) (r : Run) (y : List Run) → run-blocks (x ++ r ∷ y) ≡ run-blocks (x ++ y) + r .size
 unfolding run-blocks
@@ -427,16 +391,6 @@ module _ (index area : List ℕ) (n : ℕ) (h : List ℕ) (rs : List Run) (t : T
   pub told-after : length (target-run format4 h rs .after) ≡ t .after
   told-after = sym (length-map (target-run format4 h rs .after) element-of) ∙ ap length (sym (told .after)) ∙ elements-count index (t .end) (t .after)
 
-  -- with no run there are none; else all are those before it, itself, and those behind it
-  pub told-count : ((t .size ≡ 0) × (length rs ≡ 0) × (t .before ≡ 0) × (t .after ≡ 0)) ⊎ ((1 ≤ t .size) × (length rs ≡ t .before + 1 + t .after))
-  told-count = go (told .run)
-    where
-      go : NoRun area rs (target-run format4 h rs) t ⊎ OneRun area rs (target-run format4 h rs) t
-          → ((t .size ≡ 0) × (length rs ≡ 0) × (t .before ≡ 0) × (t .after ≡ 0)) ⊎ ((1 ≤ t .size) × (length rs ≡ t .before + 1 + t .after))
-      go (inl v) = inl (v .size, ap length (v .none), sym told-before ∙ ap length (v .before), sym told-after ∙ ap length (v .after))
-      go (inr v) =
-          inr (v .some-blocks, omega (arith, ap length (v .among), length-append (target-run format4 h rs .before) (v .run ∷ target-run format4 h rs .after), told-before, told-after))
-
   -- the blocks of all runs are those of the others and its own
   pub told-blocks : run-blocks rs ≡ run-blocks (target-run format4 h rs .before ++ target-run format4 h rs .after) + t .size
   unfolding run-blocks
@@ -445,13 +399,3 @@ module _ (index area : List ℕ) (n : ℕ) (h : List ℕ) (rs : List Run) (t : T
       go : (c : Place.Target) → NoRun area rs c t ⊎ OneRun area rs c t → run-blocks rs ≡ run-blocks (c .before ++ c .after) + t .size
       go c (inl v) = rw (v .none, v .before, v .after, v .size)
       go c (inr v) = ap run-blocks (v .among) ∙ blocks-beside (c .before) (v .run) (c .after) ∙ rw (v .size)
-
-  -- a block is free beside the others if it was free, or is one of its blocks
-  pub told-freed : (d : ℕ) → Laid d rs → (b : ℕ)
-      → is-free (target-run format4 h rs .before ++ target-run format4 h rs .after) b ≡ (is-free rs b || (leb (t .block) b && ltb b (t .block + t .size)))
-  unfolding is-free covers Lists.any
-  told-freed d laid b = go (target-run format4 h rs) (told .run)
-    where
-      go : (c : Place.Target) → NoRun area rs c t ⊎ OneRun area rs c t → is-free (c .before ++ c .after) b ≡ (is-free rs b || (leb (t .block) b && ltb b (t .block + t .size)))
-      go c (inl v) = rw (v .none, v .before, v .after)
-      go c (inr v) = rw (← v .block, ← v .size, v .among) (free-beside d (c .before) (v .run) (c .after) b (rw (v .among) at laid))

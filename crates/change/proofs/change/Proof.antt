@@ -1,93 +1,70 @@
+-- `change` meets its contract.
 use mathlib.Core.Path.{refl, sym}
 use native.Mathlib.Omega.{arith}
 use lib.Seq.{length-take-le}
-use Rattle.change.proofs.FinishLaws.{accepted-few, change-index, front-whole, begins, still-ready}
+use Rattle.change.proofs.FinishLaws.{accepted-few, change-index, front-blocks, begins, still-ready}
 use borrow.Author.Needs.{needs}
 use Rattle.change.proofs.change.Statement.{statement}
 use Rattle.change.proofs.change.Tie as tie
-use Rattle.change.proofs.change.Reads as reads
-use Rattle.change.proofs.change.Lts as lts
-use Rattle.change.proofs.finish.Reads as finish-reads
-use Rattle.change.proofs.grow.Reads as grow-reads
-use Rattle.change.proofs.measure_change.Reads as measure-change-reads
-use Rattle.marks.proofs.mark_range.Reads as mark-range-reads
 
--- src/lib.rt:356:28
 slice-reshare-prefix-measure-change : tie.Need-slice-reshare-prefix-measure-change
 slice-reshare-prefix-measure-change c = search needs
 
--- src/lib.rt:356:28
 slice-aggregate-measure-change : tie.Need-slice-aggregate-measure-change
 slice-aggregate-measure-change c = sym (length-take-le _ _ (c .before .before .before .before .before .before .pre .1 .0 .0))
 
--- src/lib.rt:356:9
 measure-change-requires : tie.Need-measure-change-requires
 measure-change-requires c κs =
     let p = c .before .before .before .before .before .before .pre in
-    (p .0, (front-whole (c .before .before .before .before .before .before .args .image .now) (c .before .before .before .before .before .before .args .len) (p .1 .0 .0) (p .1 .0 .1), p .1 .1 .1 .0 .0, p .1 .1 .1 .0 .1))
+    (p .0, (front-blocks (c .before .before .before .before .before .before .args .image .now) (c .before .before .before .before .before .before .args .len) (p .1 .0 .0) (p .1 .0 .1), p .1 .1 .1 .0 .0, p .1 .1 .1 .0 .1))
 
--- src/lib.rt:357:16
 add-if1 : tie.Need-add-if1
 add-if1 c = omega (arith, accepted-few _ _ _ (c .before .before .before .before .before .before .before .before .pre .0), c .before .measure-change .ensures .1 .1)
 
--- src/lib.rt:358:9
 same-length : tie.Need-same-length
 same-length c = search needs
 
--- src/lib.rt:358:9
 returns : tie.Need-returns
 returns c = (change-index (c .before .before .before .before .before .before .before .before .before .args .image .now) (c .before .before .before .before .before .before .before .before .before .args .len) _ _ _ _ _ (c .before .before .measure-change .result) (c .before .before .before .before .before .before .before .before .before .pre .0) (c .before .before .measure-change .ensures .0) (c .if1 .taken), (refl, refl))
 
--- src/lib.rt:360:5
 mark-range-requires : tie.Need-mark-range-requires
 mark-range-requires c κs = omega (arith, c .before .before .before .measure-change .ensures .1 .0, c .before .before .before .before .before .before .before .before .before .before .pre .1 .0 .3)
 
--- src/lib.rt:362:9
 grow-requires : tie.Need-grow-requires
 grow-requires c κs =
     let p = c .before .before .before .before .before .before .before .before .before .before .before .before .before .before .before .before .before .before .pre in
     (begins (c .before .before .before .before .before .before .before .before .before .before .before .before .before .before .before .before .before .before .args .image .now) (c .before .before .before .before .before .before .before .before .before .before .before .before .before .before .before .before .before .before .args .len) (c .before .before .before .before .before .before .before .before .before .before .before .before .before .before .before .before .before .before .args .n) (c .before .before .before .before .before .before .before .before .before .before .before .before .before .before .before .before .before .before .args .d) (c .before .before .before .before .before .before .before .before .before .before .before .before .before .before .before .before .before .before .args .h .now) (c .before .before .before .before .before .before .before .before .before .before .before .before .before .before .before .before .before .before .args .body .now) (c .before .before .before .before .before .before .before .before .before .before .before .before .before .before .before .before .before .before .args .fresh) (c .before .before .before .before .before .before .before .before .before .before .before .before .before .before .before .before .before .before .args .words) (c .before .before .before .before .before .before .before .before .before .before .before .measure-change .result) _ _ (p .0) (p .1 .0 .0) (p .1 .0 .1) (c .before .before .before .before .before .before .before .before .before .before .before .measure-change .ensures .0) (p .1 .1 .0) (p .1 .1 .1 .1) (c .before .before .before .before .before .before .before .mark-range .ensures) (c .before .before .before .before .before .before .before .before .before .if1 .left) (p .1 .1 .1 .0 .0) (p .1 .1 .1 .0 .1), (c .before .before .before .if2 .taken, p .1 .0 .0, p .1 .0 .2, search needs))
 
--- src/lib.rt:362:9
 same-length-2 : tie.Need-same-length-2
 same-length-2 c = search needs
 
--- src/lib.rt:362:9
 same-length-3 : tie.Need-same-length-3
 same-length-3 c = search needs
 
--- src/lib.rt:362:9
 same-length-4 : tie.Need-same-length-4
 same-length-4 c = search needs
 
--- src/lib.rt:362:9
 returns-2 : tie.Need-returns-2
 returns-2 c = search needs
 
--- src/lib.rt:377:30
 slice-aggregate-finish : tie.Need-slice-aggregate-finish
 slice-aggregate-finish c = search needs
 
--- src/lib.rt:376:5
 finish-requires : tie.Need-finish-requires
 finish-requires c κs =
     let p = c .before .before .before .before .before .before .before .before .before .before .before .before .before .before .before .before .before .before .before .pre in
     let b = begins (c .before .before .before .before .before .before .before .before .before .before .before .before .before .before .before .before .before .before .before .args .image .now) (c .before .before .before .before .before .before .before .before .before .before .before .before .before .before .before .before .before .before .before .args .len) (c .before .before .before .before .before .before .before .before .before .before .before .before .before .before .before .before .before .before .before .args .n) (c .before .before .before .before .before .before .before .before .before .before .before .before .before .before .before .before .before .before .before .args .d) (c .before .before .before .before .before .before .before .before .before .before .before .before .before .before .before .before .before .before .before .args .h .now) (c .before .before .before .before .before .before .before .before .before .before .before .before .before .before .before .before .before .before .before .args .body .now) (c .before .before .before .before .before .before .before .before .before .before .before .before .before .before .before .before .before .before .before .args .fresh) (c .before .before .before .before .before .before .before .before .before .before .before .before .before .before .before .before .before .before .before .args .words) (c .before .before .before .before .before .before .before .before .before .before .before .before .measure-change .result) _ _ (p .0) (p .1 .0 .0) (p .1 .0 .1) (c .before .before .before .before .before .before .before .before .before .before .before .before .measure-change .ensures .0) (p .1 .1 .0) (p .1 .1 .1 .1) (c .before .before .before .before .before .before .before .before .mark-range .ensures) (c .before .before .before .before .before .before .before .before .before .before .if1 .left) (p .1 .1 .1 .0 .0) (p .1 .1 .1 .0 .1) in
     (still-ready _ _ _ _ _ _ _ _ _ b _ (omega (arith, c .before .before .before .before .if2 .left)), (p .1 .0 .0, p .1 .0 .2, search needs))
 
--- src/lib.rt:336:1
 same-length-5 : tie.Need-same-length-5
 same-length-5 c = search needs
 
--- src/lib.rt:336:1
 same-length-6 : tie.Need-same-length-6
 same-length-6 c = search needs
 
--- src/lib.rt:336:1
 same-length-7 : tie.Need-same-length-7
 same-length-7 c = search needs
 
--- src/lib.rt:336:1
 returns-3 : tie.Need-returns-3
 returns-3 c = search needs
 

@@ -1,3 +1,4 @@
+-- `copy_marks` meets its contract.
 use Prim.Native.Nat.{_-_, _≤_}
 use mathlib.Core.Path.{_≡_, refl}
 use mathlib.Core.List.{_++_}
@@ -7,8 +8,6 @@ use borrow.Author.Needs.{needs}
 use Rattle.change.proofs.CodeLaws.{marks-turn, marks-end}
 use Rattle.change.proofs.copy_marks.Statement.{statement}
 use Rattle.change.proofs.copy_marks.Tie as tie
-use Rattle.change.proofs.copy_marks.Reads as reads
-use Rattle.change.proofs.copy_marks.Lts as lts
 
 abbrev Inv-loop : tie.InvT-loop
 Inv-loop dst₀ src i₀ dst i = (take i dst ++ drop i src ≡ src) × (i ≤ length src) × (length dst ≡ length src)
@@ -16,43 +15,33 @@ Inv-loop dst₀ src i₀ dst i = (take i dst ++ drop i src ≡ src) × (i ≤ le
 abbrev μ-loop : tie.MeasureT-loop
 μ-loop dst₀ src i₀ dst i = length src - i
 
--- src/lib.rt:62:5
 loop-holds : tie.Need-loop-holds Inv-loop μ-loop
 loop-holds c = (refl, omega arith, search needs)
 
--- src/lib.rt:63:18
 mul-dst : tie.Need-mul-dst Inv-loop μ-loop
 mul-dst c = search needs
 
--- src/lib.rt:63:18
 shared-slice-read-dst : tie.Need-shared-slice-read-dst Inv-loop μ-loop
 shared-slice-read-dst c = search needs
 
--- src/lib.rt:63:9
 mul-dst-2 : tie.Need-mul-dst-2 Inv-loop μ-loop
 mul-dst-2 c = search needs
 
--- src/lib.rt:63:9
 slice-write-dst : tie.Need-slice-write-dst Inv-loop μ-loop
 slice-write-dst c = search needs
 
--- src/lib.rt:64:9
 add-i : tie.Need-add-i Inv-loop μ-loop
 add-i c = search needs
 
--- src/lib.rt:62:5
 loop-less : tie.Need-loop-less Inv-loop μ-loop
 loop-less c = search needs
 
--- src/lib.rt:62:5
 loop-again : tie.Need-loop-again Inv-loop μ-loop
 loop-again c = (search (marks-turn, needs), omega arith, simp length-set (search needs))
 
--- src/lib.rt:57:1
 same-length : tie.Need-same-length Inv-loop μ-loop
 same-length c = search needs
 
--- src/lib.rt:57:1
 returns : tie.Need-returns Inv-loop μ-loop
 returns c = search (marks-end, needs)
 

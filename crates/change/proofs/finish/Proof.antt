@@ -1,114 +1,90 @@
+-- `finish` meets its contract.
 use mathlib.Core.Path.{refl, sym}
 use native.Mathlib.Omega.{arith}
 use lib.Seq.{length-take-le}
-use Rattle.change.proofs.FinishLaws.{marks-long, run-few, end-behind, finish-blocks, finish-length, copy-stands, copy-ready, copy-roomy, copy-last, finish-done}
+use Rattle.parts.proofs.PartLaws.{copied-front}
+use Rattle.change.proofs.Laws.{run-few}
+use Rattle.change.proofs.FinishLaws.{marks-long, end-behind, finish-blocks, finish-length, copy-ready, copy-roomy, copy-last, finish-done}
 use borrow.Author.Needs.{needs}
 use Rattle.change.proofs.finish.Statement.{statement}
 use Rattle.change.proofs.finish.Tie as tie
-use Rattle.change.proofs.finish.Reads as reads
-use Rattle.change.proofs.finish.Lts as lts
-use Rattle.byteops.proofs.copy.Reads as copy-reads
-use Rattle.change.proofs.plan_end.Reads as plan-end-reads
-use Rattle.change.proofs.write_change.Reads as write-change-reads
 
--- src/lib.rt:194:25
 slice-reshare-prefix-plan-end : tie.Need-slice-reshare-prefix-plan-end
 slice-reshare-prefix-plan-end c = search needs
 
--- src/lib.rt:194:25
 slice-aggregate-plan-end : tie.Need-slice-aggregate-plan-end
 slice-aggregate-plan-end c = sym (length-take-le _ _ (c .before .before .before .before .before .before .before .pre .1 .0))
 
--- src/lib.rt:194:9
 plan-end-requires : tie.Need-plan-end-requires
 plan-end-requires c κs =
     let r = c .before .before .before .before .before .before .before .before .pre .0 in
     ((r .whole, r .inside, run-few _ _ _ _ _ _ _ _ r, r .few-blocks), ((end-behind _ _ _ _ _ _ _ _ r, r .end-few, r .few-index, c .before .before .before .before .before .before .before .before .pre .1 .2), (r .headword, r .body-short)))
 
--- src/lib.rt:195:8
 add-if1 : tie.Need-add-if1
 add-if1 c = omega (arith, c .before .before .before .before .before .before .before .before .before .before .pre .0 .few-index)
 
--- src/lib.rt:196:9
 same-length : tie.Need-same-length
 same-length c = search needs
 
--- src/lib.rt:196:9
 same-length-2 : tie.Need-same-length-2
 same-length-2 c = search needs
 
--- src/lib.rt:196:9
 returns : tie.Need-returns
 returns c = (finish-blocks (c .before .before .before .before .before .before .before .before .before .before .before .args .image .now) (c .before .before .before .before .before .before .before .before .before .before .before .args .len) _ _ _ _ _ _ _ (c .before .before .before .before .before .before .before .before .before .before .before .pre .0) _ (c .before .before .plan-end .ensures .0) (marks-long _ (c .before .before .before .before .before .before .before .before .before .before .before .pre .1 .2)) (c .if1 .taken), (refl, refl))
 
--- src/lib.rt:198:22
 mul-size : tie.Need-mul-size
 mul-size c = omega (arith, c .before .before .before .before .before .before .before .before .before .before .before .before .pre .0 .few-index)
 
--- src/lib.rt:198:16
 add-size : tie.Need-add-size
 add-size c = omega (arith, c .before .before .before .before .before .before .before .before .before .before .before .before .pre .0 .few-index)
 
--- src/lib.rt:198:34
 mul-size-2 : tie.Need-mul-size-2
 mul-size-2 c = omega (arith, c .before .before .before .plan-end .ensures .1)
 
--- src/lib.rt:198:16
 add-size-2 : tie.Need-add-size-2
 add-size-2 c = omega (arith, c .before .before .before .before .before .before .before .before .before .before .before .before .pre .0 .few-index, c .before .before .before .plan-end .ensures .1)
 
--- src/lib.rt:200:9
 same-length-3 : tie.Need-same-length-3
 same-length-3 c = search needs
 
--- src/lib.rt:200:9
 same-length-4 : tie.Need-same-length-4
 same-length-4 c = search needs
 
--- src/lib.rt:200:9
 returns-2 : tie.Need-returns-2
 returns-2 c = (finish-length (c .before .before .before .before .before .before .before .before .before .before .before .before .before .args .image .now) (c .before .before .before .before .before .before .before .before .before .before .before .before .before .args .len) _ _ _ _ _ _ _ (c .before .before .before .before .before .before .before .before .before .before .before .before .before .pre .0) _ (c .before .before .before .before .plan-end .ensures .0) (marks-long _ (c .before .before .before .before .before .before .before .before .before .before .before .before .before .pre .1 .2)) (c .before .before .if1 .left) (c .if2 .taken), (refl, refl))
 
--- src/lib.rt:202:5
 copy-requires : tie.Need-copy-requires
 copy-requires c κs = search needs
 
--- src/lib.rt:205:9
 slice-reshare-prefix-write-change : tie.Need-slice-reshare-prefix-write-change
 slice-reshare-prefix-write-change c = search needs
 
--- src/lib.rt:205:9
 slice-aggregate-write-change : tie.Need-slice-aggregate-write-change
 slice-aggregate-write-change c = sym (length-take-le _ _ (omega (arith, c .before .before .before .before .copy .ensures .1, c .before .before .before .before .before .before .before .before .before .before .before .before .before .before .before .before .before .before .before .before .pre .1 .0, c .before .before .before .before .before .before .before .before .before .before .before .before .before .before .before .before .before .before .before .before .pre .1 .1)))
 
--- src/lib.rt:203:5
 write-change-requires : tie.Need-write-change-requires
 write-change-requires c κs =
     let p = c .before .before .before .before .before .before .before .before .before .before .before .before .before .before .before .before .before .before .before .before .before .pre in
-    let e = copy-stands (c .before .before .before .before .before .before .before .before .before .before .before .before .before .before .before .before .before .before .before .before .before .args .image .now) (c .before .before .before .before .before .before .before .before .before .before .before .before .before .before .before .before .before .before .before .before .before .args .work .now) (c .before .before .before .before .before .copy .last .0) (c .before .before .before .before .before .before .before .before .before .before .before .before .before .before .before .before .before .before .before .before .before .args .len) (c .before .before .before .before .before .copy .ensures .0) (p .1 .0) (omega (arith, p .1 .0, p .1 .1)) in
+    let e = copied-front (c .before .before .before .before .before .before .before .before .before .before .before .before .before .before .before .before .before .before .before .before .before .args .image .now) (c .before .before .before .before .before .before .before .before .before .before .before .before .before .before .before .before .before .before .before .before .before .args .work .now) (c .before .before .before .before .before .copy .last .0) (c .before .before .before .before .before .before .before .before .before .before .before .before .before .before .before .before .before .before .before .before .before .args .len) (c .before .before .before .before .before .copy .ensures .0) (p .1 .0) in
     let f = c .before .before .before .before .before .before .before .before .before .before .if1 .left in
     let g = c .before .before .before .before .before .before .before .before .if2 .left in
     let l = marks-long _ (p .1 .2) in
     let a = c .before .before .before .before .before .before .before .before .before .before .before .before .plan-end .ensures .0 in
     (copy-ready (c .before .before .before .before .before .before .before .before .before .before .before .before .before .before .before .before .before .before .before .before .before .args .image .now) (c .before .before .before .before .before .before .before .before .before .before .before .before .before .before .before .before .before .before .before .before .before .args .len) _ _ _ _ _ _ _ (p .0) _ a l f g (p .1 .0) _ e, (copy-roomy (c .before .before .before .before .before .before .before .before .before .before .before .before .before .before .before .before .before .before .before .before .before .args .image .now) (c .before .before .before .before .before .before .before .before .before .before .before .before .before .before .before .before .before .before .before .before .before .args .len) _ _ _ _ _ _ _ (p .0) _ a l f g (p .1 .0) _ e, (copy-last (c .before .before .before .before .before .before .before .before .before .before .before .before .before .before .before .before .before .before .before .before .before .args .image .now) (c .before .before .before .before .before .before .before .before .before .before .before .before .before .before .before .before .before .before .before .before .before .args .len) _ _ _ _ _ _ _ (p .0) _ a l f g (p .1 .0) _ e, p .1 .2)))
 
--- src/lib.rt:177:1
 same-length-5 : tie.Need-same-length-5
 same-length-5 c = search needs
 
--- src/lib.rt:177:1
 same-length-6 : tie.Need-same-length-6
 same-length-6 c = search needs
 
--- src/lib.rt:177:1
 same-length-7 : tie.Need-same-length-7
 same-length-7 c = search needs
 
--- src/lib.rt:177:1
 returns-3 : tie.Need-returns-3
 returns-3 c =
     let p = c .before .before .before .before .before .before .before .before .before .before .before .before .before .before .before .before .before .before .before .before .before .before .before .before .before .before .pre in
-    let e = copy-stands (c .before .before .before .before .before .before .before .before .before .before .before .before .before .before .before .before .before .before .before .before .before .before .before .before .before .before .args .image .now) (c .before .before .before .before .before .before .before .before .before .before .before .before .before .before .before .before .before .before .before .before .before .before .before .before .before .before .args .work .now) (c .before .before .before .before .before .before .before .before .before .before .copy .last .0) (c .before .before .before .before .before .before .before .before .before .before .before .before .before .before .before .before .before .before .before .before .before .before .before .before .before .before .args .len) (c .before .before .before .before .before .before .before .before .before .before .copy .ensures .0) (p .1 .0) (omega (arith, p .1 .0, p .1 .1)) in
+    let e = copied-front (c .before .before .before .before .before .before .before .before .before .before .before .before .before .before .before .before .before .before .before .before .before .before .before .before .before .before .args .image .now) (c .before .before .before .before .before .before .before .before .before .before .before .before .before .before .before .before .before .before .before .before .before .before .before .before .before .before .args .work .now) (c .before .before .before .before .before .before .before .before .before .before .copy .last .0) (c .before .before .before .before .before .before .before .before .before .before .before .before .before .before .before .before .before .before .before .before .before .before .before .before .before .before .args .len) (c .before .before .before .before .before .before .before .before .before .before .copy .ensures .0) (p .1 .0) in
     (finish-done (c .before .before .before .before .before .before .before .before .before .before .before .before .before .before .before .before .before .before .before .before .before .before .before .before .before .before .args .image .now) (c .before .before .before .before .before .before .before .before .before .before .before .before .before .before .before .before .before .before .before .before .before .before .before .before .before .before .args .len) _ _ _ _ _ _ _ (p .0) _ (c .before .before .before .before .before .before .before .before .before .before .before .before .before .before .before .before .before .plan-end .ensures .0) (marks-long _ (p .1 .2)) (c .before .before .before .before .before .before .before .before .before .before .before .before .before .before .before .if1 .left) (c .before .before .before .before .before .before .before .before .before .before .before .before .before .if2 .left) (p .1 .0) _ e _ (c .before .before .before .before .write-change .ensures .0), (c .before .before .before .before .write-change .ensures .1, c .before .before .before .before .before .before .before .before .before .before .copy .ensures .1))
 
 pub finish-spec : {M : Type 1} → statement M

@@ -1,3 +1,4 @@
+-- `grow` meets its contract.
 use mathlib.Core.Path.{refl, sym, _∙_}
 use Prim.Native.Nat.{ℕ}
 use native.Mathlib.Omega.{arith}
@@ -7,102 +8,76 @@ use Rattle.change.proofs.FinishLaws.{told-here, few, area-long, grow-fu
 use borrow.Author.Needs.{needs}
 use Rattle.change.proofs.grow.Statement.{statement}
 use Rattle.change.proofs.grow.Tie as tie
-use Rattle.change.proofs.grow.Reads as reads
-use Rattle.change.proofs.grow.Lts as lts
-use Rattle.change.proofs.displace.Reads as displace-reads
-use Rattle.change.proofs.finish.Reads as finish-reads
 
--- src/lib.rt:305:23
 mul-start : tie.Need-mul-start
 mul-start c = search needs
 
--- src/lib.rt:305:17
 add-start : tie.Need-add-start
 add-start c = search needs
 
--- src/lib.rt:306:15
 slice-reshare-prefix-old : tie.Need-slice-reshare-prefix-old
 slice-reshare-prefix-old c = search needs
 
--- src/lib.rt:306:9
 slice-aggregate-old : tie.Need-slice-aggregate-old
 slice-aggregate-old c = sym (length-take-le _ _ (c .before .before .before .before .before .before .pre .1 .1))
 
--- src/lib.rt:309:9
 sub-displace : tie.Need-sub-displace
 sub-displace c = search needs
 
--- src/lib.rt:309:9
 part-displace-start : tie.Need-part-displace-start
 part-displace-start c = search needs
 
--- src/lib.rt:309:9
 part-displace-end : tie.Need-part-displace-end
 part-displace-end c = search needs
 
--- src/lib.rt:310:9
 sub-displace-2 : tie.Need-sub-displace-2
 sub-displace-2 c = search needs
 
--- src/lib.rt:310:9
 part-displace-start-2 : tie.Need-part-displace-start-2
 part-displace-start-2 c = search needs
 
--- src/lib.rt:310:9
 part-displace-end-2 : tie.Need-part-displace-end-2
 part-displace-end-2 c = search needs
 
--- src/lib.rt:314:9
 slice-aggregate-displace : tie.Need-slice-aggregate-displace
 slice-aggregate-displace c = search needs
 
--- src/lib.rt:308:9
 displace-requires : tie.Need-displace-requires
 displace-requires c κs =
     let b = c .before .before .before .before .before .before .before .before .before .before .pre .0 in
     let t = told-here _ _ _ _ _ _ _ _ _ b in
     (t .before-inside, (t .after-inside, (area-long _ _ _ _ _ _ _ _ _ b, few _ _ _ _ _ _ _ _ _ b, omega (arith, b .few-index), length-replicate {A = ℕ} 32768 0, c .before .before .before .before .before .before .before .before .before .before .pre .1 .3)))
 
--- src/lib.rt:317:8
 add-if1 : tie.Need-add-if1
 add-if1 c = omega (arith, c .before .before .before .before .before .before .before .before .before .before .before .before .before .before .before .pre .0 .few-index)
 
--- src/lib.rt:318:9
 same-length : tie.Need-same-length
 same-length c = search needs
 
--- src/lib.rt:318:9
 same-length-2 : tie.Need-same-length-2
 same-length-2 c = search needs
 
--- src/lib.rt:318:9
 returns : tie.Need-returns
 returns c = (grow-full _ _ _ _ _ _ _ _ _ (c .before .before .before .before .before .before .before .before .before .before .before .before .before .before .before .before .pre .0) (c .before .before .before .before .before .before .before .before .before .before .before .before .before .before .before .before .pre .1 .0) _ _ _ (c .before .before .before .before .before .displace .ensures .0) (c .before .before .before .before .before .before .before .before .before .before .before .before .before .before .before .before .args .image .now) (c .before .before .before .before .before .before .before .before .before .before .before .before .before .before .before .before .args .len) refl (c .if1 .taken), (refl, refl))
 
--- src/lib.rt:330:30
 slice-aggregate-finish : tie.Need-slice-aggregate-finish
 slice-aggregate-finish c = search needs
 
--- src/lib.rt:329:5
 finish-requires : tie.Need-finish-requires
 finish-requires c κs =
     let b = c .before .before .before .before .before .before .before .before .before .before .before .before .before .before .before .before .before .before .before .before .pre .0 in
     let l = c .before .before .before .before .before .before .before .before .before .displace .ensures .1 .0 ∙ length-replicate {A = ℕ} 32768 0 in
     (grow-ready _ _ _ _ _ _ _ _ _ b (c .before .before .before .before .before .before .before .before .before .before .before .before .before .before .before .before .before .before .before .before .pre .1 .0) _ _ _ (c .before .before .before .before .before .before .before .before .before .displace .ensures .0) (c .before .before .before .before .if1 .left) (omega (arith, l, b .few-index)), (c .before .before .before .before .before .before .before .before .before .before .before .before .before .before .before .before .before .before .before .before .pre .1 .1, c .before .before .before .before .before .before .before .before .before .before .before .before .before .before .before .before .before .before .before .before .pre .1 .2, c .before .before .before .before .before .before .before .before .before .displace .ensures .1 .1 ∙ c .before .before .before .before .before .before .before .before .before .before .before .before .before .before .before .before .before .before .before .before .pre .1 .3))
 
--- src/lib.rt:287:1
 same-length-3 : tie.Need-same-length-3
 same-length-3 c = search needs
 
--- src/lib.rt:287:1
 same-length-4 : tie.Need-same-length-4
 same-length-4 c = search needs
 
--- src/lib.rt:287:1
 same-length-5 : tie.Need-same-length-5
 same-length-5 c = search needs
 
--- src/lib.rt:287:1
 returns-2 : tie.Need-returns-2
 returns-2 c = search needs
 

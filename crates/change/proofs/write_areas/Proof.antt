@@ -1,3 +1,4 @@
+-- `write_areas` meets its contract.
 use mathlib.Core.Path.{_≡_, refl, ap, _∙_}
 use mathlib.Core.List.{List, _++_}
 use Prim.Native.Nat.{ℕ, _+_, _-_, _*_}
@@ -9,13 +10,6 @@ use Rattle.change.proofs.Laws.{areas-done}
 use Rattle.change.proofs.AreasLaws.{starts-inside, area-long, moved-asks, before-asks, run-asks, parts-asks, after-asks, index-end, start-room, run-inside, parts-bytes, parts-image, parts-marks}
 use Rattle.change.proofs.write_areas.Statement.{statement}
 use Rattle.change.proofs.write_areas.Tie as tie
-use Rattle.change.proofs.write_areas.Reads as reads
-use Rattle.change.proofs.write_areas.Lts as lts
-use Rattle.byteops.proofs.fill_zero.Reads as fill-zero-reads
-use Rattle.elements.proofs.copy_elements.Reads as copy-elements-reads
-use Rattle.moves.proofs.copy_moved.Reads as copy-moved-reads
-use Rattle.newruns.proofs.write_parts.Reads as write-parts-reads
-use Rattle.target.proofs.entries_start.Reads as entries-start-reads
 
 -- the image keeps its length from call to call
 moved-kept : (c : tie.After-copy-moved)
@@ -31,115 +25,87 @@ parts-kept c = c .write-parts .ensures .1 .1 .1 .0 ∙ before-kept (c .before .b
 after-kept : (c : tie.After-copy-elements2) → length (c .copy-elements2 .last .0) ≡ length (c .before .before .before .before .before .before .before .before .before .before .before .before .before .before .before .before .before .before .before .before .before .before .before .before .before .before .before .before .before .args .image .now)
 after-kept c = c .copy-elements2 .ensures .1 .1 ∙ parts-kept (c .before .before .before .before .before .before)
 
--- src/lib.rt:77:23
 mul-start : tie.Need-mul-start
 mul-start c = omega (arith, starts-inside _ _ _ _ _ _ _ _ (c .before .before .before .before .before .before .before .pre .0) _ (c .before .before .before .before .before .before .before .pre .1))
 
--- src/lib.rt:77:17
 add-start : tie.Need-add-start
 add-start c = omega (arith, starts-inside _ _ _ _ _ _ _ _ (c .before .before .before .before .before .before .before .pre .0) _ (c .before .before .before .before .before .before .before .pre .1))
 
--- src/lib.rt:78:17
 sub-index : tie.Need-sub-index
 sub-index c = omega (arith, starts-inside _ _ _ _ _ _ _ _ (c .before .before .before .before .before .before .before .pre .0) _ (c .before .before .before .before .before .before .before .pre .1))
 
--- src/lib.rt:78:17
 part-index-start : tie.Need-part-index-start
 part-index-start c = omega (arith, starts-inside _ _ _ _ _ _ _ _ (c .before .before .before .before .before .before .before .pre .0) _ (c .before .before .before .before .before .before .before .pre .1))
 
--- src/lib.rt:78:17
 part-index-end : tie.Need-part-index-end
 part-index-end c = omega (arith, starts-inside _ _ _ _ _ _ _ _ (c .before .before .before .before .before .before .before .pre .0) _ (c .before .before .before .before .before .before .before .pre .1))
 
--- src/lib.rt:79:16
 sub-area : tie.Need-sub-area
 sub-area c = omega (arith, starts-inside _ _ _ _ _ _ _ _ (c .before .before .before .before .before .before .before .before .pre .0) _ (c .before .before .before .before .before .before .before .before .pre .1))
 
--- src/lib.rt:79:16
 part-area-start : tie.Need-part-area-start
 part-area-start c = omega (arith, starts-inside _ _ _ _ _ _ _ _ (c .before .before .before .before .before .before .before .before .pre .0) _ (c .before .before .before .before .before .before .before .before .pre .1))
 
--- src/lib.rt:79:16
 part-area-end : tie.Need-part-area-end
 part-area-end c = omega (arith, starts-inside _ _ _ _ _ _ _ _ (c .before .before .before .before .before .before .before .before .pre .0) _ (c .before .before .before .before .before .before .before .before .pre .1))
 
--- src/lib.rt:80:23
 sub-copy-moved : tie.Need-sub-copy-moved
 sub-copy-moved c = omega (arith, starts-inside _ _ _ _ _ _ _ _ (c .before .before .before .before .before .before .before .before .before .pre .0) _ (c .before .before .before .before .before .before .before .before .before .pre .1))
 
--- src/lib.rt:80:23
 part-copy-moved-start : tie.Need-part-copy-moved-start
 part-copy-moved-start c = omega (arith, starts-inside _ _ _ _ _ _ _ _ (c .before .before .before .before .before .before .before .before .before .pre .0) _ (c .before .before .before .before .before .before .before .before .before .pre .1))
 
--- src/lib.rt:80:23
 part-copy-moved-end : tie.Need-part-copy-moved-end
 part-copy-moved-end c = omega (arith, starts-inside _ _ _ _ _ _ _ _ (c .before .before .before .before .before .before .before .before .before .pre .0) _ (c .before .before .before .before .before .before .before .before .before .pre .1))
 
--- src/lib.rt:80:5
 copy-moved-requires : tie.Need-copy-moved-requires
 copy-moved-requires c κs = moved-asks _ _ _ _ _ _ _ _ (c .before .before .before .before .before .before .before .before .before .before .pre .0) _ (c .before .before .before .before .before .before .before .before .before .before .pre .1)
 
--- src/lib.rt:81:9
 entries-start-requires : tie.Need-entries-start-requires
 entries-start-requires c κs = run-asks _ _ _ _ _ _ _ _ (c .before .before .before .before .before .before .before .before .before .before .before .before .before .pre .0) _ (c .before .before .before .before .before .before .before .before .before .before .before .before .before .pre .1)
 
--- src/lib.rt:82:34
 add-run : tie.Need-add-run
 add-run c = omega (arith, run-asks _ _ _ _ _ _ _ _ (c .before .before .before .before .before .before .before .before .before .before .before .before .before .before .before .pre .0) _ (c .before .before .before .before .before .before .before .before .before .before .before .before .before .before .before .pre .1), c .before .entries-start .ensures, run-inside _ _ _ _ _ _ _ _ (c .before .before .before .before .before .before .before .before .before .before .before .before .before .before .before .pre .0) _ (c .before .before .before .before .before .before .before .before .before .before .before .before .before .before .before .pre .1), area-long _ _ _ _ _ _ _ _ (c .before .before .before .before .before .before .before .before .before .before .before .before .before .before .before .pre .0) _ (c .before .before .before .before .before .before .before .before .before .before .before .before .before .before .before .pre .1))
 
--- src/lib.rt:82:27
 mul-run : tie.Need-mul-run
 mul-run c = omega (arith, run-asks _ _ _ _ _ _ _ _ (c .before .before .before .before .before .before .before .before .before .before .before .before .before .before .before .pre .0) _ (c .before .before .before .before .before .before .before .before .before .before .before .before .before .before .before .pre .1), c .before .entries-start .ensures, run-inside _ _ _ _ _ _ _ _ (c .before .before .before .before .before .before .before .before .before .before .before .before .before .before .before .pre .0) _ (c .before .before .before .before .before .before .before .before .before .before .before .before .before .before .before .pre .1), area-long _ _ _ _ _ _ _ _ (c .before .before .before .before .before .before .before .before .before .before .before .before .before .before .before .pre .0) _ (c .before .before .before .before .before .before .before .before .before .before .before .before .before .before .before .pre .1))
 
--- src/lib.rt:82:15
 sub-run : tie.Need-sub-run
 sub-run c = omega (arith, run-asks _ _ _ _ _ _ _ _ (c .before .before .before .before .before .before .before .before .before .before .before .before .before .before .before .pre .0) _ (c .before .before .before .before .before .before .before .before .before .before .before .before .before .before .before .pre .1), c .before .entries-start .ensures, run-inside _ _ _ _ _ _ _ _ (c .before .before .before .before .before .before .before .before .before .before .before .before .before .before .before .pre .0) _ (c .before .before .before .before .before .before .before .before .before .before .before .before .before .before .before .pre .1), area-long _ _ _ _ _ _ _ _ (c .before .before .before .before .before .before .before .before .before .before .before .before .before .before .before .pre .0) _ (c .before .before .before .before .before .before .before .before .before .before .before .before .before .before .before .pre .1))
 
--- src/lib.rt:82:15
 part-run-start : tie.Need-part-run-start
 part-run-start c = omega (arith, run-asks _ _ _ _ _ _ _ _ (c .before .before .before .before .before .before .before .before .before .before .before .before .before .before .before .pre .0) _ (c .before .before .before .before .before .before .before .before .before .before .before .before .before .before .before .pre .1), c .before .entries-start .ensures, run-inside _ _ _ _ _ _ _ _ (c .before .before .before .before .before .before .before .before .before .before .before .before .before .before .before .pre .0) _ (c .before .before .before .before .before .before .before .before .before .before .before .before .before .before .before .pre .1), area-long _ _ _ _ _ _ _ _ (c .before .before .before .before .before .before .before .before .before .before .before .before .before .before .before .pre .0) _ (c .before .before .before .before .before .before .before .before .before .before .before .before .before .before .before .pre .1))
 
--- src/lib.rt:82:15
 part-run-end : tie.Need-part-run-end
 part-run-end c = omega (arith, run-asks _ _ _ _ _ _ _ _ (c .before .before .before .before .before .before .before .before .before .before .before .before .before .before .before .pre .0) _ (c .before .before .before .before .before .before .before .before .before .before .before .before .before .before .before .pre .1), c .before .entries-start .ensures, run-inside _ _ _ _ _ _ _ _ (c .before .before .before .before .before .before .before .before .before .before .before .before .before .before .before .pre .0) _ (c .before .before .before .before .before .before .before .before .before .before .before .before .before .before .before .pre .1), area-long _ _ _ _ _ _ _ _ (c .before .before .before .before .before .before .before .before .before .before .before .before .before .before .before .pre .0) _ (c .before .before .before .before .before .before .before .before .before .before .before .before .before .before .before .pre .1))
 
--- src/lib.rt:83:9
 copy-elements-requires : tie.Need-copy-elements-requires
 copy-elements-requires c κs = before-asks _ _ _ _ _ _ _ _ (c .before .before .before .before .before .before .before .before .before .before .before .before .before .before .before .before .before .pre .0) _ (c .before .before .before .before .before .before .before .before .before .before .before .before .before .before .before .before .before .pre .1) _ (moved-kept (c .before .before .before .before .before .before))
 
--- src/lib.rt:84:9
 write-parts-requires : tie.Need-write-parts-requires
 write-parts-requires c κs = parts-asks _ _ _ _ _ _ _ _ (c .before .before .before .before .before .before .before .before .before .before .before .before .before .before .before .before .before .before .before .before .before .before .pre .0) _ (c .before .before .before .before .before .before .before .before .before .before .before .before .before .before .before .before .before .before .before .before .before .before .pre .1) _ _ _ (before-kept (c .before .before .before .before)) (c .before .before .before .before .before .before .before .before .entries-start .ensures .0) (c .before .before .before .before .copy-elements .ensures .1 .0)
 
--- src/lib.rt:85:9
 copy-elements-requires-2 : tie.Need-copy-elements-requires-2
 copy-elements-requires-2 c κs = after-asks _ _ _ _ _ _ _ _ (c .before .before .before .before .before .before .before .before .before .before .before .before .before .before .before .before .before .before .before .before .before .before .before .before .before .before .before .before .pre .0) _ (c .before .before .before .before .before .before .before .before .before .before .before .before .before .before .before .before .before .before .before .before .before .before .before .before .before .before .before .before .pre .1) _ _ _ (parts-kept (c .before .before .before .before .before)) (c .before .before .before .before .before .before .before .before .before .before .copy-elements .ensures .1 .0) (parts-bytes _ _ _ _ _ _ _ _ (c .before .before .before .before .before .before .before .before .before .before .before .before .before .before .before .before .before .before .before .before .before .before .before .before .before .before .before .before .pre .0) _ (c .before .before .before .before .before .before .before .before .before .before .before .before .before .before .before .before .before .before .before .before .before .before .before .before .before .before .before .before .pre .1) _ (c .before .before .before .before .before .before .before .before .before .before .before .before .before .before .entries-start .ensures .0) _ _ (c .before .before .before .before .before .write-parts .ensures .1 .0))
 
--- src/lib.rt:86:42
 mul-fill-zero : tie.Need-mul-fill-zero
 mul-fill-zero c = omega (arith, index-end _ _ _ _ _ _ _ _ (c .before .before .before .before .before .before .before .before .before .before .before .before .before .before .before .before .before .before .before .before .before .before .before .before .before .before .before .before .before .before .before .before .before .pre .0) _ (c .before .before .before .before .before .before .before .before .before .before .before .before .before .before .before .before .before .before .before .before .before .before .before .before .before .before .before .before .before .before .before .before .before .pre .1) _ _ _ (c .before .before .before .before .before .before .before .before .before .before .before .before .before .before .before .copy-elements .ensures .1 .0) (parts-bytes _ _ _ _ _ _ _ _ (c .before .before .before .before .before .before .before .before .before .before .before .before .before .before .before .before .before .before .before .before .before .before .before .before .before .before .before .before .before .before .before .before .before .pre .0) _ (c .before .before .before .before .before .before .before .before .before .before .before .before .before .before .before .before .before .before .before .before .before .before .before .before .before .before .before .before .before .before .before .before .before .pre .1) _ (c .before .before .before .before .before .before .before .before .before .before .before .before .before .before .before .before .before .before .before .entries-start .ensures .0) _ _ (c .before .before .before .before .before .before .before .before .before .before .write-parts .ensures .1 .0)) (c .before .before .before .before .copy-elements2 .ensures .1 .0), starts-inside _ _ _ _ _ _ _ _ (c .before .before .before .before .before .before .before .before .before .before .before .before .before .before .before .before .before .before .before .before .before .before .before .before .before .before .before .before .before .before .before .before .before .pre .0) _ (c .before .before .before .before .before .before .before .before .before .before .before .before .before .before .before .before .before .before .before .before .before .before .before .before .before .before .before .before .before .before .before .before .before .pre .1))
 
--- src/lib.rt:86:34
 add-fill-zero : tie.Need-add-fill-zero
 add-fill-zero c = omega (arith, index-end _ _ _ _ _ _ _ _ (c .before .before .before .before .before .before .before .before .before .before .before .before .before .before .before .before .before .before .before .before .before .before .before .before .before .before .before .before .before .before .before .before .before .pre .0) _ (c .before .before .before .before .before .before .before .before .before .before .before .before .before .before .before .before .before .before .before .before .before .before .before .before .before .before .before .before .before .before .before .before .before .pre .1) _ _ _ (c .before .before .before .before .before .before .before .before .before .before .before .before .before .before .before .copy-elements .ensures .1 .0) (parts-bytes _ _ _ _ _ _ _ _ (c .before .before .before .before .before .before .before .before .before .before .before .before .before .before .before .before .before .before .before .before .before .before .before .before .before .before .before .before .before .before .before .before .before .pre .0) _ (c .before .before .before .before .before .before .before .before .before .before .before .before .before .before .before .before .before .before .before .before .before .before .before .before .before .before .before .before .before .before .before .before .before .pre .1) _ (c .before .before .before .before .before .before .before .before .before .before .before .before .before .before .before .before .before .before .before .entries-start .ensures .0) _ _ (c .before .before .before .before .before .before .before .before .before .before .write-parts .ensures .1 .0)) (c .before .before .before .before .copy-elements2 .ensures .1 .0), starts-inside _ _ _ _ _ _ _ _ (c .before .before .before .before .before .before .before .before .before .before .before .before .before .before .before .before .before .before .before .before .before .before .before .before .before .before .before .before .before .before .before .before .before .pre .0) _ (c .before .before .before .before .before .before .before .before .before .before .before .before .before .before .before .before .before .before .before .before .before .before .before .before .before .before .before .before .before .before .before .before .before .pre .1))
 
--- src/lib.rt:86:34
 sub-fill-zero : tie.Need-sub-fill-zero
 sub-fill-zero c = omega (arith, index-end _ _ _ _ _ _ _ _ (c .before .before .before .before .before .before .before .before .before .before .before .before .before .before .before .before .before .before .before .before .before .before .before .before .before .before .before .before .before .before .before .before .before .pre .0) _ (c .before .before .before .before .before .before .before .before .before .before .before .before .before .before .before .before .before .before .before .before .before .before .before .before .before .before .before .before .before .before .before .before .before .pre .1) _ _ _ (c .before .before .before .before .before .before .before .before .before .before .before .before .before .before .before .copy-elements .ensures .1 .0) (parts-bytes _ _ _ _ _ _ _ _ (c .before .before .before .before .before .before .before .before .before .before .before .before .before .before .before .before .before .before .before .before .before .before .before .before .before .before .before .before .before .before .before .before .before .pre .0) _ (c .before .before .before .before .before .before .before .before .before .before .before .before .before .before .before .before .before .before .before .before .before .before .before .before .before .before .before .before .before .before .before .before .before .pre .1) _ (c .before .before .before .before .before .before .before .before .before .before .before .before .before .before .before .before .before .before .before .entries-start .ensures .0) _ _ (c .before .before .before .before .before .before .before .before .before .before .write-parts .ensures .1 .0)) (c .before .before .before .before .copy-elements2 .ensures .1 .0), starts-inside _ _ _ _ _ _ _ _ (c .before .before .before .before .before .before .before .before .before .before .before .before .before .before .before .before .before .before .before .before .before .before .before .before .before .before .before .before .before .before .before .before .before .pre .0) _ (c .before .before .before .before .before .before .before .before .before .before .before .before .before .before .before .before .before .before .before .before .before .before .before .before .before .before .before .before .before .before .before .before .before .pre .1))
 
--- src/lib.rt:86:5
 fill-zero-requires : tie.Need-fill-zero-requires
 fill-zero-requires c κs = omega (arith, index-end _ _ _ _ _ _ _ _ (c .before .before .before .before .before .before .before .before .before .before .before .before .before .before .before .before .before .before .before .before .before .before .before .before .before .before .before .before .before .before .before .before .before .pre .0) _ (c .before .before .before .before .before .before .before .before .before .before .before .before .before .before .before .before .before .before .before .before .before .before .before .before .before .before .before .before .before .before .before .before .before .pre .1) _ _ _ (c .before .before .before .before .before .before .before .before .before .before .before .before .before .before .before .copy-elements .ensures .1 .0) (parts-bytes _ _ _ _ _ _ _ _ (c .before .before .before .before .before .before .before .before .before .before .before .before .before .before .before .before .before .before .before .before .before .before .before .before .before .before .before .before .before .before .before .before .before .pre .0) _ (c .before .before .before .before .before .before .before .before .before .before .before .before .before .before .before .before .before .before .before .before .before .before .before .before .before .before .before .before .before .before .before .before .before .pre .1) _ (c .before .before .before .before .before .before .before .before .before .before .before .before .before .before .before .before .before .before .before .entries-start .ensures .0) _ _ (c .before .before .before .before .before .before .before .before .before .before .write-parts .ensures .1 .0)) (c .before .before .before .before .copy-elements2 .ensures .1 .0), after-kept (c .before .before .before .before))
 
--- src/lib.rt:60:1
 same-length : tie.Need-same-length
 same-length c = c .before .before .fill-zero .ensures .1 ∙ after-kept (c .before .before .before .before .before .before .before)
 
--- src/lib.rt:60:1
 same-length-2 : tie.Need-same-length-2
 same-length-2 c = search needs
 
--- src/lib.rt:60:1
 returns : tie.Need-returns
 returns c = (areas-done _ _ _ _ _ _ _ _ (c .before .before .before .before .before .before .before .before .before .before .before .before .before .before .before .before .before .before .before .before .before .before .before .before .before .before .before .before .before .before .before .before .before .before .before .before .pre .0) _ (c .before .before .before .before .before .before .before .before .before .before .before .before .before .before .before .before .before .before .before .before .before .before .before .before .before .before .before .before .before .before .before .before .before .before .before .before .pre .1) _ _ _ _ _ _ _ _ (ap (λ (x : List ℕ). take (256 + 256 * c .before .before .before .before .before .before .before .before .before .before .before .before .before .before .before .before .before .before .before .before .before .before .before .before .before .before .before .before .before .before .before .before .before .before .before .before .args .v .n) (c .before .before .before .before .before .before .before .before .before .before .before .before .before .before .before .before .before .before .before .before .before .before .before .before .before .before .before .before .before .before .before .before .before .before .before .before .args .image .now) ++ (x ++ drop (length (c .before .before .before .before .before .before .before .before .before .before .before .before .before .before .before .before .before .before .before .before .before .before .before .before .before .before .before .before .before .before .before .before .before .before .before .before .args .image .now) - (256 + 256 * c .before .before .before .before .before .before .before .before .before .before .before .before .before .before .before .before .before .before .before .before .before .before .before .before .before .before .before .before .before .before .before .before .before .before .before .before .args .v .n)) (drop (256 + 256 * c .before .before .before .before .before .before .before .before .before .before .before .before .before .before .before .before .before .before .before .before .before .before .before .before .before .before .before .before .before .before .before .before .before .before .before .before .args .v .n) (c .before .before .before .before .before .before .before .before .before .before .before .before .before .before .before .before .before .before .before .before .before .before .before .before .before .before .before .before .before .before .before .before .before .before .before .before .args .image .now)))) (c .before .before .before .before .before .before .before .before .before .before .before .before .before .before .before .before .before .before .before .before .before .before .before .before .before .copy-moved .ensures .0)) (c .before .before .before .before .before .before .before .before .before .before .before .before .before .before .before .before .before .before .copy-elements .ensures .0) (c .before .before .before .before .before .before .before .before .before .before .before .before .before .before .before .before .before .before .copy-elements .ensures .1 .0) (parts-image _ _ _ _ _ _ _ _ (c .before .before .before .before .before .before .before .before .before .before .before .before .before .before .before .before .before .before .before .before .before .before .before .before .before .before .before .before .before .before .before .before .before .before .before .before .pre .0) _ (c .before .before .before .before .before .before .before .before .before .before .before .before .before .before .before .before .before .before .before .before .before .before .before .before .before .before .before .before .before .before .before .before .before .before .before .before .pre .1) _ (c .before .before .before .before .before .before .before .before .before .before .before .before .before .before .before .before .before .before .before .before .before .before .entries-start .ensures .0) _ _ _ (c .before .before .before .before .before .before .before .before .before .before .before .before .before .write-parts .ensures .0)) (parts-bytes _ _ _ _ _ _ _ _ (c .before .before .before .before .before .before .before .before .before .before .before .before .before .before .before .before .before .before .before .before .before .before .before .before .before .before .before .before .before .before .before .before .before .before .before .before .pre .0) _ (c .before .before .before .before .before .before .before .before .before .before .before .before .before .before .before .before .before .before .before .before .before .before .before .before .before .before .before .before .before .before .before .before .before .before .before .before .pre .1) _ (c .before .before .before .before .before .before .before .before .before .before .before .before .before .before .before .before .before .before .before .before .before .before .entries-start .ensures .0) _ _ (c .before .before .before .before .before .before .before .before .before .before .before .before .before .write-parts .ensures .1 .0)) (c .before .before .before .before .before .before .before .copy-elements2 .ensures .0) (c .before .before .before .before .before .before .before .copy-elements2 .ensures .1 .0) (c .before .before .fill-zero .ensures .0), (parts-marks _ _ _ _ _ _ _ _ (c .before .before .before .before .before .before .before .before .before .before .before .before .before .before .before .before .before .before .before .before .before .before .before .before .before .before .before .before .before .before .before .before .before .before .before .before .pre .0) _ (c .before .before .before .before .before .before .before .before .before .before .before .before .before .before .before .before .before .before .before .before .before .before .before .before .before .before .before .before .before .before .before .before .before .before .before .before .pre .1) _ (c .before .before .before .before .before .before .before .before .before .before .before .before .before .before .before .before .before .before .before .before .before .before .entries-start .ensures .0) _ (c .before .before .before .before .before .before .before .before .before .before .before .before .before .write-parts .ensures .1 .1 .0), (c .before .before .fill-zero .ensures .1 ∙ after-kept (c .before .before .before .before .before .before .before), search needs)))
 

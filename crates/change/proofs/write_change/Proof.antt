@@ -1,46 +1,34 @@
+-- `write_change` meets its contract.
 use native.Mathlib.Omega.{arith}
 use borrow.Author.Needs.{needs}
 use Rattle.change.proofs.AreasLaws.{starts-inside, rest-asks, all-written}
 use Rattle.change.proofs.write_change.Statement.{statement}
 use Rattle.change.proofs.write_change.Tie as tie
-use Rattle.change.proofs.write_change.Reads as reads
-use Rattle.change.proofs.write_change.Lts as lts
-use Rattle.change.proofs.write_areas.Reads as write-areas-reads
-use Rattle.change.proofs.write_rest.Reads as write-rest-reads
 
--- src/lib.rt:118:5
 write-areas-requires : tie.Need-write-areas-requires
 write-areas-requires c κs = (c .before .before .before .before .before .before .before .before .pre .0, c .before .before .before .before .before .before .before .before .pre .1 .0)
 
--- src/lib.rt:119:29
 mul-write-rest : tie.Need-mul-write-rest
 mul-write-rest c = omega (arith, starts-inside _ _ _ _ _ _ _ _ (c .before .before .before .before .before .before .before .before .before .before .before .before .before .before .before .pre .0) _ (c .before .before .before .before .before .before .before .before .before .before .before .before .before .before .before .pre .1 .0))
 
--- src/lib.rt:119:23
 add-write-rest : tie.Need-add-write-rest
 add-write-rest c = omega (arith, starts-inside _ _ _ _ _ _ _ _ (c .before .before .before .before .before .before .before .before .before .before .before .before .before .before .before .pre .0) _ (c .before .before .before .before .before .before .before .before .before .before .before .before .before .before .before .pre .1 .0))
 
--- src/lib.rt:119:41
 mul-write-rest-2 : tie.Need-mul-write-rest-2
 mul-write-rest-2 c = omega (arith, starts-inside _ _ _ _ _ _ _ _ (c .before .before .before .before .before .before .before .before .before .before .before .before .before .before .before .before .pre .0) _ (c .before .before .before .before .before .before .before .before .before .before .before .before .before .before .before .before .pre .1 .0))
 
--- src/lib.rt:119:23
 add-write-rest-2 : tie.Need-add-write-rest-2
 add-write-rest-2 c = omega (arith, starts-inside _ _ _ _ _ _ _ _ (c .before .before .before .before .before .before .before .before .before .before .before .before .before .before .before .before .pre .0) _ (c .before .before .before .before .before .before .before .before .before .before .before .before .before .before .before .before .pre .1 .0))
 
--- src/lib.rt:119:5
 write-rest-requires : tie.Need-write-rest-requires
 write-rest-requires c κs = rest-asks _ _ _ _ _ _ _ _ (c .before .before .before .before .before .before .before .before .before .before .before .before .before .before .before .before .before .pre .0) _ (c .before .before .before .before .before .before .before .before .before .before .before .before .before .before .before .before .before .pre .1 .0) _ _ (c .before .before .before .before .before .before .before .before .write-areas .ensures .1 .1 .0) (c .before .before .before .before .before .before .before .before .before .before .before .before .before .before .before .before .before .pre .1 .1 .0) _ (c .before .before .before .before .before .before .before .before .write-areas .ensures .1 .1 .1)
 
--- src/lib.rt:100:1
 same-length : tie.Need-same-length
 same-length c = search needs
 
--- src/lib.rt:100:1
 same-length-2 : tie.Need-same-length-2
 same-length-2 c = search needs
 
--- src/lib.rt:100:1
 returns : tie.Need-returns
 returns c = (all-written _ _ _ _ _ _ _ _ (c .before .before .before .before .before .before .before .before .before .before .before .before .before .before .before .before .before .before .before .before .pre .0) _ (c .before .before .before .before .before .before .before .before .before .before .before .before .before .before .before .before .before .before .before .before .pre .1 .0) _ _ _ _ (c .before .before .before .before .before .before .before .before .before .before .before .write-areas .ensures .0) (c .before .before .before .before .before .before .before .before .before .before .before .write-areas .ensures .1 .0) (c .before .before .before .before .before .before .before .before .before .before .before .before .before .before .before .before .before .before .before .before .pre .1 .1 .0) (c .before .before .write-rest .ensures .0), search needs)
 

@@ -1,3 +1,4 @@
+-- `create` meets its contract.
 use Rattle.editor.proofs.Rows.{create-short, create-done}
 use borrow.Author.Needs.{needs}
 use Rattle.editor.proofs.create.Statement.{statement}

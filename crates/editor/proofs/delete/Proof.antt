@@ -1,3 +1,4 @@
+-- `delete` meets its contract.
 use native.Mathlib.Omega.{arith}
 use Rattle.editor.proofs.Rows.{delete-slice, delete-short, now-tested, delete-whole}
 use borrow.Author.Needs.{needs}

@@ -1,10 +1,14 @@
+-- `delete_tested` meets its contract.
 use mathlib.Core.Path.{_≡_, refl}
 use lib.ListN.{length, take}
 use Rattle.spec.specs.Outcome.{ok}
 use Rattle.spec.specs.Check.{Image, image-from, entries-of}
 use Rattle.marks.proofs.Laws.{marks-zero}
 use Rattle.inspect.specs.Overview.{AcceptedImage}
-use Rattle.editor.proofs.Rows.{front-long, front-header, front-blocks, is-accepted, words-are, free-are, delete-refused, delete-refused-image}
+use Rattle.parts.proofs.Laws.{first-bytes}
+use Rattle.change.proofs.FinishLaws.{front-blocks}
+use Rattle.inspect.proofs.Accepted.{front-header, is-accepted, words-are, free-are}
+use Rattle.editor.proofs.Rows.{delete-refused}
 use borrow.Author.Needs.{needs}
 use Rattle.editor.proofs.delete_tested.Statement.{statement}
 use Rattle.editor.proofs.delete_tested.Tie as tie
@@ -21,7 +25,7 @@ slice-reshare-prefix-inspect : tie.Need-slice-reshare-prefix-inspect
 slice-reshare-prefix-inspect c = search needs
 
 slice-aggregate-inspect : tie.Need-slice-aggregate-inspect
-slice-aggregate-inspect c = search front-long
+slice-aggregate-inspect c = search first-bytes
 
 slice-aggregate-inspect-2 : tie.Need-slice-aggregate-inspect-2
 slice-aggregate-inspect-2 c = search needs
@@ -45,7 +49,10 @@ same-length : tie.Need-same-length
 same-length c = search needs
 
 returns : tie.Need-returns
-returns c = (search delete-refused, (search delete-refused-image, refl))
+returns c =
+    let p = c .before .before .before .before .before .before .before .before .before .before .pre in
+    let r = delete-refused (c .before .before .before .before .before .before .before .before .before .before .args .image .now) (c .before .before .before .before .before .before .before .before .before .before .args .len) (c .before .before .before .before .before .before .before .before .before .before .args .work .now) (p .0) (p .1) (p .2) (p .3) _ _ _ (c .before .before .before .before .inspect .ensures) (c .before .r .given .0 .0) (search needs) (c .before .before .before .before .before .before .before .before .before .before .args .headword .now) in
+    (r .0, (r .1, refl))
 
 same-length-2 : tie.Need-same-length-2
 same-length-2 c = search needs

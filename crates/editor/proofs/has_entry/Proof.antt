@@ -1,5 +1,7 @@
+-- `has_entry` meets its contract.
 use Rattle.inspect.proofs.Accepted.{accepted-inside, accepted-area, accepted-blocks}
-use Rattle.editor.proofs.Found.{spot-room, spot-front, entry-absent, entry-told}
+use Rattle.seek.proofs.Laws.{spot-room, spot-front}
+use Rattle.editor.proofs.Found.{entry-absent, entry-told}
 use borrow.Author.Needs.{needs}
 use Rattle.editor.proofs.has_entry.Statement.{statement}
 use Rattle.editor.proofs.has_entry.Tie as tie

@@ -1,3 +1,4 @@
+-- `insert` meets its contract.
 use native.Mathlib.Omega.{arith}
 use Rattle.editor.proofs.Rows.{insert-slice, insert-short, now-tested, insert-whole}
 use borrow.Author.Needs.{needs}

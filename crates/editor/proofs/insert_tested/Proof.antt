@@ -1,3 +1,4 @@
+-- `insert_tested` meets its contract.
 use native.Mathlib.Omega.{arith}
 use mathlib.Core.Path.{_≡_, refl}
 use lib.ListN.{length, take}
@@ -5,7 +6,10 @@ use Rattle.spec.specs.Outcome.{ok}
 use Rattle.spec.specs.Check.{Image, image-from, entries-of}
 use Rattle.marks.proofs.Laws.{marks-zero}
 use Rattle.inspect.specs.Overview.{AcceptedImage}
-use Rattle.editor.proofs.Rows.{front-long, front-header, front-blocks, is-accepted, words-are, words-few, free-are, insert-refused, insert-refused-image}
+use Rattle.parts.proofs.Laws.{first-bytes}
+use Rattle.change.proofs.FinishLaws.{front-blocks}
+use Rattle.inspect.proofs.Accepted.{front-header, is-accepted, words-are, free-are}
+use Rattle.editor.proofs.Rows.{words-few, insert-refused}
 use borrow.Author.Needs.{needs}
 use Rattle.editor.proofs.insert_tested.Statement.{statement}
 use Rattle.editor.proofs.insert_tested.Tie as tie
@@ -22,7 +26,7 @@ slice-reshare-prefix-inspect : tie.Need-slice-reshare-prefix-inspect
 slice-reshare-prefix-inspect c = search needs
 
 slice-aggregate-inspect : tie.Need-slice-aggregate-inspect
-slice-aggregate-inspect c = search front-long
+slice-aggregate-inspect c = search first-bytes
 
 slice-aggregate-inspect-2 : tie.Need-slice-aggregate-inspect-2
 slice-aggregate-inspect-2 c = search needs
@@ -46,7 +50,10 @@ same-length : tie.Need-same-length
 same-length c = search needs
 
 returns : tie.Need-returns
-returns c = (search insert-refused, (search insert-refused-image, refl))
+returns c =
+    let p = c .before .before .before .before .before .before .before .before .before .before .before .pre in
+    let r = insert-refused (c .before .before .before .before .before .before .before .before .before .before .before .args .image .now) (c .before .before .before .before .before .before .before .before .before .before .before .args .len) (c .before .before .before .before .before .before .before .before .before .before .before .args .work .now) (p .0) (p .1) (p .2) (p .3) _ _ _ (c .before .before .before .before .inspect .ensures) (c .before .r .given .0 .0) (search needs) (c .before .before .before .before .before .before .before .before .before .before .before .args .headword .now) (c .before .before .before .before .before .before .before .before .before .before .before .args .attribute) (c .before .before .before .before .before .before .before .before .before .before .before .args .text .now) in
+    (r .0, (r .1, refl))
 
 same-length-2 : tie.Need-same-length-2
 same-length-2 c = search needs

@@ -1,3 +1,4 @@
+-- `optimise` meets its contract.
 use native.Mathlib.Omega.{arith}
 use Rattle.editor.proofs.Rows.{optimise-slice, optimise-short, now-tested, optimise-whole}
 use borrow.Author.Needs.{needs}

@@ -1,3 +1,4 @@
+-- `optimise_tested` meets its contract.
 use mathlib.Core.Path.{_≡_, refl}
 use lib.ListN.{length, take}
 use Rattle.spec.specs.Outcome.{ok}
@@ -5,7 +6,10 @@ use Rattle.spec.specs.Check.{Image, image-from, entries-of}
 use Rattle.inspect.specs.Overview.{AcceptedImage}
 use native.Mathlib.Omega.{arith}
 use Rattle.marks.proofs.Laws.{marks-zero}
-use Rattle.editor.proofs.Rows.{copy-is, copy-front, copy-inside, copy-accepted, copy-whole, copy-words, front-long, front-header, front-blocks, is-accepted, words-are, optimise-refused, optimise-refused-image, optimise-eleven, optimise-eleven-image, optimise-done, optimise-done-image}
+use Rattle.inspect.proofs.Accepted.{front-header, is-accepted, words-are}
+use Rattle.editor.proofs.Rows.{copy-is, copy-inside, copy-accepted, copy-whole, copy-words, optimise-refused, optimise-eleven, optimise-done}
+use Rattle.parts.proofs.Laws.{first-bytes}
+use Rattle.change.proofs.FinishLaws.{front-blocks}
 use borrow.Author.Needs.{needs}
 use Rattle.editor.proofs.optimise_tested.Statement.{statement}
 use Rattle.editor.proofs.optimise_tested.Tie as tie
@@ -22,7 +26,7 @@ slice-reshare-prefix-inspect : tie.Need-slice-reshare-prefix-inspect
 slice-reshare-prefix-inspect c = search needs
 
 slice-aggregate-inspect : tie.Need-slice-aggregate-inspect
-slice-aggregate-inspect c = search front-long
+slice-aggregate-inspect c = search first-bytes
 
 slice-aggregate-inspect-2 : tie.Need-slice-aggregate-inspect-2
 slice-aggregate-inspect-2 c = search needs
@@ -43,7 +47,9 @@ same-length : tie.Need-same-length
 same-length c = search needs
 
 returns : tie.Need-returns
-returns c = (optimise-eleven _ _ _ (c .before .before .before .before .before .before .before .before .before .before .before .before .pre .0) (c .before .before .before .before .before .before .before .before .before .before .before .before .pre .1) (c .before .before .before .before .before .before .before .before .before .before .before .before .pre .2) (c .before .before .before .before .before .before .before .before .before .before .before .before .pre .3) _ _ (accepted (c .before .before .before)) _ (c .before .writable .ensures) (c .if1 .taken), (optimise-eleven-image _ _ (c .before .before .before .before .before .before .before .before .before .before .before .before .args .work .now) (c .before .before .before .before .before .before .before .before .before .before .before .before .pre .0) (c .before .before .before .before .before .before .before .before .before .before .before .before .pre .1) (c .before .before .before .before .before .before .before .before .before .before .before .before .pre .2) (c .before .before .before .before .before .before .before .before .before .before .before .before .pre .3) _ _ (accepted (c .before .before .before)) _ (c .before .writable .ensures) (c .if1 .taken), refl))
+returns c =
+    let r = optimise-eleven _ _ _ (c .before .before .before .before .before .before .before .before .before .before .before .before .pre .0) (c .before .before .before .before .before .before .before .before .before .before .before .before .pre .1) (c .before .before .before .before .before .before .before .before .before .before .before .before .pre .2) (c .before .before .before .before .before .before .before .before .before .before .before .before .pre .3) _ _ (accepted (c .before .before .before)) _ (c .before .writable .ensures) (c .if1 .taken) in
+    (r .0, (r .1, refl))
 
 copy-requires : tie.Need-copy-requires
 copy-requires c κs = search needs
@@ -52,16 +58,19 @@ slice-reshare-prefix-pack : tie.Need-slice-reshare-prefix-pack
 slice-reshare-prefix-pack c = search needs
 
 slice-aggregate-pack : tie.Need-slice-aggregate-pack
-slice-aggregate-pack c = front-long (c .before .before .before .before .copy .last .0) (c .before .before .before .before .before .before .before .before .before .before .before .before .before .before .before .before .before .before .before .args .len) (omega arith)
+slice-aggregate-pack c = first-bytes (c .before .before .before .before .copy .last .0) (c .before .before .before .before .before .before .before .before .before .before .before .before .before .before .before .before .before .before .before .args .len) (omega arith)
 
 pack-requires : tie.Need-pack-requires
-pack-requires c κs = (copy-accepted _ _ (c .before .before .before .before .before .before .before .before .before .before .before .before .before .before .before .before .before .before .before .pre .2) _ _ (c .before .before .before .before .copy .ensures .0) _ _ (accepted (c .before .before .before .before .before .before .before .before .before .before)), ((copy-front _ _ (c .before .before .before .before .before .before .before .before .before .before .before .before .before .before .before .before .before .before .before .pre .2) _ _ (c .before .before .before .before .copy .ensures .0), copy-whole _ _ (c .before .before .before .before .before .before .before .before .before .before .before .before .before .before .before .before .before .before .before .pre .2) _ _ (c .before .before .before .before .copy .ensures .0) _ _ (accepted (c .before .before .before .before .before .before .before .before .before .before)) (c .before .before .before .before .before .before .before .before .before .before .before .before .before .before .before .before .before .before .before .pre .1), copy-inside _ _ (c .before .before .before .before .before .before .before .before .before .before .before .before .before .before .before .before .before .before .before .pre .2) _ _ (c .before .before .before .before .copy .ensures .0)), copy-words _ _ (c .before .before .before .before .before .before .before .before .before .before .before .before .before .before .before .before .before .before .before .pre .2) _ _ (c .before .before .before .before .copy .ensures .0) _ (counted (c .before .before .before .before .before .before .before .before .before .before))))
+pack-requires c κs = (copy-accepted _ _ (c .before .before .before .before .before .before .before .before .before .before .before .before .before .before .before .before .before .before .before .pre .2) _ _ (c .before .before .before .before .copy .ensures .0) _ _ (accepted (c .before .before .before .before .before .before .before .before .before .before)), ((copy-whole _ _ (c .before .before .before .before .before .before .before .before .before .before .before .before .before .before .before .before .before .before .before .pre .2) _ _ (c .before .before .before .before .copy .ensures .0) _ _ (accepted (c .before .before .before .before .before .before .before .before .before .before)) (c .before .before .before .before .before .before .before .before .before .before .before .before .before .before .before .before .before .before .before .pre .1), copy-inside _ _ (c .before .before .before .before .before .before .before .before .before .before .before .before .before .before .before .before .before .before .before .pre .2) _ _ (c .before .before .before .before .copy .ensures .0)), copy-words _ _ (c .before .before .before .before .before .before .before .before .before .before .before .before .before .before .before .before .before .before .before .pre .2) _ _ (c .before .before .before .before .copy .ensures .0) _ (counted (c .before .before .before .before .before .before .before .before .before .before))))
 
 same-length-2 : tie.Need-same-length-2
 same-length-2 c = search needs
 
 returns-2 : tie.Need-returns-2
-returns-2 c = (search optimise-refused, (search optimise-refused-image, refl))
+returns-2 c =
+    let p = c .before .before .before .before .before .before .before .before .before .pre in
+    let r = optimise-refused (c .before .before .before .before .before .before .before .before .before .args .image .now) (c .before .before .before .before .before .before .before .before .before .args .len) (c .before .before .before .before .before .before .before .before .before .args .work .now) (p .0) (p .1) (p .2) (p .3) _ _ _ (c .before .before .before .before .inspect .ensures) (c .before .r .given .0 .0) (search needs) in
+    (r .0, (r .1, refl))
 
 same-length-3 : tie.Need-same-length-3
 same-length-3 c = search needs
@@ -70,7 +79,9 @@ same-length-4 : tie.Need-same-length-4
 same-length-4 c = search needs
 
 returns-3 : tie.Need-returns-3
-returns-3 c = (optimise-done _ _ _ (c .before .before .before .before .before .before .before .before .before .before .before .before .before .before .before .before .before .before .before .before .before .before .pre .0) (c .before .before .before .before .before .before .before .before .before .before .before .before .before .before .before .before .before .before .before .before .before .before .pre .1) (c .before .before .before .before .before .before .before .before .before .before .before .before .before .before .before .before .before .before .before .before .before .before .pre .2) (c .before .before .before .before .before .before .before .before .before .before .before .before .before .before .before .before .before .before .before .before .before .before .pre .3) _ _ (accepted (c .before .before .before .before .before .before .before .before .before .before .before .before .before)) _ (c .before .before .before .before .before .before .before .before .before .before .before .writable .ensures) (c .before .before .before .before .before .before .before .before .before .before .if1 .left) (λ k. omega (arith, c .before .before .before .before .before .before .before .before .before .before .before .before .before .before .before .before .before .before .before .before .before .slice-known .given k)) _ (copy-is _ _ (c .before .before .before .before .before .before .before .before .before .before .before .before .before .before .before .before .before .before .before .before .before .before .pre .2) _ _ (c .before .before .before .before .before .before .before .copy .ensures .0)) _ (c .before .before .pack .ensures .1 .0), (optimise-done-image _ _ (c .before .before .before .before .before .before .before .before .before .before .before .before .before .before .before .before .before .before .before .before .before .before .args .work .now) (c .before .before .before .before .before .before .before .before .before .before .before .before .before .before .before .before .before .before .before .before .before .before .pre .0) (c .before .before .before .before .before .before .before .before .before .before .before .before .before .before .before .before .before .before .before .before .before .before .pre .1) (c .before .before .before .before .before .before .before .before .before .before .before .before .before .before .before .before .before .before .before .before .before .before .pre .2) (c .before .before .before .before .before .before .before .before .before .before .before .before .before .before .before .before .before .before .before .before .before .before .pre .3) _ _ (accepted (c .before .before .before .before .before .before .before .before .before .before .before .before .before)) _ (c .before .before .before .before .before .before .before .before .before .before .before .writable .ensures) (c .before .before .before .before .before .before .before .before .before .before .if1 .left) (λ k. omega (arith, c .before .before .before .before .before .before .before .before .before .before .before .before .before .before .before .before .before .before .before .before .before .slice-known .given k)) _ _ (copy-is _ _ (c .before .before .before .before .before .before .before .before .before .before .before .before .before .before .before .before .before .before .before .before .before .before .pre .2) _ _ (c .before .before .before .before .before .before .before .copy .ensures .0)) (c .before .before .pack .ensures .0), c .before .before .before .before .before .before .before .copy .ensures .1))
+returns-3 c =
+    let r = optimise-done (c .before .before .before .before .before .before .before .before .before .before .before .before .before .before .before .before .before .before .before .before .before .before .args .image .now) (c .before .before .before .before .before .before .before .before .before .before .before .before .before .before .before .before .before .before .before .before .before .before .args .len) (c .before .before .before .before .before .before .before .before .before .before .before .before .before .before .before .before .before .before .before .before .before .before .args .work .now) (c .before .before .before .before .before .before .before .before .before .before .before .before .before .before .before .before .before .before .before .before .before .before .pre .0) (c .before .before .before .before .before .before .before .before .before .before .before .before .before .before .before .before .before .before .before .before .before .before .pre .1) (c .before .before .before .before .before .before .before .before .before .before .before .before .before .before .before .before .before .before .before .before .before .before .pre .2) (c .before .before .before .before .before .before .before .before .before .before .before .before .before .before .before .before .before .before .before .before .before .before .pre .3) _ _ (accepted (c .before .before .before .before .before .before .before .before .before .before .before .before .before)) _ (c .before .before .before .before .before .before .before .before .before .before .before .writable .ensures) (c .before .before .before .before .before .before .before .before .before .before .if1 .left) (λ k. omega (arith, c .before .before .before .before .before .before .before .before .before .before .before .before .before .before .before .before .before .before .before .before .before .slice-known .given k)) _ _ (copy-is _ _ (c .before .before .before .before .before .before .before .before .before .before .before .before .before .before .before .before .before .before .before .before .before .before .pre .2) _ _ (c .before .before .before .before .before .before .before .copy .ensures .0)) _ (c .before .before .pack .ensures .1 .0) (c .before .before .pack .ensures .0) in
+    (r .0, (r .1, c .before .before .before .before .before .before .before .copy .ensures .1))
 
 pub optimise-tested-spec : {M : Type 1} → statement M
 optimise-tested-spec =

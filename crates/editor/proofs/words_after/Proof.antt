@@ -1,3 +1,4 @@
+-- `words_after` meets its contract.
 use native.Mathlib.Omega.{arith}
 use Rattle.editor.specs.Entered as Entered
 use borrow.Author.Needs.{needs}

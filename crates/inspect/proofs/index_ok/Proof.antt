@@ -3,15 +3,12 @@ use borrow.Author.Needs.{needs}
 use Rattle.inspect.proofs.index_ok.Statement.{statement}
 use Rattle.inspect.proofs.index_ok.Tie as tie
 
--- src/lib.rt:31:9
 returns : tie.Need-returns
 returns c = search (index-none, index-some, needs)
 
--- src/lib.rt:33:5
 elements-ok-requires : tie.Need-elements-ok-requires
 elements-ok-requires c κs = search needs
 
--- src/lib.rt:27:1
 returns-2 : tie.Need-returns-2
 returns-2 c = search (index-none, index-some, needs)
 

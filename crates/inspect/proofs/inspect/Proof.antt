@@ -4,31 +4,24 @@ use borrow.Author.Needs.{needs}
 use Rattle.inspect.proofs.inspect.Statement.{statement}
 use Rattle.inspect.proofs.inspect.Tie as tie
 
--- src/lib.rt:104:9
 frame-requires : tie.Need-frame-requires
 frame-requires c κs = search needs
 
--- src/lib.rt:106:25
 enum-known-f : tie.Need-enum-known-f
 enum-known-f c = search needs
 
--- src/lib.rt:107:26
 enum-known-f-2 : tie.Need-enum-known-f-2
 enum-known-f-2 c = search needs
 
--- src/lib.rt:107:43
 inspect-areas-requires : tie.Need-inspect-areas-requires
 inspect-areas-requires c κs = (search frame-read, ((search (frame-length-is, frame-read), search areas-index-few, search areas-data-few, search needs), search needs))
 
--- src/lib.rt:99:1
 returns : tie.Need-returns
 returns c = search areas-frame
 
--- src/lib.rt:99:1
 same-length : tie.Need-same-length
 same-length c = search needs
 
--- src/lib.rt:99:1
 returns-2 : tie.Need-returns-2
 returns-2 c = search needs
 

@@ -2,11 +2,11 @@
 use mathlib.Core.Path.{_≡_, refl}
 use lib.ListN.{length}
 use Rattle.index.specs.Elements.{elements-at, Inside}
-use Rattle.index.proofs.Laws.{inside-start, inside-end}
+use Rattle.index.proofs.Laws.{inside-start, inside-end, here-next}
 use native.Mathlib.Omega.{arith}
 use Rattle.moves.specs.Moved.{noted}
 use borrow.Author.Needs.{needs}
-use Rattle.moves.proofs.Laws.{blocks, note-inside, note-turn, note-end}
+use Rattle.moves.proofs.Laws.{blocks, note-turn, note-end}
 use Rattle.moves.proofs.note_starts.Statement.{statement}
 use Rattle.moves.proofs.note_starts.Tie as tie
 
@@ -38,7 +38,7 @@ loop-less : tie.Need-loop-less Inv-loop μ-loop
 loop-less c = search needs
 
 loop-again : tie.Need-loop-again Inv-loop μ-loop
-loop-again c = (omega arith, search (note-turn, needs), search (note-inside, needs))
+loop-again c = (omega arith, search (note-turn, needs), search (here-next, needs))
 
 same-length : tie.Need-same-length Inv-loop μ-loop
 same-length c = search needs

@@ -10,10 +10,10 @@ use Rattle.moves.proofs.place_moved.Statement.{statement}
 use Rattle.moves.proofs.place_moved.Tie as tie
 
 abbrev Inv-loop : tie.InvT-loop
-Inv-loop area d numbers₀ g free₀ end limit d2₀ b₀ numbers free d2 b = (b ≤ g) × (g ≤ d2) × (end ≤ d2) × (d2 ≤ limit) × (length free ≡ length free₀) × (length numbers ≡ length numbers₀) × Placing area d g end numbers₀ (marks free₀) d2 b numbers (marks free)
+Inv-loop area d numbers₀ g free₀ end limit last₀ b₀ numbers free last b = (b ≤ g) × (g ≤ last) × (end ≤ last) × (last ≤ limit) × (length free ≡ length free₀) × (length numbers ≡ length numbers₀) × Placing area d g end numbers₀ (marks free₀) last b numbers (marks free)
 
 abbrev μ-loop : tie.MeasureT-loop
-μ-loop area d numbers₀ g free₀ end limit d2₀ b₀ numbers free d2 b = g - b
+μ-loop area d numbers₀ g free₀ end limit last₀ b₀ numbers free last b = g - b
 
 loop-holds : tie.Need-loop-holds Inv-loop μ-loop
 loop-holds c = (omega arith, omega arith, omega arith, omega arith, refl, refl, search (place-start, needs))

@@ -3,7 +3,7 @@ use mathlib.Core.Path.{refl}
 use native.Mathlib.Omega.{arith}
 use lib.ListN.{length-set}
 use borrow.Author.Needs.{needs}
-use Rattle.moves.proofs.Laws.{place-none-end, place-none-free, place-none-table, place-past, place-among, place-free, place-table}
+use Rattle.moves.proofs.Laws.{place-none-end, place-none-free, place-none-table, place-last, place-free, place-table}
 use Rattle.moves.proofs.place_one.Statement.{statement}
 use Rattle.moves.proofs.place_one.Tie as tie
 
@@ -31,11 +31,11 @@ mul-numbers c = search needs
 slice-write-numbers : tie.Need-slice-write-numbers
 slice-write-numbers c = search needs
 
-add-if2 : tie.Need-add-if2
-add-if2 c = search needs
+add-larger : tie.Need-add-larger
+add-larger c = search needs
 
-add-result : tie.Need-add-result
-add-result c = search needs
+larger-requires : tie.Need-larger-requires
+larger-requires c κs = search needs
 
 same-length : tie.Need-same-length
 same-length c = search needs
@@ -44,16 +44,7 @@ same-length-2 : tie.Need-same-length-2
 same-length-2 c = search needs
 
 returns-2 : tie.Need-returns-2
-returns-2 c = (search (place-past, needs), (search (place-free, needs), (search (place-table, needs), (omega arith, simp length-set, omega arith))))
-
-same-length-3 : tie.Need-same-length-3
-same-length-3 c = search needs
-
-same-length-4 : tie.Need-same-length-4
-same-length-4 c = search needs
-
-returns-3 : tie.Need-returns-3
-returns-3 c = (search (place-among, needs), (search (place-free, needs), (search (place-table, needs), (omega arith, simp length-set, omega arith))))
+returns-2 c = (search (place-last, needs), (search (place-free, needs), (search (place-table, needs), (omega arith, simp length-set, omega arith))))
 
 pub place-one-spec : {M : Type 1} → statement M
 place-one-spec =
@@ -67,11 +58,8 @@ place-one-spec =
     cast-numbers
     mul-numbers
     slice-write-numbers
-    add-if2
-    add-result
+    add-larger
+    larger-requires
     same-length
     same-length-2
-    returns-2
-    same-length-3
-    same-length-4
-    returns-3)
+    returns-2)

@@ -7,7 +7,8 @@ use lib.ListN.{length}
 use Rattle.marks.specs.Marks.{marks}
 use Rattle.parts.specs.Merge.{todo, changed-entries, CursorOk}
 use Rattle.parts.proofs.Laws.{none-zero, begun-todo}
-use Rattle.newruns.proofs.Laws.{Planning, planning-start, planning-more, planned, planned-over, none-left, fewer-left}
+use Rattle.newruns.proofs.Laws.{Planning, planning-start, planning-more, planned, planned-over}
+use Rattle.parts.proofs.PartLaws.{none-left, fewer-left}
 use Rattle.newruns.proofs.plan_parts.Statement.{statement}
 use Rattle.newruns.proofs.plan_parts.Tie as tie
 

@@ -11,8 +11,9 @@ use Rattle.marks.specs.Marks.{marks}
 use Rattle.spec.specs.Place.{first-headword}
 use Rattle.parts.specs.Part.{part-of}
 use Rattle.parts.specs.Merge.{todo, changed-entries, CursorOk}
+use Rattle.parts.proofs.PartLaws.{none-left, used-some, fewer-left}
 use Rattle.parts.proofs.Laws.{first-bytes, none-zero, begun-todo, todo-short}
-use Rattle.newruns.proofs.Laws.{laid, elements-long, Writing, planning-under, planning-more, writing-start, writing-more, written-image, written-size, written-free, none-left, used-some, fewer-left, place-from, length-lent, run-room, element-fits, element-past, head-stands, part-stored}
+use Rattle.newruns.proofs.Laws.{laid, elements-long, Writing, planning-under, planning-more, writing-start, writing-more, written-image, written-size, written-free, length-lent, run-room, element-fits, element-past, head-stands, part-stored}
 use Rattle.newruns.proofs.write_parts.Statement.{statement}
 use Rattle.newruns.proofs.write_parts.Tie as tie
 
@@ -26,10 +27,7 @@ Inv-loop image₀ start at run h body fresh free₀ g end word₀ part₀ cur₀
 abbrev μ-loop : tie.MeasureT-loop
 μ-loop image₀ start at run h body fresh free₀ g end word₀ part₀ cur₀ d₀ out₀ image free word part cur d out = length (todo run word h body cur)
 
--- the part fits its slice, before it is encoded and after
-part-room : (c : tie.After-encode-part Inv-loop μ-loop) → c .encode-part .result .used ≤ length (c .before .before .before .loop .part)
-part-room c = omega (arith, c .encode-part .ensures .1 .1 .1 .1 .0, c .before .before .before .loop .inv .1)
-
+-- the part fits its slice
 part-filled : (c : tie.After-encode-part Inv-loop μ-loop) → c .encode-part .result .used ≤ length (c .encode-part .last .1 .1 .1 .1 .1 .0)
 part-filled c = omega (arith, c .encode-part .ensures .1 .1 .1 .1 .0, c .encode-part .ensures .1 .1 .1 .1 .1, c .before .before .before .loop .inv .1)
 
@@ -46,7 +44,7 @@ run-kept c = length-lent _ _ (c .before .before .before .before .before .before 
 
 -- the element's headword is that of the part
 part-head : (c : tie.After-head-end Inv-loop μ-loop) → take (c .head-end .result - 3) (drop 3 (c .before .before .before .before .before .before .before .before .before .before .before .before .before .before .before .before .before .encode-part .last .1 .1 .1 .1 .1 .0)) ≡ first-headword (part-of 1024 0 [] (todo (now (c .before .before .before .before .before .before .before .before .before .before .before .before .before .before .before .before .before .before .before .before .before .before .before .before .before .before .before .before .before .args .run)) (c .before .before .before .before .before .before .before .before .before .before .before .before .before .before .before .before .before .before .before .before .loop .word) (now (c .before .before .before .before .before .before .before .before .before .before .before .before .before .before .before .before .before .before .before .before .before .before .before .before .before .before .before .before .before .args .h)) (now (c .before .before .before .before .before .before .before .before .before .before .before .before .before .before .before .before .before .before .before .before .before .before .before .before .before .before .before .before .before .args .body)) (c .before .before .before .before .before .before .before .before .before .before .before .before .before .before .before .before .before .before .before .before .loop .cur)))
-part-head c = head-stands _ _ _ _ (c .before .before .before .before .before .before .before .before .before .before .before .before .before .before .before .before .before .encode-part .ensures .1 .0) (c .before .before .before .before .before .before .before .before .before .before .before .before .before .before .before .before .before .encode-part .ensures .0) (part-room (c .before .before .before .before .before .before .before .before .before .before .before .before .before .before .before .before .before)) (c .before .before .before .before .before .before .before .before .before .before .before .before .before .if1 .left) (todo-short _ _ _ _ _ (c .before .before .before .before .before .before .before .before .before .before .before .before .before .before .before .before .before .before .before .before .loop .inv .2) (c .before .before .before .before .before .before .before .before .before .before .before .before .before .before .before .before .before .before .before .before .before .before .before .before .before .before .before .before .before .pre .0 .0) (c .before .before .before .before .before .before .before .before .before .before .before .before .before .before .before .before .before .before .before .before .before .before .before .before .before .before .before .before .before .pre .0 .1)) _ (c .head-end .ensures .1)
+part-head c = head-stands _ _ _ _ (c .before .before .before .before .before .before .before .before .before .before .before .before .before .before .before .before .before .encode-part .ensures .1 .0) (c .before .before .before .before .before .before .before .before .before .before .before .before .before .before .before .before .before .encode-part .ensures .0) (c .before .before .before .before .before .before .before .before .before .before .before .before .before .if1 .left) (todo-short _ _ _ _ _ (c .before .before .before .before .before .before .before .before .before .before .before .before .before .before .before .before .before .before .before .before .loop .inv .2) (c .before .before .before .before .before .before .before .before .before .before .before .before .before .before .before .before .before .before .before .before .before .before .before .before .before .before .before .before .before .pre .0 .0) (c .before .before .before .before .before .before .before .before .before .before .before .before .before .before .before .before .before .before .before .before .before .before .before .before .before .before .before .before .before .pre .0 .1)) _ (c .head-end .ensures .1)
 
 slice-aggregate-advance : tie.Need-slice-aggregate-advance Inv-loop μ-loop
 slice-aggregate-advance c = refl
@@ -133,7 +131,7 @@ head-end-requires : tie.Need-head-end-requires Inv-loop μ-loop
 head-end-requires c κs = (omega (arith, used-some _ _ (c .before .before .before .before .before .before .before .before .before .before .before .before .before .before .before .before .encode-part .ensures .1 .0) (c .before .before .before .before .before .before .before .before .before .before .before .before .if1 .left)), part-filled (c .before .before .before .before .before .before .before .before .before .before .before .before .before .before .before .before))
 
 sub-put-element : tie.Need-sub-put-element Inv-loop μ-loop
-sub-put-element c = omega (arith, place-from _ _ _ _ _ (c .before .before .before .before .before .before .before .before .before .before .before .before .before .before .before .before .before .before .before .before .before .loop .inv .6) (omega (arith, c .before .before .before .before .before .before .before .before .before .before .before .before .before .before .before .before .before .before .before .before .before .loop .inv .5, c .before .before .before .before .before .before .before .before .before .before .before .before .before .before .before .before .before .before .before .before .before .loop .inv .7, planning-under _ _ _ _ _ _ _ (c .before .before .before .before .before .before .before .before .before .before .before .before .before .before .before .before .before .before .before .before .before .loop .inv .10 .planning))) (c .before .before .before .before .before .before .before .before .before .before .before .place .ensures .0))
+sub-put-element c = omega (arith, c .before .before .before .before .before .before .before .before .before .before .before .place .ensures .1 .0 .0)
 
 sub-put-element-2 : tie.Need-sub-put-element-2 Inv-loop μ-loop
 sub-put-element-2 c = omega (arith, c .before .head-end .ensures .0 .0)
@@ -163,7 +161,7 @@ loop-again c = (
   c .before .before .before .before .before .before .before .before .before .before .before .before .before .before .before .before .before .before .before .before .before .before .before .before .before .before .before .loop .inv .8,
   c .before .before .before .before .before .before .before .before .before .before .before .before .before .before .before .before .before .before .before .before .before .before .before .before .before .before .before .loop .inv .9,
   writing-more _ _ (c .before .before .before .before .before .before .before .before .before .before .before .before .before .before .before .before .before .before .before .before .before .before .before .before .encode-part .ensures .1 .0) (c .before .before .before .before .before .before .before .before .before .before .before .before .before .before .before .before .before .before .before .before .if1 .left) _ (c .before .before .before .before .before .before .before .before .before .before .before .before .before .before .before .before .before .before .before .before .before .before .before .before .encode-part .ensures .1 .1 .0) _ _ _ _ _ _ _ (c .before .before .before .before .before .before .before .before .before .before .before .before .before .before .before .before .before .before .before .run-blocks .ensures .0) (c .before .before .before .before .before .before .before .before .before .before .before .before .before .before .before .before .before .place .ensures .0) (c .before .before .before .before .before .before .before .before .before .before .before .before .before .before .larger .ensures) (c .before .before .before .before .before .before .before .before .before .before .before .before .before .before .before .before .before .place .ensures .1 .1 .0) _ _ _ _ _ _ _ _ _ _
-      (part-stored _ _ _ _ (c .before .before .before .before .before .before .before .before .before .before .before .before .before .before .before .before .before .before .before .before .before .before .before .before .encode-part .ensures .1 .0) (c .before .before .before .before .before .before .before .before .before .before .before .before .before .before .before .before .before .before .before .before .before .before .before .before .encode-part .ensures .0) (part-room (c .before .before .before .before .before .before .before .before .before .before .before .before .before .before .before .before .before .before .before .before .before .before .before .before)) _ _ _ _ _ _ _ _ _ (c .before .before .before .before .before .before .before .before .before .before .before .before .before .before .before .before .before .before .before .run-blocks .ensures .0) refl (run-fits (c .before .before .before .before .before .before .before .before .before .before .before .before .before .before)) (c .before .before .before .before .before .before .before .before .before .before .before .write-run .ensures .0) (part-head (c .before .before .before .before .before .before .before)) (c .before .before .before .put-element .ensures .0))
+      (part-stored _ _ _ _ (c .before .before .before .before .before .before .before .before .before .before .before .before .before .before .before .before .before .before .before .before .before .before .before .before .encode-part .ensures .1 .0) (c .before .before .before .before .before .before .before .before .before .before .before .before .before .before .before .before .before .before .before .before .before .before .before .before .encode-part .ensures .0) _ _ _ _ _ _ _ _ _ (c .before .before .before .before .before .before .before .before .before .before .before .before .before .before .before .before .before .before .before .run-blocks .ensures .0) refl (run-fits (c .before .before .before .before .before .before .before .before .before .before .before .before .before .before)) (c .before .before .before .before .before .before .before .before .before .before .before .write-run .ensures .0) (part-head (c .before .before .before .before .before .before .before)) (c .before .before .before .put-element .ensures .0))
       (element-past _ _ _ _ _ (part-head (c .before .before .before .before .before .before .before)) (c .before .before .before .put-element .ensures .1 .0))
       (c .before .before .before .before .before .before .before .before .before .before .before .before .before .before .before .before .before .before .before .before .before .before .before .before .before .before .before .loop .inv .10),
 )

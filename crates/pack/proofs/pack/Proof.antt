@@ -6,24 +6,24 @@ use denote.Ref.{now}
 use Rattle.spec.specs.Header.{format4}
 use Rattle.spec.specs.Index.{elements-bytes}
 use Rattle.index.specs.Elements.{elements-at}
-use Rattle.inspect.proofs.Laws.{index-part}
-use Rattle.inspect.proofs.Accepted.{accepted-blocks}
-use Rattle.pack.proofs.Optimised.{index-short, index-inside, area-long, index-fewer, index-holds, runs-fit, blocks-counted, blocks-fewer, packed-length, packed-image}
+use Rattle.inspect.proofs.Laws.{index-part, data-long}
+use Rattle.inspect.proofs.Accepted.{accepted-blocks, accepted-inside}
+use Rattle.pack.proofs.Optimised.{index-short, index-fewer, index-holds, runs-fit, blocks-counted, blocks-fewer, packed-length, packed-image}
 use borrow.Author.Needs.{needs}
 use Rattle.pack.proofs.pack.Statement.{statement}
 use Rattle.pack.proofs.pack.Tie as tie
 
 -- the new index is no longer than the old one
 fewer : (c : tie.After-need) → c .need .result ≤ c .before .before .before .before .before .before .before .args .n
-fewer c = index-fewer _ _ _ (c .before .before .before .before .before .before .before .pre .0) (c .before .before .before .before .before .before .before .pre .1 .0 .1) _ (c .before .before .before .nindex2 .ensures .0) _ _ (c .before .elements-end .ensures .0) (c .need .ensures)
+fewer c = index-fewer _ _ _ (c .before .before .before .before .before .before .before .pre .0) (c .before .before .before .before .before .before .before .pre .1 .0 .0) _ (c .before .before .before .nindex2 .ensures .0) _ _ (c .before .elements-end .ensures .0) (c .need .ensures)
 
 -- nor has it more data blocks
 few : (c : tie.After-nblock2) → c .nblock2 .result ≤ c .before .before .before .before .before .args .d
-few c = blocks-fewer _ _ _ (c .before .before .before .before .before .pre .0) (c .before .before .before .before .before .pre .1 .0 .1) _ (c .nblock2 .ensures .0)
+few c = blocks-fewer _ _ _ (c .before .before .before .before .before .pre .0) (c .before .before .before .before .before .pre .1 .0 .0) _ (c .nblock2 .ensures .0)
 
 -- its elements fit in it
 holds : (c : tie.After-need) → 256 + length (elements-bytes format4 (elements-at (index-part (now (c .before .before .before .before .before .before .before .args .old)) (c .before .before .before .before .before .before .before .args .n)) 0 (c .before .before .before .nindex2 .result))) ≤ 256 + 256 * c .need .result
-holds c = index-holds _ _ _ (c .before .before .before .before .before .before .before .pre .0) (c .before .before .before .before .before .before .before .pre .1 .0 .1) _ (c .before .before .before .nindex2 .ensures .0) _ _ (c .before .elements-end .ensures .0) (c .need .ensures)
+holds c = index-holds _ _ _ (c .before .before .before .before .before .before .before .pre .0) (c .before .before .before .before .before .before .before .pre .1 .0 .0) _ (c .before .before .before .nindex2 .ensures .0) _ _ (c .before .elements-end .ensures .0) (c .need .ensures)
 
 mul-start : tie.Need-mul-start
 mul-start c = search needs
@@ -47,10 +47,10 @@ nblock2-requires : tie.Need-nblock2-requires
 nblock2-requires c κs = search needs
 
 elements-end-requires : tie.Need-elements-end-requires
-elements-end-requires c κs = index-inside _ _ _ (c .before .before .before .before .before .pre .0) (c .before .before .before .before .before .pre .1 .0 .1) _ (c .before .nindex2 .ensures .0)
+elements-end-requires c κs = accepted-inside _ _ _ (c .before .before .before .before .before .pre .0) _ (c .before .nindex2 .ensures .0)
 
 need-requires : tie.Need-need-requires
-need-requires c κs = index-short _ _ _ (c .before .before .before .before .before .before .pre .0) (c .before .before .before .before .before .before .pre .1 .0 .1) _ (c .elements-end .ensures .1)
+need-requires c κs = index-short _ _ _ (c .before .before .before .before .before .before .pre .0) (c .before .before .before .before .before .before .pre .1 .0 .0) _ (c .elements-end .ensures .1)
 
 mul-data : tie.Need-mul-data
 mul-data c = omega (arith, fewer c)
@@ -69,8 +69,8 @@ part-write-runs-end c = search needs
 
 write-runs-requires : tie.Need-write-runs-requires
 write-runs-requires c κs =
-    let g = blocks-counted _ _ _ (c .before .before .before .before .before .before .before .before .before .pre .0) (c .before .before .before .before .before .before .before .before .before .pre .1 .0 .1) _ (c .before .before .before .before .nblock2 .ensures .0) in
-    (index-inside _ _ _ (c .before .before .before .before .before .before .before .before .before .pre .0) (c .before .before .before .before .before .before .before .before .before .pre .1 .0 .1) _ (c .before .before .before .before .before .nindex2 .ensures .0), ((area-long _ _ _ (c .before .before .before .before .before .before .before .before .before .pre .0) (c .before .before .before .before .before .before .before .before .before .pre .1 .0 .1) _ (c .before .before .before .before .before .nindex2 .ensures .0), accepted-blocks _ _ _ (c .before .before .before .before .before .before .before .before .before .pre .0)), runs-fit _ _ _ (c .before .before .before .before .before .before .before .before .before .pre .0) (c .before .before .before .before .before .before .before .before .before .pre .1 .0 .1) _ (c .before .before .before .before .before .nindex2 .ensures .0) _ _ (omega (arith, holds (c .before .before), fewer (c .before .before))) (omega (arith, g, few (c .before .before .before .before), fewer (c .before .before)))))
+    let g = blocks-counted _ _ _ (c .before .before .before .before .before .before .before .before .before .pre .0) (c .before .before .before .before .before .before .before .before .before .pre .1 .0 .0) _ (c .before .before .before .before .nblock2 .ensures .0) in
+    (accepted-inside _ _ _ (c .before .before .before .before .before .before .before .before .before .pre .0) _ (c .before .before .before .before .before .nindex2 .ensures .0), ((data-long (now (c .before .before .before .before .before .before .before .before .before .args .old)) (c .before .before .before .before .before .before .before .before .before .args .n) (c .before .before .before .before .before .before .before .before .before .args .d) (c .before .before .before .before .before .before .before .before .before .pre .1 .0 .0), accepted-blocks _ _ _ (c .before .before .before .before .before .before .before .before .before .pre .0)), runs-fit _ _ _ (c .before .before .before .before .before .before .before .before .before .pre .0) (c .before .before .before .before .before .before .before .before .before .pre .1 .0 .0) _ (c .before .before .before .before .before .nindex2 .ensures .0) _ _ (omega (arith, holds (c .before .before), fewer (c .before .before))) (omega (arith, g, few (c .before .before .before .before), fewer (c .before .before)))))
 
 sub-fill-zero : tie.Need-sub-fill-zero
 sub-fill-zero c = omega (arith, holds (c .before .before .before .before .before .before), fewer (c .before .before .before .before .before .before))
@@ -98,8 +98,8 @@ same-length c = search needs
 
 returns : tie.Need-returns
 returns c = (
-  packed-image _ _ _ (c .before .before .before .before .before .before .before .before .before .before .before .before .before .before .before .before .before .before .before .before .before .before .before .before .pre .0) (c .before .before .before .before .before .before .before .before .before .before .before .before .before .before .before .before .before .before .before .before .before .before .before .before .pre .1 .0 .1) _ (c .before .before .before .before .before .before .before .before .before .before .before .before .before .before .before .before .before .before .before .before .nindex2 .ensures .0) _ (c .before .before .before .before .before .before .before .before .before .before .before .before .before .before .before .before .before .before .before .nblock2 .ensures .0) _ _ (c .before .before .before .before .before .before .before .before .before .before .before .before .before .before .before .before .before .before .elements-end .ensures .0) (c .before .before .before .before .before .before .before .before .before .before .before .before .before .before .before .before .before .need .ensures) _ _ _ _ _ _ _ (c .before .before .before .before .before .before .before .before .before .before .before .before .before .before .before .before .before .before .before .before .before .before .before .before .pre .1 .0 .2) (c .before .before .before .before .before .before .before .before .before .before .before .before .before .before .write-runs .ensures .0) (c .before .before .before .before .before .before .before .before .before .before .before .before .before .before .write-runs .ensures .1 .0) (c .before .before .before .before .before .before .before .before .before .before .fill-zero .ensures .0) (c .before .before .before .before .before .before .before .before .before .before .before .before .before .before .before .before .before .before .before .before .before .before .before .before .pre .1 .1) (c .before .before .before .before .before .before .write-counts .ensures .0) (c .before .before .fill-zero2 .ensures .0),
-  (packed-length _ _ _ (c .before .before .before .before .before .before .before .before .before .before .before .before .before .before .before .before .before .before .before .before .before .before .before .before .pre .0) (c .before .before .before .before .before .before .before .before .before .before .before .before .before .before .before .before .before .before .before .before .before .before .before .before .pre .1 .0 .1) _ (c .before .before .before .before .before .before .before .before .before .before .before .before .before .before .before .before .before .before .before .before .nindex2 .ensures .0) _ (c .before .before .before .before .before .before .before .before .before .before .before .before .before .before .before .before .before .before .before .nblock2 .ensures .0) _ _ (c .before .before .before .before .before .before .before .before .before .before .before .before .before .before .before .before .before .before .elements-end .ensures .0) (c .before .before .before .before .before .before .before .before .before .before .before .before .before .before .before .before .before .need .ensures), search needs),
+  packed-image _ _ _ (c .before .before .before .before .before .before .before .before .before .before .before .before .before .before .before .before .before .before .before .before .before .before .before .before .pre .0) (c .before .before .before .before .before .before .before .before .before .before .before .before .before .before .before .before .before .before .before .before .before .before .before .before .pre .1 .0 .0) _ (c .before .before .before .before .before .before .before .before .before .before .before .before .before .before .before .before .before .before .before .before .nindex2 .ensures .0) _ (c .before .before .before .before .before .before .before .before .before .before .before .before .before .before .before .before .before .before .before .nblock2 .ensures .0) _ _ (c .before .before .before .before .before .before .before .before .before .before .before .before .before .before .before .before .before .before .elements-end .ensures .0) (c .before .before .before .before .before .before .before .before .before .before .before .before .before .before .before .before .before .need .ensures) _ _ _ _ _ _ _ (c .before .before .before .before .before .before .before .before .before .before .before .before .before .before .before .before .before .before .before .before .before .before .before .before .pre .1 .0 .1) (c .before .before .before .before .before .before .before .before .before .before .before .before .before .before .write-runs .ensures .0) (c .before .before .before .before .before .before .before .before .before .before .before .before .before .before .write-runs .ensures .1 .0) (c .before .before .before .before .before .before .before .before .before .before .fill-zero .ensures .0) (c .before .before .before .before .before .before .before .before .before .before .before .before .before .before .before .before .before .before .before .before .before .before .before .before .pre .1 .1) (c .before .before .before .before .before .before .write-counts .ensures .0) (c .before .before .fill-zero2 .ensures .0),
+  (packed-length _ _ _ (c .before .before .before .before .before .before .before .before .before .before .before .before .before .before .before .before .before .before .before .before .before .before .before .before .pre .0) (c .before .before .before .before .before .before .before .before .before .before .before .before .before .before .before .before .before .before .before .before .before .before .before .before .pre .1 .0 .0) _ (c .before .before .before .before .before .before .before .before .before .before .before .before .before .before .before .before .before .before .before .before .nindex2 .ensures .0) _ (c .before .before .before .before .before .before .before .before .before .before .before .before .before .before .before .before .before .before .before .nblock2 .ensures .0) _ _ (c .before .before .before .before .before .before .before .before .before .before .before .before .before .before .before .before .before .before .elements-end .ensures .0) (c .before .before .before .before .before .before .before .before .before .before .before .before .before .before .before .before .before .need .ensures), search needs),
 )
 
 pub pack-spec : {M : Type 1} → statement M

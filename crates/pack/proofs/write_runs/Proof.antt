@@ -6,7 +6,7 @@ use Rattle.spec.specs.Header.{format4}
 use Rattle.spec.specs.Index.{elements-bytes}
 use Rattle.index.specs.Elements.{elements-at, Inside}
 use Rattle.pack.proofs.Laws.{Underway, run-inside, run-fits, element-fits, underway-turn, write-laws}
-use Rattle.elements.proofs.Laws.{here-next}
+use Rattle.index.proofs.Laws.{here-next}
 use native.Mathlib.Omega.{arith}
 use Rattle.pack.proofs.write_runs.Statement.{statement}
 use Rattle.pack.proofs.write_runs.Tie as tie

@@ -4,7 +4,8 @@ use mathlib.Core.Path.{_≡_, refl, sym, _∙_}
 use native.Mathlib.Omega.{arith}
 use lib.ListN.{length}
 use Rattle.parts.specs.Merge.{todo, changed-entries, CursorOk}
-use Rattle.parts.proofs.MeasureLaws.{parts-of, bytes-of, blocks-of, Counting, counted, counting-less, used-some, parts-more, bytes-more, blocks-more}
+use Rattle.parts.proofs.MeasureLaws.{parts-in, bytes-in, blocks-in, Counting, counted, parts-more, bytes-more, blocks-more}
+use Rattle.parts.proofs.PartLaws.{used-some, fewer-left}
 use Rattle.parts.proofs.Laws.{none-zero, todo-short, measure-start, measure-bounds}
 use Rattle.parts.proofs.measure.Statement.{statement}
 use Rattle.parts.proofs.measure.Tie as tie
@@ -12,7 +13,7 @@ use Rattle.parts.proofs.measure.Tie as tie
 abbrev Inv-loop : tie.InvT-loop
 Inv-loop run h body fresh word₀ part₀ cur₀ parts₀ bytes₀ blocks₀ word part cur parts bytes blocks =
     (length word ≡ 256) × (length part ≡ 3328) × CursorOk run word cur × Counting (changed-entries run h body fresh) (todo run word h body cur) parts bytes blocks
-    × (parts-of (changed-entries run h body fresh) ≤ 8388609) × (bytes-of (changed-entries run h body fresh) ≤ 2105540859) × (blocks-of (changed-entries run h body fresh) ≤ 109051917)
+    × (parts-in (changed-entries run h body fresh) ≤ 8388609) × (bytes-in (changed-entries run h body fresh) ≤ 2105540859) × (blocks-in (changed-entries run h body fresh) ≤ 109051917)
 
 abbrev μ-loop : tie.MeasureT-loop
 μ-loop run h body fresh word₀ part₀ cur₀ parts₀ bytes₀ blocks₀ word part cur parts bytes blocks = length (todo run word h body cur)
@@ -38,7 +39,9 @@ encode-part-requires : tie.Need-encode-part-requires Inv-loop μ-loop
 encode-part-requires c κs = (c .before .before .loop .inv .2, (c .before .before .before .before .before .before .before .before .before .pre .0, c .before .before .before .before .before .before .before .before .before .pre .1, omega arith))
 
 returns : tie.Need-returns Inv-loop μ-loop
-returns c = counted _ _ _ _ _ _ (c .before .before .before .before .before .before .before .loop .inv .3) (c .before .before .before .before .encode-part .ensures .1 .0) (c .if1 .taken)
+returns c =
+    let k = c .before .before .before .before .before .before .before .loop .inv in
+    (counted _ _ _ _ _ _ (k .3) (c .before .before .before .before .encode-part .ensures .1 .0) (c .if1 .taken), (omega (arith, k .3 .parts-all, k .4), omega (arith, k .3 .bytes-all, k .5), omega (arith, k .3 .blocks-all, k .6)))
 
 add-parts : tie.Need-add-parts Inv-loop μ-loop
 add-parts c = omega (arith, parts-more _ _ _ _ _ _ (c .before .before .before .before .before .before .before .loop .inv .3) (c .before .before .before .before .encode-part .ensures .1 .0) (c .if1 .left) _ (c .before .before .before .before .encode-part .ensures .1 .1 .0), c .before .before .before .before .before .before .before .loop .inv .4)
@@ -47,10 +50,10 @@ slice-aggregate-head-end : tie.Need-slice-aggregate-head-end Inv-loop μ-loop
 slice-aggregate-head-end c = sym (c .before .before .before .before .before .encode-part .ensures .1 .1 .1 .1 .1 ∙ c .before .before .before .before .before .before .before .before .loop .inv .1)
 
 head-end-requires : tie.Need-head-end-requires Inv-loop μ-loop
-head-end-requires c κs = (omega (arith, used-some _ _ _ _ _ _ (c .before .before .before .before .before .before .before .before .loop .inv .3) (c .before .before .before .before .before .encode-part .ensures .1 .0) (c .before .if1 .left)), omega (arith, c .before .before .before .before .before .encode-part .ensures .1 .1 .1 .1 .0, c .before .before .before .before .before .encode-part .ensures .1 .1 .1 .1 .1, c .before .before .before .before .before .before .before .before .loop .inv .1))
+head-end-requires c κs = (omega (arith, used-some _ _ (c .before .before .before .before .before .encode-part .ensures .1 .0) (c .before .if1 .left)), omega (arith, c .before .before .before .before .before .encode-part .ensures .1 .1 .1 .1 .0, c .before .before .before .before .before .encode-part .ensures .1 .1 .1 .1 .1, c .before .before .before .before .before .before .before .before .loop .inv .1))
 
 add-bytes : tie.Need-add-bytes Inv-loop μ-loop
-add-bytes c = omega (arith, bytes-more _ _ _ _ _ _ (c .before .before .before .before .before .before .before .before .before .loop .inv .3) (c .before .before .before .before .before .before .encode-part .ensures .1 .0) (c .before .before .if1 .left) _ (c .before .before .before .before .before .before .encode-part .ensures .1 .1 .0) _ _ _ (todo-short _ _ _ _ _ (c .before .before .before .before .before .before .before .before .before .loop .inv .2) (c .before .before .before .before .before .before .before .before .before .before .before .before .before .before .before .before .pre .0) (c .before .before .before .before .before .before .before .before .before .before .before .before .before .before .before .before .pre .1)) (c .before .before .before .before .before .before .encode-part .ensures .0) (omega (arith, c .before .before .before .before .before .before .encode-part .ensures .1 .1 .1 .1 .0, c .before .before .before .before .before .before .before .before .before .loop .inv .1)) (c .head-end .ensures .1), c .before .before .before .before .before .before .before .before .before .loop .inv .5)
+add-bytes c = omega (arith, bytes-more _ _ _ _ _ _ (c .before .before .before .before .before .before .before .before .before .loop .inv .3) (c .before .before .before .before .before .before .encode-part .ensures .1 .0) (c .before .before .if1 .left) _ (c .before .before .before .before .before .before .encode-part .ensures .1 .1 .0) _ _ _ (todo-short _ _ _ _ _ (c .before .before .before .before .before .before .before .before .before .loop .inv .2) (c .before .before .before .before .before .before .before .before .before .before .before .before .before .before .before .before .pre .0) (c .before .before .before .before .before .before .before .before .before .before .before .before .before .before .before .before .pre .1)) (c .before .before .before .before .before .before .encode-part .ensures .0) (c .head-end .ensures .1), c .before .before .before .before .before .before .before .before .before .loop .inv .5)
 
 run-blocks-requires : tie.Need-run-blocks-requires Inv-loop μ-loop
 run-blocks-requires c κs = c .before .before .before .before .before .before .encode-part .ensures .1 .1 .1 .1 .0
@@ -59,7 +62,7 @@ add-blocks : tie.Need-add-blocks Inv-loop μ-loop
 add-blocks c = omega (arith, blocks-more _ _ _ _ _ _ (c .before .before .before .before .before .before .before .before .before .before .loop .inv .3) (c .before .before .before .before .before .before .before .encode-part .ensures .1 .0) (c .before .before .before .if1 .left) _ (c .before .before .before .before .before .before .before .encode-part .ensures .1 .1 .0) _ (c .run-blocks .ensures .0), c .before .before .before .before .before .before .before .before .before .before .loop .inv .6)
 
 loop-less : tie.Need-loop-less Inv-loop μ-loop
-loop-less c = counting-less _ _ _ _ _ _ (c .before .before .before .before .before .before .before .before .before .before .before .loop .inv .3) (c .before .before .before .before .before .before .before .before .encode-part .ensures .1 .0) (c .before .before .before .before .if1 .left) _ (c .before .before .before .before .before .before .before .before .encode-part .ensures .1 .1 .0)
+loop-less c = fewer-left _ _ (c .before .before .before .before .before .before .before .before .encode-part .ensures .1 .0) (c .before .before .before .before .if1 .left) _ (c .before .before .before .before .before .before .before .before .encode-part .ensures .1 .1 .0)
 
 loop-again : tie.Need-loop-again Inv-loop μ-loop
 loop-again c = (
@@ -68,7 +71,7 @@ loop-again c = (
   c .before .before .before .before .before .before .before .before .encode-part .ensures .1 .1 .1 .0,
   record {
     parts-all = parts-more _ _ _ _ _ _ (c .before .before .before .before .before .before .before .before .before .before .before .loop .inv .3) (c .before .before .before .before .before .before .before .before .encode-part .ensures .1 .0) (c .before .before .before .before .if1 .left) _ (c .before .before .before .before .before .before .before .before .encode-part .ensures .1 .1 .0);
-    bytes-all = bytes-more _ _ _ _ _ _ (c .before .before .before .before .before .before .before .before .before .before .before .loop .inv .3) (c .before .before .before .before .before .before .before .before .encode-part .ensures .1 .0) (c .before .before .before .before .if1 .left) _ (c .before .before .before .before .before .before .before .before .encode-part .ensures .1 .1 .0) _ _ _ (todo-short _ _ _ _ _ (c .before .before .before .before .before .before .before .before .before .before .before .loop .inv .2) (c .before .before .before .before .before .before .before .before .before .before .before .before .before .before .before .before .before .before .pre .0) (c .before .before .before .before .before .before .before .before .before .before .before .before .before .before .before .before .before .before .pre .1)) (c .before .before .before .before .before .before .before .before .encode-part .ensures .0) (omega (arith, c .before .before .before .before .before .before .before .before .encode-part .ensures .1 .1 .1 .1 .0, c .before .before .before .before .before .before .before .before .before .before .before .loop .inv .1)) (c .before .before .head-end .ensures .1);
+    bytes-all = bytes-more _ _ _ _ _ _ (c .before .before .before .before .before .before .before .before .before .before .before .loop .inv .3) (c .before .before .before .before .before .before .before .before .encode-part .ensures .1 .0) (c .before .before .before .before .if1 .left) _ (c .before .before .before .before .before .before .before .before .encode-part .ensures .1 .1 .0) _ _ _ (todo-short _ _ _ _ _ (c .before .before .before .before .before .before .before .before .before .before .before .loop .inv .2) (c .before .before .before .before .before .before .before .before .before .before .before .before .before .before .before .before .before .before .pre .0) (c .before .before .before .before .before .before .before .before .before .before .before .before .before .before .before .before .before .before .pre .1)) (c .before .before .before .before .before .before .before .before .encode-part .ensures .0) (c .before .before .head-end .ensures .1);
     blocks-all = blocks-more _ _ _ _ _ _ (c .before .before .before .before .before .before .before .before .before .before .before .loop .inv .3) (c .before .before .before .before .before .before .before .before .encode-part .ensures .1 .0) (c .before .before .before .before .if1 .left) _ (c .before .before .before .before .before .before .before .before .encode-part .ensures .1 .1 .0) _ (c .before .run-blocks .ensures .0);
   },
   c .before .before .before .before .before .before .before .before .before .before .before .loop .inv .4,

@@ -1,25 +1,21 @@
+-- `pdic_check` meets its contract.
 use Rattle.pdic.proofs.Laws.{check-refused, check-counted}
 use borrow.Author.Needs.{needs}
 use Rattle.pdic.proofs.pdic_check.Statement.{statement}
 use Rattle.pdic.proofs.pdic_check.Tie as tie
 
--- src/lib.rt:25:9
 check-requires : tie.Need-check-requires
 check-requires c κs = search needs
 
--- src/lib.rt:27:30
 enum-known-r : tie.Need-enum-known-r
 enum-known-r c = search needs
 
--- src/lib.rt:28:30
 enum-known-r-2 : tie.Need-enum-known-r-2
 enum-known-r-2 c = search needs
 
--- src/lib.rt:14:1
 returns : tie.Need-returns
 returns c = search check-refused
 
--- src/lib.rt:14:1
 returns-2 : tie.Need-returns-2
 returns-2 c = search check-counted
 

@@ -1,57 +1,45 @@
+-- `pdic_delete` meets its contract.
 use Rattle.pdic.proofs.Laws.{delete-refused, delete-absent, delete-removed}
 use borrow.Author.Needs.{needs}
 use Rattle.pdic.proofs.pdic_delete.Statement.{statement}
 use Rattle.pdic.proofs.pdic_delete.Tie as tie
 
--- src/lib.rt:136:9
 delete-requires : tie.Need-delete-requires
 delete-requires c κs = search needs
 
--- src/lib.rt:138:31
 enum-known-r : tie.Need-enum-known-r
 enum-known-r c = search needs
 
--- src/lib.rt:139:33
 enum-told : tie.Need-enum-told
 enum-told c = search needs
 
--- src/lib.rt:140:31
 enum-known-r-2 : tie.Need-enum-known-r-2
 enum-known-r-2 c = search needs
 
--- src/lib.rt:126:1
 same-length : tie.Need-same-length
 same-length c = search needs
 
--- src/lib.rt:126:1
 same-length-2 : tie.Need-same-length-2
 same-length-2 c = search needs
 
--- src/lib.rt:126:1
 returns : tie.Need-returns
 returns c = search delete-refused
 
--- src/lib.rt:126:1
 same-length-3 : tie.Need-same-length-3
 same-length-3 c = search needs
 
--- src/lib.rt:126:1
 same-length-4 : tie.Need-same-length-4
 same-length-4 c = search needs
 
--- src/lib.rt:126:1
 returns-2 : tie.Need-returns-2
 returns-2 c = search delete-absent
 
--- src/lib.rt:126:1
 same-length-5 : tie.Need-same-length-5
 same-length-5 c = search needs
 
--- src/lib.rt:126:1
 same-length-6 : tie.Need-same-length-6
 same-length-6 c = search needs
 
--- src/lib.rt:126:1
 returns-3 : tie.Need-returns-3
 returns-3 c = search delete-removed
 

@@ -1,41 +1,33 @@
+-- `pdic_optimise` meets its contract.
 use Rattle.pdic.proofs.Laws.{change-refused, change-done}
 use borrow.Author.Needs.{needs}
 use Rattle.pdic.proofs.pdic_optimise.Statement.{statement}
 use Rattle.pdic.proofs.pdic_optimise.Tie as tie
 
--- src/lib.rt:156:9
 optimise-requires : tie.Need-optimise-requires
 optimise-requires c κs = search needs
 
--- src/lib.rt:158:31
 enum-known-r : tie.Need-enum-known-r
 enum-known-r c = search needs
 
--- src/lib.rt:159:28
 enum-known-r-2 : tie.Need-enum-known-r-2
 enum-known-r-2 c = search needs
 
--- src/lib.rt:147:1
 same-length : tie.Need-same-length
 same-length c = search needs
 
--- src/lib.rt:147:1
 same-length-2 : tie.Need-same-length-2
 same-length-2 c = search needs
 
--- src/lib.rt:147:1
 returns : tie.Need-returns
 returns c = search change-refused
 
--- src/lib.rt:147:1
 same-length-3 : tie.Need-same-length-3
 same-length-3 c = search needs
 
--- src/lib.rt:147:1
 same-length-4 : tie.Need-same-length-4
 same-length-4 c = search needs
 
--- src/lib.rt:147:1
 returns-2 : tie.Need-returns-2
 returns-2 c = search change-done
 

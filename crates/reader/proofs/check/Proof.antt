@@ -4,47 +4,36 @@ use borrow.Author.Needs.{needs}
 use Rattle.reader.proofs.check.Statement.{statement}
 use Rattle.reader.proofs.check.Tie as tie
 
--- src/lib.rt:13:9
 slice-ok-requires : tie.Need-slice-ok-requires
 slice-ok-requires c κs = search needs
 
--- src/lib.rt:14:9
 returns : tie.Need-returns
 returns c = search check-slice
 
--- src/lib.rt:17:30
 slice-aggregate-inspect : tie.Need-slice-aggregate-inspect
 slice-aggregate-inspect c = search slice-front
 
--- src/lib.rt:17:41
 slice-aggregate-inspect-2 : tie.Need-slice-aggregate-inspect-2
 slice-aggregate-inspect-2 c = search needs
 
--- src/lib.rt:17:9
 inspect-requires : tie.Need-inspect-requires
 inspect-requires c κs = ((search slice-header, search slice-blocks, search needs), marks-zero 1024)
 
--- src/lib.rt:19:28
 enum-known-r : tie.Need-enum-known-r
 enum-known-r c = search needs
 
--- src/lib.rt:20:28
 enum-known-r-2 : tie.Need-enum-known-r-2
 enum-known-r-2 c = search needs
 
--- src/lib.rt:24:26
 slice-aggregate-count : tie.Need-slice-aggregate-count
 slice-aggregate-count c = search needs
 
--- src/lib.rt:24:13
 count-requires : tie.Need-count-requires
 count-requires c κs = search needs
 
--- src/lib.rt:10:1
 returns-2 : tie.Need-returns-2
 returns-2 c = search check-refused
 
--- src/lib.rt:10:1
 returns-3 : tie.Need-returns-3
 returns-3 c = search check-counted
 

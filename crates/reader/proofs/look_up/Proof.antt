@@ -1,50 +1,40 @@
 use Rattle.marks.proofs.Laws.{marks-zero}
-use Rattle.reader.proofs.Laws.{slice-front, slice-header, slice-blocks, look-up-slice, look-up-refused, accepted-image, accepted-start, look-up-answered}
+use Rattle.inspect.proofs.Accepted.{is-accepted}
+use Rattle.reader.proofs.Laws.{slice-front, slice-header, slice-blocks, look-up-slice, look-up-refused, accepted-start, look-up-answered}
 use borrow.Author.Needs.{needs}
 use Rattle.reader.proofs.look_up.Statement.{statement}
 use Rattle.reader.proofs.look_up.Tie as tie
 
--- src/lib.rt:91:9
 slice-ok-requires : tie.Need-slice-ok-requires
 slice-ok-requires c κs = search needs
 
--- src/lib.rt:92:9
 returns : tie.Need-returns
 returns c = search look-up-slice
 
--- src/lib.rt:94:9
 slice-aggregate-image : tie.Need-slice-aggregate-image
 slice-aggregate-image c = search slice-front
 
--- src/lib.rt:96:37
 slice-aggregate-inspect : tie.Need-slice-aggregate-inspect
 slice-aggregate-inspect c = search needs
 
--- src/lib.rt:96:9
 inspect-requires : tie.Need-inspect-requires
 inspect-requires c κs = ((search slice-header, search slice-blocks, search needs), marks-zero 1024)
 
--- src/lib.rt:98:28
 enum-known-r : tie.Need-enum-known-r
 enum-known-r c = search needs
 
--- src/lib.rt:101:13
 enum-known-r-2 : tie.Need-enum-known-r-2
 enum-known-r-2 c = search needs
 
--- src/lib.rt:103:14
 look-up-in-requires : tie.Need-look-up-in-requires
-look-up-in-requires c κs = (search accepted-image, (search slice-header, search slice-blocks, search accepted-start))
+look-up-in-requires c κs = (search is-accepted, (search slice-header, search slice-blocks, search accepted-start))
 
--- src/lib.rt:88:1
 returns-2 : tie.Need-returns-2
 returns-2 c = search look-up-refused
 
--- src/lib.rt:88:1
 same-length : tie.Need-same-length
 same-length c = search needs
 
--- src/lib.rt:88:1
 returns-3 : tie.Need-returns-3
 returns-3 c = search look-up-answered
 

@@ -1,99 +1,76 @@
 use Rattle.inspect.proofs.Accepted.{accepted-inside, accepted-area, accepted-blocks}
-use Rattle.seek.proofs.Laws.{spot-body, spot-area}
-use Rattle.reader.proofs.Found.{spot-room, spot-front, look-up-twelve, look-up-absent, look-up-other, look-up-same}
+use Rattle.seek.proofs.Laws.{spot-body, spot-area, spot-room, spot-front}
+use Rattle.reader.proofs.Found.{look-up-twelve, look-up-absent, look-up-other, look-up-same}
 use borrow.Author.Needs.{needs}
 use Rattle.reader.proofs.look_up_in.Statement.{statement}
 use Rattle.reader.proofs.look_up_in.Tie as tie
 
--- src/lib.rt:60:9
 headword-ok-requires : tie.Need-headword-ok-requires
 headword-ok-requires c κs = search needs
 
--- src/lib.rt:61:9
 returns : tie.Need-returns
 returns c = search look-up-twelve
 
--- src/lib.rt:63:23
 mul-start : tie.Need-mul-start
 mul-start c = search needs
 
--- src/lib.rt:63:17
 add-start : tie.Need-add-start
 add-start c = search needs
 
--- src/lib.rt:64:16
 sub-area : tie.Need-sub-area
 sub-area c = search needs
 
--- src/lib.rt:64:16
 part-area-start : tie.Need-part-area-start
 part-area-start c = search needs
 
--- src/lib.rt:64:16
 part-area-end : tie.Need-part-area-end
 part-area-end c = search needs
 
--- src/lib.rt:65:9
 nindex2-requires : tie.Need-nindex2-requires
 nindex2-requires c κs = search needs
 
--- src/lib.rt:68:9
 sub-seek : tie.Need-sub-seek
 sub-seek c = search needs
 
--- src/lib.rt:68:9
 part-seek-start : tie.Need-part-seek-start
 part-seek-start c = search needs
 
--- src/lib.rt:68:9
 part-seek-end : tie.Need-part-seek-end
 part-seek-end c = search needs
 
--- src/lib.rt:74:9
 slice-aggregate-seek : tie.Need-slice-aggregate-seek
 slice-aggregate-seek c = search needs
 
--- src/lib.rt:67:9
 seek-requires : tie.Need-seek-requires
 seek-requires c κs = (search accepted-inside, (search accepted-area, search accepted-blocks, search needs))
 
--- src/lib.rt:77:25
 enum-told : tie.Need-enum-told
 enum-told c = search needs
 
--- src/lib.rt:78:20
 enum-known-found : tie.Need-enum-known-found
 enum-known-found c = search needs
 
--- src/lib.rt:79:32
 array-share-prefix-word : tie.Need-array-share-prefix-word
 array-share-prefix-word c = search spot-room
 
--- src/lib.rt:79:32
 slice-aggregate-is-equal : tie.Need-slice-aggregate-is-equal
 slice-aggregate-is-equal c = search spot-front
 
--- src/lib.rt:79:16
 is-equal-requires : tie.Need-is-equal-requires
 is-equal-requires c κs = search needs
 
--- src/lib.rt:80:17
 give-text-requires : tie.Need-give-text-requires
 give-text-requires c κs = (search spot-body, search spot-area)
 
--- src/lib.rt:80:17
 same-length : tie.Need-same-length
 same-length c = search needs
 
--- src/lib.rt:80:17
 returns-2 : tie.Need-returns-2
 returns-2 c = search look-up-same
 
--- src/lib.rt:55:1
 returns-3 : tie.Need-returns-3
 returns-3 c = look-up-absent _ _ _ _ _ (c .before .before .before .before .before .before .before .before .before .before .before .before .before .pre .0) _ (c .before .before .before .before .before .before .before .before .before .headword-ok .ensures) (c .before .before .before .before .before .before .before .before .if1 .left) _ (c .before .before .before .before .before .before .nindex2 .ensures .0) _ _ (c .before .before .before .seek .ensures .0) (search)
 
--- src/lib.rt:55:1
 returns-4 : tie.Need-returns-4
 returns-4 c = search look-up-other
 

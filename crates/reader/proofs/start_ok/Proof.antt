@@ -3,15 +3,12 @@ use borrow.Author.Needs.{needs}
 use Rattle.reader.proofs.start_ok.Statement.{statement}
 use Rattle.reader.proofs.start_ok.Tie as tie
 
--- src/lib.rt:112:9
 returns : tie.Need-returns
 returns c = search start-long
 
--- src/lib.rt:114:5
 no-zero-requires : tie.Need-no-zero-requires
 no-zero-requires c κs = search needs
 
--- src/lib.rt:108:1
 returns-2 : tie.Need-returns-2
 returns-2 c = search start-clear
 

@@ -1,54 +1,43 @@
 use Rattle.marks.proofs.Laws.{marks-zero}
-use Rattle.reader.proofs.Laws.{slice-front, slice-header, slice-blocks, walk-slice, walk-refused, accepted-image, accepted-start, walk-answered}
+use Rattle.inspect.proofs.Accepted.{is-accepted}
+use Rattle.reader.proofs.Laws.{slice-front, slice-header, slice-blocks, walk-slice, walk-refused, accepted-start, walk-answered}
 use borrow.Author.Needs.{needs}
 use Rattle.reader.proofs.walk.Statement.{statement}
 use Rattle.reader.proofs.walk.Tie as tie
 
--- src/lib.rt:189:9
 slice-ok-requires : tie.Need-slice-ok-requires
 slice-ok-requires c κs = search needs
 
--- src/lib.rt:190:9
 returns : tie.Need-returns
 returns c = search walk-slice
 
--- src/lib.rt:192:9
 slice-aggregate-image : tie.Need-slice-aggregate-image
 slice-aggregate-image c = search slice-front
 
--- src/lib.rt:194:37
 slice-aggregate-inspect : tie.Need-slice-aggregate-inspect
 slice-aggregate-inspect c = search needs
 
--- src/lib.rt:194:9
 inspect-requires : tie.Need-inspect-requires
 inspect-requires c κs = ((search slice-header, search slice-blocks, search needs), marks-zero 1024)
 
--- src/lib.rt:196:28
 enum-known-r : tie.Need-enum-known-r
 enum-known-r c = search needs
 
--- src/lib.rt:199:13
 enum-known-r-2 : tie.Need-enum-known-r-2
 enum-known-r-2 c = search needs
 
--- src/lib.rt:201:14
 walk-in-requires : tie.Need-walk-in-requires
-walk-in-requires c κs = (search accepted-image, (search slice-header, search slice-blocks, search accepted-start))
+walk-in-requires c κs = (search is-accepted, (search slice-header, search slice-blocks, search accepted-start))
 
--- src/lib.rt:179:1
 returns-2 : tie.Need-returns-2
 returns-2 c = search walk-refused
 
--- src/lib.rt:179:1
 same-length : tie.Need-same-length
 same-length c = search needs
 
--- src/lib.rt:179:1
 same-length-2 : tie.Need-same-length-2
 same-length-2 c = search needs
 
--- src/lib.rt:179:1
 returns-3 : tie.Need-returns-3
 returns-3 c = search walk-answered
 

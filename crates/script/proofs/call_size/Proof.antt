@@ -1,45 +1,36 @@
+-- `call_size` meets its contract.
 use Rattle.script.proofs.Turns.{size-short, size-kind, size-past, size-whole}
 use borrow.Author.Needs.{needs}
 use Rattle.script.proofs.call_size.Statement.{statement}
 use Rattle.script.proofs.call_size.Tie as tie
 
--- src/lib.rt:31:9
 returns : tie.Need-returns
 returns c = (search size-short, search needs)
 
--- src/lib.rt:33:12
 shared-slice-read-if2 : tie.Need-shared-slice-read-if2
 shared-slice-read-if2 c = search needs
 
--- src/lib.rt:34:9
 returns-2 : tie.Need-returns-2
 returns-2 c = (search size-kind, search needs)
 
--- src/lib.rt:36:22
 shared-slice-read-wide : tie.Need-shared-slice-read-wide
 shared-slice-read-wide c = search needs
 
--- src/lib.rt:36:17
 wide-requires : tie.Need-wide-requires
 wide-requires c κs = search needs
 
--- src/lib.rt:36:13
 add-n : tie.Need-add-n
 add-n c = search needs
 
--- src/lib.rt:36:30
 read-u16-requires : tie.Need-read-u16-requires
 read-u16-requires c κs = search needs
 
--- src/lib.rt:36:13
 add-n-2 : tie.Need-add-n-2
 add-n-2 c = search needs
 
--- src/lib.rt:38:9
 returns-3 : tie.Need-returns-3
 returns-3 c = (search size-past, search needs)
 
--- src/lib.rt:26:1
 returns-4 : tie.Need-returns-4
 returns-4 c = (search size-whole, search needs)
 

@@ -1,57 +1,45 @@
+-- `delete` meets its contract.
 use Rattle.script.proofs.Laws.{delete-refused, delete-absent, delete-done, delete-length}
 use borrow.Author.Needs.{needs}
 use Rattle.script.proofs.delete.Statement.{statement}
 use Rattle.script.proofs.delete.Tie as tie
 
--- src/lib.rt:94:9
 delete-requires : tie.Need-delete-requires
 delete-requires c κs = search needs
 
--- src/lib.rt:96:31
 enum-known-r : tie.Need-enum-known-r
 enum-known-r c = search needs
 
--- src/lib.rt:97:33
 enum-told : tie.Need-enum-told
 enum-told c = search needs
 
--- src/lib.rt:101:31
 enum-known-r-2 : tie.Need-enum-known-r-2
 enum-known-r-2 c = search needs
 
--- src/lib.rt:90:1
 same-length : tie.Need-same-length
 same-length c = search needs
 
--- src/lib.rt:90:1
 same-length-2 : tie.Need-same-length-2
 same-length-2 c = search needs
 
--- src/lib.rt:90:1
 returns : tie.Need-returns
 returns c = (search delete-refused, search delete-length)
 
--- src/lib.rt:90:1
 same-length-3 : tie.Need-same-length-3
 same-length-3 c = search needs
 
--- src/lib.rt:90:1
 same-length-4 : tie.Need-same-length-4
 same-length-4 c = search needs
 
--- src/lib.rt:90:1
 returns-2 : tie.Need-returns-2
 returns-2 c = (search delete-absent, search delete-length)
 
--- src/lib.rt:90:1
 same-length-5 : tie.Need-same-length-5
 same-length-5 c = search needs
 
--- src/lib.rt:90:1
 same-length-6 : tie.Need-same-length-6
 same-length-6 c = search needs
 
--- src/lib.rt:90:1
 returns-3 : tie.Need-returns-3
 returns-3 c = (search delete-done, search delete-length)
 

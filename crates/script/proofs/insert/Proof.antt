@@ -1,41 +1,33 @@
+-- `insert` meets its contract.
 use Rattle.script.proofs.Laws.{insert-refused, insert-done, insert-length}
 use borrow.Author.Needs.{needs}
 use Rattle.script.proofs.insert.Statement.{statement}
 use Rattle.script.proofs.insert.Tie as tie
 
--- src/lib.rt:82:9
 insert-requires : tie.Need-insert-requires
 insert-requires c κs = search needs
 
--- src/lib.rt:84:31
 enum-known-r : tie.Need-enum-known-r
 enum-known-r c = search needs
 
--- src/lib.rt:85:28
 enum-known-r-2 : tie.Need-enum-known-r-2
 enum-known-r-2 c = search needs
 
--- src/lib.rt:71:1
 same-length : tie.Need-same-length
 same-length c = search needs
 
--- src/lib.rt:71:1
 same-length-2 : tie.Need-same-length-2
 same-length-2 c = search needs
 
--- src/lib.rt:71:1
 returns : tie.Need-returns
 returns c = (search insert-refused, search insert-length)
 
--- src/lib.rt:71:1
 same-length-3 : tie.Need-same-length-3
 same-length-3 c = search needs
 
--- src/lib.rt:71:1
 same-length-4 : tie.Need-same-length-4
 same-length-4 c = search needs
 
--- src/lib.rt:71:1
 returns-2 : tie.Need-returns-2
 returns-2 c = (search insert-done, search insert-length)
 

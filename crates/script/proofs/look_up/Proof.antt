@@ -1,37 +1,30 @@
+-- `look_up` meets its contract.
 use Rattle.script.proofs.Laws.{look-up-refused, look-up-absent, look-up-found}
 use borrow.Author.Needs.{needs}
 use Rattle.script.proofs.look_up.Statement.{statement}
 use Rattle.script.proofs.look_up.Tie as tie
 
--- src/lib.rt:48:51
 slice-aggregate-look-up : tie.Need-slice-aggregate-look-up
 slice-aggregate-look-up c = search needs
 
--- src/lib.rt:48:9
 look-up-requires : tie.Need-look-up-requires
 look-up-requires c κs = search needs
 
--- src/lib.rt:50:31
 enum-known-r : tie.Need-enum-known-r
 enum-known-r c = search needs
 
--- src/lib.rt:51:33
 enum-told : tie.Need-enum-told
 enum-told c = search needs
 
--- src/lib.rt:52:38
 enum-told-2 : tie.Need-enum-told-2
 enum-told-2 c = search needs
 
--- src/lib.rt:44:1
 returns : tie.Need-returns
 returns c = search look-up-refused
 
--- src/lib.rt:44:1
 returns-2 : tie.Need-returns-2
 returns-2 c = search look-up-absent
 
--- src/lib.rt:44:1
 returns-3 : tie.Need-returns-3
 returns-3 c = search look-up-found
 

@@ -1,3 +1,4 @@
+-- `perform` meets its contract.
 use mathlib.Core.Path.{refl}
 use native.Mathlib.Omega.{arith}
 use Rattle.script.proofs.ByKind.{performed-0, performed-1, performed-2, performed-3, performed-4, performed-5}
@@ -5,139 +6,105 @@ use borrow.Author.Needs.{needs}
 use Rattle.script.proofs.perform.Statement.{statement}
 use Rattle.script.proofs.perform.Tie as tie
 
--- src/lib.rt:124:16
 shared-slice-read-kind : tie.Need-shared-slice-read-kind
 shared-slice-read-kind c = search needs
 
--- src/lib.rt:125:25
 shared-slice-read-wide : tie.Need-shared-slice-read-wide
 shared-slice-read-wide c = search needs
 
--- src/lib.rt:125:20
 wide-requires : tie.Need-wide-requires
 wide-requires c κs = search needs
 
--- src/lib.rt:125:16
 add-word : tie.Need-add-word
 add-word c = search needs
 
--- src/lib.rt:126:20
 sub-headword : tie.Need-sub-headword
 sub-headword c = search needs
 
--- src/lib.rt:126:20
 part-headword-start : tie.Need-part-headword-start
 part-headword-start c = search needs
 
--- src/lib.rt:126:20
 part-headword-end : tie.Need-part-headword-end
 part-headword-end c = search needs
 
--- src/lib.rt:129:19
 look-up-requires : tie.Need-look-up-requires
 look-up-requires c κs = search needs
 
--- src/lib.rt:128:9
 same-length : tie.Need-same-length
 same-length c = search needs
 
--- src/lib.rt:128:9
 returns : tie.Need-returns
 returns c = let q = performed-0 _ (c .before .before .before .before .before .before .before .before .before .before .args .s .now) (c .before .before .before .before .before .before .before .before .before .before .args .image .now) (c .before .before .before .before .before .before .before .before .before .before .args .len) (λ k. omega (arith, c .before .before .before .before .before .before .before .before .slice-known .given k)) _ (c .before .before .before .before .wide .ensures .0) (c .before .before .if1 .taken) _ (c .look-up .ensures) in (q .0, (q .1, refl))
 
--- src/lib.rt:135:19
 walk-requires : tie.Need-walk-requires
 walk-requires c κs = search needs
 
--- src/lib.rt:134:9
 same-length-2 : tie.Need-same-length-2
 same-length-2 c = search needs
 
--- src/lib.rt:134:9
 returns-2 : tie.Need-returns-2
 returns-2 c = let q = performed-1 _ (c .before .before .before .before .before .before .before .before .before .before .before .args .s .now) (c .before .before .before .before .before .before .before .before .before .before .before .args .image .now) (c .before .before .before .before .before .before .before .before .before .before .before .args .len) (λ k. omega (arith, c .before .before .before .before .before .before .before .before .before .slice-known .given k)) _ (c .before .before .before .before .before .wide .ensures .0) (c .before .before .if2 .taken) _ (c .walk .ensures) in (q .0, (q .1, refl))
 
--- src/lib.rt:141:19
 walk-requires-2 : tie.Need-walk-requires-2
 walk-requires-2 c κs = search needs
 
--- src/lib.rt:140:9
 same-length-3 : tie.Need-same-length-3
 same-length-3 c = search needs
 
--- src/lib.rt:140:9
 returns-3 : tie.Need-returns-3
 returns-3 c = let q = performed-2 _ (c .before .before .before .before .before .before .before .before .before .before .before .before .args .s .now) (c .before .before .before .before .before .before .before .before .before .before .before .before .args .image .now) (c .before .before .before .before .before .before .before .before .before .before .before .before .args .len) (λ k. omega (arith, c .before .before .before .before .before .before .before .before .before .before .slice-known .given k)) _ (c .before .before .before .before .before .before .wide .ensures .0) (c .before .before .if3 .taken) _ (c .walk2 .ensures) in (q .0, (q .1, refl))
 
--- src/lib.rt:146:26
 read-u16-requires : tie.Need-read-u16-requires
 read-u16-requires c κs = search needs
 
--- src/lib.rt:146:19
 add-end : tie.Need-add-end
 add-end c = search needs
 
--- src/lib.rt:147:51
 shared-slice-read-insert : tie.Need-shared-slice-read-insert
 shared-slice-read-insert c = search needs
 
--- src/lib.rt:147:57
 sub-insert : tie.Need-sub-insert
 sub-insert c = search needs
 
--- src/lib.rt:147:57
 part-insert-start : tie.Need-part-insert-start
 part-insert-start c = search needs
 
--- src/lib.rt:147:57
 part-insert-end : tie.Need-part-insert-end
 part-insert-end c = search needs
 
--- src/lib.rt:147:9
 insert-requires : tie.Need-insert-requires
 insert-requires c κs = search needs
 
--- src/lib.rt:147:9
 same-length-4 : tie.Need-same-length-4
 same-length-4 c = search needs
 
--- src/lib.rt:147:9
 same-length-5 : tie.Need-same-length-5
 same-length-5 c = search needs
 
--- src/lib.rt:147:9
 returns-4 : tie.Need-returns-4
 returns-4 c = let q = performed-3 _ (c .before .before .before .before .before .before .before .before .before .before .before .before .before .before .before .before .before .before .before .before .before .args .s .now) (c .before .before .before .before .before .before .before .before .before .before .before .before .before .before .before .before .before .before .before .before .before .args .image .now) (c .before .before .before .before .before .before .before .before .before .before .before .before .before .before .before .before .before .before .before .before .before .args .len) (λ k. omega (arith, c .before .before .before .before .before .before .before .before .before .before .before .before .before .before .before .before .before .before .before .slice-known .given k)) _ (c .before .before .before .before .before .before .before .before .before .before .before .before .before .before .before .wide .ensures .0) (c .before .before .before .before .before .before .before .before .before .before .if4 .taken) _ (c .before .before .before .before .before .before .before .before .before .read-u16 .ensures .0) _ (c .before .before .before .before .insert .ensures .0) in (q .0, (q .1, c .before .before .before .before .insert .ensures .1))
 
--- src/lib.rt:150:9
 delete-requires : tie.Need-delete-requires
 delete-requires c κs = search needs
 
--- src/lib.rt:150:9
 same-length-6 : tie.Need-same-length-6
 same-length-6 c = search needs
 
--- src/lib.rt:150:9
 same-length-7 : tie.Need-same-length-7
 same-length-7 c = search needs
 
--- src/lib.rt:150:9
 returns-5 : tie.Need-returns-5
 returns-5 c = let q = performed-4 _ (c .before .before .before .before .before .before .before .before .before .before .before .before .before .before .before .before .before .before .before .args .s .now) (c .before .before .before .before .before .before .before .before .before .before .before .before .before .before .before .before .before .before .before .args .image .now) (c .before .before .before .before .before .before .before .before .before .before .before .before .before .before .before .before .before .before .before .args .len) (λ k. omega (arith, c .before .before .before .before .before .before .before .before .before .before .before .before .before .before .before .before .before .slice-known .given k)) _ (c .before .before .before .before .before .before .before .before .before .before .before .before .before .wide .ensures .0) (c .before .before .before .before .before .before .before .if5 .taken) _ (c .before .before .before .before .delete .ensures .0) in (q .0, (q .1, c .before .before .before .before .delete .ensures .1))
 
--- src/lib.rt:152:5
 optimise-requires : tie.Need-optimise-requires
 optimise-requires c κs = search needs
 
--- src/lib.rt:118:1
 same-length-8 : tie.Need-same-length-8
 same-length-8 c = search needs
 
--- src/lib.rt:118:1
 same-length-9 : tie.Need-same-length-9
 same-length-9 c = search needs
 
--- src/lib.rt:118:1
 returns-6 : tie.Need-returns-6
 returns-6 c = let q = performed-5 _ (c .before .before .before .before .before .before .before .before .before .before .before .before .before .before .before .before .before .before .before .args .s .now) (c .before .before .before .before .before .before .before .before .before .before .before .before .before .before .before .before .before .before .before .args .image .now) (c .before .before .before .before .before .before .before .before .before .before .before .before .before .before .before .before .before .before .before .args .len) (λ k. omega (arith, c .before .before .before .before .before .before .before .before .before .before .before .before .before .before .before .before .before .slice-known .given k)) (omega arith) _ (c .before .before .before .before .optimise .ensures .0) in (q .0, (q .1, c .before .before .before .before .optimise .ensures .1))
 

@@ -1,3 +1,4 @@
+-- `play` meets its contract.
 use Prim.Native.Nat.{_-_, _≤_}
 use mathlib.Core.Path.{_≡_, refl}
 use native.Mathlib.Omega.{arith}
@@ -17,65 +18,50 @@ Inv-loop script image₀ len work₀ codes₀ l₀ at₀ n₀ image work codes l
 abbrev μ-loop : tie.MeasureT-loop
 μ-loop script image₀ len work₀ codes₀ l₀ at₀ n₀ image work codes l at n = length script - at
 
--- src/lib.rt:180:5
 loop-holds : tie.Need-loop-holds Inv-loop μ-loop
 loop-holds c = (omega arith, omega arith, refl, refl, refl, played-start _ _ _ _ _)
 
--- src/lib.rt:181:20
 sub-rest : tie.Need-sub-rest Inv-loop μ-loop
 sub-rest c = search needs
 
--- src/lib.rt:181:20
 part-rest-start : tie.Need-part-rest-start Inv-loop μ-loop
 part-rest-start c = search needs
 
--- src/lib.rt:181:20
 part-rest-end : tie.Need-part-rest-end Inv-loop μ-loop
 part-rest-end c = search needs
 
--- src/lib.rt:182:13
 call-size-requires : tie.Need-call-size-requires Inv-loop μ-loop
 call-size-requires c κs = search needs
 
--- src/lib.rt:184:13
 same-length : tie.Need-same-length Inv-loop μ-loop
 same-length c = omega arith
 
--- src/lib.rt:184:13
 same-length-2 : tie.Need-same-length-2 Inv-loop μ-loop
 same-length-2 c = omega arith
 
--- src/lib.rt:184:13
 same-length-3 : tie.Need-same-length-3 Inv-loop μ-loop
 same-length-3 c = omega arith
 
--- src/lib.rt:184:13
 returns : tie.Need-returns Inv-loop μ-loop
 returns c =
     let e = played-end _ (c .before .before .before .before .before .before .before .before .args .script .now) (c .before .before .before .loop .at) _ _ _ _ _ (c .before .before .before .loop .inv .5) _ (c .before .call-size .ensures .0) (c .if1 .taken) in
     (e, (script-claimed (c .before .before .before .before .before .before .before .before .args .image .now) (λ k. omega (arith, c .before .before .before .before .before .before .slice-known .given k)) _ (c .before .before .before .before .before .before .before .before .args .script .now) (λ k. omega (arith, c .before .before .before .before .before .before .before .shared-slice-known .given k)) _ _ _ e, omega arith))
 
--- src/lib.rt:186:13
 perform-requires : tie.Need-perform-requires Inv-loop μ-loop
 perform-requires c κs = size-told _ _ (c .before .before .before .call-size .ensures .0) (c .before .before .if1 .left)
 
--- src/lib.rt:188:9
 put-code-requires : tie.Need-put-code-requires Inv-loop μ-loop
 put-code-requires c κs = search needs
 
--- src/lib.rt:190:9
 add-at : tie.Need-add-at Inv-loop μ-loop
 add-at c = search needs
 
--- src/lib.rt:191:9
 add-n : tie.Need-add-n Inv-loop μ-loop
 add-n c = search needs
 
--- src/lib.rt:180:5
 loop-less : tie.Need-loop-less Inv-loop μ-loop
 loop-less c = omega arith
 
--- src/lib.rt:180:5
 loop-again : tie.Need-loop-again Inv-loop μ-loop
 loop-again c = (omega arith, omega arith, omega arith, omega arith, omega arith, played-turn _ (c .before .before .before .before .before .before .before .before .before .before .before .before .before .before .before .before .before .before .before .args .script .now) (c .before .before .before .before .before .before .before .before .before .before .before .before .before .before .loop .at) _ _ _ _ _ (c .before .before .before .before .before .before .before .before .before .before .before .before .before .before .loop .inv .5) _ (c .before .before .before .before .before .before .before .before .before .before .before .before .call-size .ensures .0) (c .before .before .before .before .before .before .before .before .before .before .before .if1 .left) _ (c .before .before .before .before .before .before .before .before .before .before .before .before .before .before .loop .inv .3) _ _ _ (c .before .before .before .before .before .before .before .before .perform .ensures .0) _ (c .before .before .put-code .ensures))
 

@@ -1,26 +1,22 @@
+-- `put_code` meets its contract.
 use mathlib.Core.Path.{sym}
 use lib.Seq.{set-out}
 use borrow.Author.Needs.{needs}
 use Rattle.script.proofs.put_code.Statement.{statement}
 use Rattle.script.proofs.put_code.Tie as tie
 
--- src/lib.rt:161:20
 cast-codes : tie.Need-cast-codes
 cast-codes c = search needs
 
--- src/lib.rt:161:9
 slice-write-codes : tie.Need-slice-write-codes
 slice-write-codes c = search needs
 
--- src/lib.rt:156:1
 same-length : tie.Need-same-length
 same-length c = search needs
 
--- src/lib.rt:156:1
 returns : tie.Need-returns
 returns c = search needs
 
--- src/lib.rt:156:1
 returns-2 : tie.Need-returns-2
 returns-2 c = sym (search set-out)
 

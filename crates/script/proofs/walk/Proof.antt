@@ -1,41 +1,33 @@
+-- `walk` meets its contract.
 use Rattle.script.proofs.Laws.{walk-refused, walk-absent, walk-found}
 use borrow.Author.Needs.{needs}
 use Rattle.script.proofs.walk.Statement.{statement}
 use Rattle.script.proofs.walk.Tie as tie
 
--- src/lib.rt:62:55
 slice-aggregate-walk : tie.Need-slice-aggregate-walk
 slice-aggregate-walk c = search needs
 
--- src/lib.rt:62:66
 slice-aggregate-walk-2 : tie.Need-slice-aggregate-walk-2
 slice-aggregate-walk-2 c = search needs
 
--- src/lib.rt:62:9
 walk-requires : tie.Need-walk-requires
 walk-requires c κs = search needs
 
--- src/lib.rt:64:29
 enum-known-r : tie.Need-enum-known-r
 enum-known-r c = search needs
 
--- src/lib.rt:65:31
 enum-told : tie.Need-enum-told
 enum-told c = search needs
 
--- src/lib.rt:66:39
 enum-told-2 : tie.Need-enum-told-2
 enum-told-2 c = search needs
 
--- src/lib.rt:57:1
 returns : tie.Need-returns
 returns c = search walk-refused
 
--- src/lib.rt:57:1
 returns-2 : tie.Need-returns-2
 returns-2 c = search walk-absent
 
--- src/lib.rt:57:1
 returns-3 : tie.Need-returns-3
 returns-3 c = search walk-found
 

@@ -3,35 +3,27 @@ use borrow.Author.Needs.{needs}
 use Rattle.tally.proofs.ends_below.Statement.{statement}
 use Rattle.tally.proofs.ends_below.Tie as tie
 
--- src/lib.rt:71:9
 returns : tie.Need-returns
 returns c = search ends-none
 
--- src/lib.rt:73:9
 element-end-requires : tie.Need-element-end-requires
 element-end-requires c κs = number-inside _ _ _ (c .before .before .before .pre) (c .if1 .left)
 
--- src/lib.rt:74:37
 add-is-below : tie.Need-add-is-below
 add-is-below c = search needs
 
--- src/lib.rt:74:30
 sub-is-below : tie.Need-sub-is-below
 sub-is-below c = search needs
 
--- src/lib.rt:74:30
 part-is-below-start : tie.Need-part-is-below-start
 part-is-below-start c = search needs
 
--- src/lib.rt:74:30
 part-is-below-end : tie.Need-part-is-below-end
 part-is-below-end c = search needs
 
--- src/lib.rt:74:5
 is-below-requires : tie.Need-is-below-requires
 is-below-requires c κs = search needs
 
--- src/lib.rt:66:1
 returns-2 : tie.Need-returns-2
 returns-2 c = search ends-next
 

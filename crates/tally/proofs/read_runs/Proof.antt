@@ -22,163 +22,123 @@ Inv-walk index n area d used₀ word₀ words₀ blocks₀ at₀ left₀ used wo
 abbrev μ-walk : tie.MeasureT-walk
 μ-walk index n area d used₀ word₀ words₀ blocks₀ at₀ left₀ used word words blocks at left = left
 
--- src/lib.rt:87:5
 walk-holds : tie.Need-walk-holds Inv-loop μ-loop Inv-walk μ-walk
 walk-holds c = search runs-laws
 
--- src/lib.rt:94:13
 read-u16-requires : tie.Need-read-u16-requires Inv-loop μ-loop Inv-walk μ-walk
 read-u16-requires c κs = search runs-laws
 
--- src/lib.rt:95:13
 run-size-requires : tie.Need-run-size-requires Inv-loop μ-loop Inv-walk μ-walk
 run-size-requires c κs = search runs-laws
 
--- src/lib.rt:99:25
 mul-run : tie.Need-mul-run Inv-loop μ-loop Inv-walk μ-walk
 mul-run c = search runs-laws
 
--- src/lib.rt:99:34
 mul-run-2 : tie.Need-mul-run-2 Inv-loop μ-loop Inv-walk μ-walk
 mul-run-2 c = search runs-laws
 
--- src/lib.rt:99:44
 mul-run-3 : tie.Need-mul-run-3 Inv-loop μ-loop Inv-walk μ-walk
 mul-run-3 c = search runs-laws
 
--- src/lib.rt:99:34
 add-run : tie.Need-add-run Inv-loop μ-loop Inv-walk μ-walk
 add-run c = search runs-laws
 
--- src/lib.rt:99:19
 sub-run : tie.Need-sub-run Inv-loop μ-loop Inv-walk μ-walk
 sub-run c = search runs-laws
 
--- src/lib.rt:99:19
 part-run-start : tie.Need-part-run-start Inv-loop μ-loop Inv-walk μ-walk
 part-run-start c = search runs-laws
 
--- src/lib.rt:99:19
 part-run-end : tie.Need-part-run-end Inv-loop μ-loop Inv-walk μ-walk
 part-run-end c = search runs-laws
 
--- src/lib.rt:100:13
 element-end-requires : tie.Need-element-end-requires Inv-loop μ-loop Inv-walk μ-walk
 element-end-requires c κs = search runs-laws
 
--- src/lib.rt:101:47
 add-first-entry : tie.Need-add-first-entry Inv-loop μ-loop Inv-walk μ-walk
 add-first-entry c = search runs-laws
 
--- src/lib.rt:101:40
 sub-first-entry : tie.Need-sub-first-entry Inv-loop μ-loop Inv-walk μ-walk
 sub-first-entry c = search runs-laws
 
--- src/lib.rt:101:40
 part-first-entry-start : tie.Need-part-first-entry-start Inv-loop μ-loop Inv-walk μ-walk
 part-first-entry-start c = search runs-laws
 
--- src/lib.rt:101:40
 part-first-entry-end : tie.Need-part-first-entry-end Inv-loop μ-loop Inv-walk μ-walk
 part-first-entry-end c = search runs-laws
 
--- src/lib.rt:101:61
 slice-aggregate-first-entry : tie.Need-slice-aggregate-first-entry Inv-loop μ-loop Inv-walk μ-walk
 slice-aggregate-first-entry c = search runs-laws
 
--- src/lib.rt:101:13
 first-entry-requires : tie.Need-first-entry-requires Inv-loop μ-loop Inv-walk μ-walk
 first-entry-requires c κs = search runs-laws
 
--- src/lib.rt:105:30
 add-len : tie.Need-add-len Inv-loop μ-loop Inv-walk μ-walk
 add-len c = search runs-laws
 
--- src/lib.rt:105:23
 sub-len : tie.Need-sub-len Inv-loop μ-loop Inv-walk μ-walk
 sub-len c = search runs-laws
 
--- src/lib.rt:107:9
 loop-holds : tie.Need-loop-holds Inv-loop μ-loop Inv-walk μ-walk
 loop-holds c = (search needs, search walk-reading)
 
--- src/lib.rt:108:49
 slice-aggregate-read-entry : tie.Need-slice-aggregate-read-entry Inv-loop μ-loop Inv-walk μ-walk
 slice-aggregate-read-entry c = search runs-laws
 
--- src/lib.rt:108:17
 read-entry-requires : tie.Need-read-entry-requires Inv-loop μ-loop Inv-walk μ-walk
 read-entry-requires c κs = (search needs, (search needs, search needs, search needs))
 
--- src/lib.rt:111:33
 enum-told : tie.Need-enum-told Inv-loop μ-loop Inv-walk μ-walk
 enum-told c = search runs-laws
 
--- src/lib.rt:114:21
 enum-told-2 : tie.Need-enum-told-2 Inv-loop μ-loop Inv-walk μ-walk
 enum-told-2 c = search runs-laws
 
--- src/lib.rt:117:21
 enum-known-st : tie.Need-enum-known-st Inv-loop μ-loop Inv-walk μ-walk
 enum-known-st c = search runs-laws
 
--- src/lib.rt:123:21
 add-count : tie.Need-add-count Inv-loop μ-loop Inv-walk μ-walk
 add-count c = search runs-laws
 
--- src/lib.rt:107:9
 loop-less : tie.Need-loop-less Inv-loop μ-loop Inv-walk μ-walk
 loop-less c = search runs-laws
 
--- src/lib.rt:107:9
 loop-again : tie.Need-loop-again Inv-loop μ-loop Inv-walk μ-walk
 loop-again c = (search needs, search walk-turn)
 
--- src/lib.rt:127:31
 add-ends-below : tie.Need-add-ends-below Inv-loop μ-loop Inv-walk μ-walk
 add-ends-below c = search runs-laws
 
--- src/lib.rt:127:40
 sub-ends-below : tie.Need-sub-ends-below Inv-loop μ-loop Inv-walk μ-walk
 sub-ends-below c = search runs-laws
 
--- src/lib.rt:127:50
 array-share-prefix-word : tie.Need-array-share-prefix-word Inv-loop μ-loop Inv-walk μ-walk
 array-share-prefix-word c = search runs-laws
 
--- src/lib.rt:127:50
 slice-aggregate-ends-below : tie.Need-slice-aggregate-ends-below Inv-loop μ-loop Inv-walk μ-walk
 slice-aggregate-ends-below c = search runs-laws
 
--- src/lib.rt:127:13
 ends-below-requires : tie.Need-ends-below-requires Inv-loop μ-loop Inv-walk μ-walk
 ends-below-requires c κs = walk-behind _ _ _ _ _ _ _ _ _ _ _ _ _ _ _ (c .before .before .before .before .before .before .loop .inv .1)
 
--- src/lib.rt:130:9
 mark-range-requires : tie.Need-mark-range-requires Inv-loop μ-loop Inv-walk μ-walk
 mark-range-requires c κs = search runs-laws
 
--- src/lib.rt:131:9
 add-words : tie.Need-add-words Inv-loop μ-loop Inv-walk μ-walk
 add-words c = search runs-laws
 
--- src/lib.rt:132:9
 add-blocks : tie.Need-add-blocks Inv-loop μ-loop Inv-walk μ-walk
 add-blocks c = search runs-laws
 
--- src/lib.rt:133:14
 add-at : tie.Need-add-at Inv-loop μ-loop Inv-walk μ-walk
 add-at c = search runs-laws
 
--- src/lib.rt:134:9
 sub-left : tie.Need-sub-left Inv-loop μ-loop Inv-walk μ-walk
 sub-left c = search runs-laws
 
--- src/lib.rt:87:5
 walk-less : tie.Need-walk-less Inv-loop μ-loop Inv-walk μ-walk
 walk-less c = search runs-laws
 
--- src/lib.rt:87:5
 walk-again : tie.Need-walk-again Inv-loop μ-loop Inv-walk μ-walk
 walk-again c = (
   search needs,
@@ -186,43 +146,33 @@ walk-again c = (
   walk-on _ _ _ _ _ _ _ _ _ _ _ _ _ _ _ (c .before .before .before .before .before .before .before .before .before .before .before .before .loop .inv .1) _ _ (c .before .before .before .before .before .before .before .before .before .before .read-entry .ensures .0) (search) (c .before .before .before .before .before .before .before .before .before .before .read-entry .ensures .1 .1 .1) _ (c .before .before .before .before .before .ends-below .ensures) _ _ _ (c .before .before .before .before .before .before .before .before .before .before .before .before .before .before .before .before .before .before .before .before .before .before .before .before .walk .inv .2) (search) _ (search),
 )
 
--- src/lib.rt:77:1
 same-length : tie.Need-same-length Inv-loop μ-loop Inv-walk μ-walk
 same-length c = search runs-laws
 
--- src/lib.rt:77:1
 returns : tie.Need-returns Inv-loop μ-loop Inv-walk μ-walk
 returns c = search runs-laws
 
--- src/lib.rt:77:1
 same-length-2 : tie.Need-same-length-2 Inv-loop μ-loop Inv-walk μ-walk
 same-length-2 c = search runs-laws
 
--- src/lib.rt:77:1
 returns-2 : tie.Need-returns-2 Inv-loop μ-loop Inv-walk μ-walk
 returns-2 c = search runs-laws
 
--- src/lib.rt:77:1
 same-length-3 : tie.Need-same-length-3 Inv-loop μ-loop Inv-walk μ-walk
 same-length-3 c = search runs-laws
 
--- src/lib.rt:77:1
 returns-3 : tie.Need-returns-3 Inv-loop μ-loop Inv-walk μ-walk
 returns-3 c = search runs-laws
 
--- src/lib.rt:77:1
 same-length-4 : tie.Need-same-length-4 Inv-loop μ-loop Inv-walk μ-walk
 same-length-4 c = search runs-laws
 
--- src/lib.rt:77:1
 returns-4 : tie.Need-returns-4 Inv-loop μ-loop Inv-walk μ-walk
 returns-4 c = search runs-laws
 
--- src/lib.rt:77:1
 same-length-5 : tie.Need-same-length-5 Inv-loop μ-loop Inv-walk μ-walk
 same-length-5 c = search runs-laws
 
--- src/lib.rt:77:1
 returns-5 : tie.Need-returns-5 Inv-loop μ-loop Inv-walk μ-walk
 returns-5 c = search runs-laws
 

@@ -3,31 +3,24 @@ use borrow.Author.Needs.{needs}
 use Rattle.tally.proofs.run_size.Statement.{statement}
 use Rattle.tally.proofs.run_size.Tie as tie
 
--- src/lib.rt:27:9
 returns : tie.Need-returns
 returns c = (search sized-number, search needs)
 
--- src/lib.rt:29:28
 mul-read-u16 : tie.Need-mul-read-u16
 mul-read-u16 c = search needs
 
--- src/lib.rt:29:9
 read-u16-requires : tie.Need-read-u16-requires
 read-u16-requires c κs = search needs
 
--- src/lib.rt:31:9
 returns-2 : tie.Need-returns-2
 returns-2 c = (search sized-top, search needs)
 
--- src/lib.rt:33:8
 sub-if3 : tie.Need-sub-if3
 sub-if3 c = search needs
 
--- src/lib.rt:34:9
 returns-3 : tie.Need-returns-3
 returns-3 c = (search sized-past, search needs)
 
--- src/lib.rt:21:1
 returns-4 : tie.Need-returns-4
 returns-4 c = (search sized-good, search needs)
 
