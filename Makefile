@@ -6,6 +6,7 @@ library = target/staticlib/libpdic.a
 proved = crates.txt $(shell find crates -name '*.rt' -o -name '*.antt')
 
 demo: $(library)
+	@tools/setup.sh demo
 	@examples/c/build.sh target/examples
 	@examples/c/demo.sh target/examples
 
