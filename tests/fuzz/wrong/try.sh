@@ -4,14 +4,9 @@
 # one behind the same wrappers must pass.
 set -eu
 here=$(cd "$(dirname "$0")" && pwd)
-lib=${PDIC_LIB:-$here/../../../target/staticlib}
 work=$(mktemp -d)
 trap 'rm -rf "$work"' EXIT
-renamed=
-for call in check look_up walk create insert delete optimise; do
-    renamed="$renamed --redefine-sym pdic_$call=right_pdic_$call"
-done
-objcopy $renamed "$lib/libpdic.a" "$work/libpdic.a"
+"$here/../../right.sh" "$work/libpdic.a"
 cd "$here/.."
 gcc -std=c11 -O1 -Wall -Wextra -Werror -I../../include -o "$work/drive" wrong/wrong.c drive.c harness.c facts.c decode.c \
     reader.c lent.c guard.c mutate.c seeds.c "$work/libpdic.a"

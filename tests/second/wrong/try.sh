@@ -3,14 +3,9 @@
 # the folder PDIC_LIB) and expects a difference from each, and none from the right one.
 set -eu
 here=$(cd "$(dirname "$0")" && pwd)
-lib=${PDIC_LIB:-$here/../../../target/staticlib}
 work=$(mktemp -d)
 trap 'rm -rf "$work"' EXIT
-renamed=
-for call in check look_up walk create insert delete optimise; do
-    renamed="$renamed --redefine-sym pdic_$call=right_pdic_$call"
-done
-objcopy $renamed "$lib/libpdic.a" "$work/libpdic.a"
+"$here/../../right.sh" "$work/libpdic.a"
 for part in wrong changes; do
     gcc -O2 -Wall -Werror -c "$here/$part.c" -o "$work/$part.o"
     ar rs "$work/libpdic.a" "$work/$part.o" 2>/dev/null
