@@ -7,8 +7,8 @@ proved = crates.txt $(shell find crates -name '*.rt' -o -name '*.antt')
 
 demo: $(library)
 	@tools/setup.sh demo
-	@examples/c/build.sh target/examples
-	@examples/c/demo.sh target/examples
+	@programs/build.sh target/programs
+	@examples/demo.sh target/programs
 
 $(library): $(proved)
 	@echo 'The engine is proved, then compiled. The first time takes about five minutes on two processors.'

@@ -2,43 +2,26 @@
  *
  * An image is the first `len` bytes of a lent slice. Nothing is allocated, nothing is kept between
  * calls, and each call tests the whole image before it answers: no byte of an answer comes from an
- * image that breaks a rule. A slice is a pointer and a length; it may be empty but not null, and no
- * two slices or lent numbers of a call may overlap. Check, look up and walk write nothing but their
- * outputs. Create, insert, delete and optimise write the image and return its new length; bytes of
- * the slice past the length keep their contents, but optimise zeroes what it gives up.
+ * image that breaks a rule. (The format has no checksum: a byte of a text that became another legal
+ * byte breaks no rule. docs/ROBUSTNESS.md says how often that is so.) A slice is a pointer and a
+ * length; it may be empty but not null, and no two slices or lent numbers of a call may overlap.
+ * Check, look up and walk write nothing but their outputs. Create, insert, delete and optimise write
+ * the image and return its new length; bytes of the slice past the length keep their contents, but
+ * optimise zeroes what it gives up.
  *
  * Insert, delete and optimise also borrow a working slice, at least as long as the image slice. What
  * it holds does not matter. It is all zero after the call, whatever the number returned, but 1 and 2
  * leave it untouched.
  *
+ * Threads: reading calls (check, look up, walk) may share an image; a changing call (create, insert,
+ * delete, optimise) needs it alone. Calls on different memory may run at the same time.
+ *
  * Check, look up, walk, create and optimise take up to 32 KiB of stack, insert and delete up to 256 KiB.
- * Calls that lend different memory may run at the same time.
  *
- * Every call returns one number:
- *
- *   PDIC_DONE (0)       done, or found: what is lent for the answer is written
- *   PDIC_ABSENT (100)   no such entry: nothing is written
- *   1 to 99             refused: nothing is written, and the number says why. It is the first in
- *                       this order that applies:
- *
- *    1  `len` is under 256, no multiple of 256, or over the slice (create: the slice is under 256)
- *    2  the working slice is shorter than the image slice
- *    3  header: high version byte, block_size, header_size or attrlen is wrong
- *    4  header: dicorder, dictype, os, index_blkbit or extheader is not 0
- *    5  header: index_block is over 32,767 or past `len`, or there are more than 65,536 data blocks
- *    6  an index rule, or an element's headword rule, is broken
- *    7  a run's block number, its number of blocks, or its place is outside the data blocks
- *    8  an entry rule or a rule of a run is broken (7 and 8 are tested run by run)
- *    9  a data block lies in two runs, in a run and on the free list, twice on the list or in
- *       neither; or the list leaves the data blocks or names a block that is not free
- *   10  nword or nblock2 does not count the entries or the blocks in runs
- *   11  the version's low byte is over 15: the image may only be read
- *   12  the headword is empty (walk allows that), over 248 bytes long, or has a zero byte
- *   13  the text is over 3,000 bytes long or has a zero byte, or the attribute has 0x80 clear or 0x10
- *       set
- *   14  an output slice is too short for the answer (then none of the outputs is written)
- *   15  the changed image would be longer than its slice, or have over 65,536 data blocks or over
- *       32,767 index blocks
+ * Every call returns one number: PDIC_DONE (0), done or found, and what is lent for the answer is
+ * written; PDIC_ABSENT (100), no such entry, and nothing is written; or 1 to 99, refused, and nothing
+ * is written. A refusal's number says why. It is the first of the enumeration below that applies, but
+ * 7 and 8 are tested run by run: both for one run, then both for the next.
  *
  * These promises, and that the calls end and stay inside the lent memory whatever the bytes are,
  * are proved of the source that is compiled; docs/CLAIMS.md names each theorem.
@@ -53,12 +36,59 @@
 extern "C" {
 #endif
 
+/* The version of this interface. The calls change with it until it is 1.0. */
+#define PDIC_VERSION "0.1.0"
+#define PDIC_VERSION_MAJOR 0
+#define PDIC_VERSION_MINOR 1
+#define PDIC_VERSION_PATCH 0
+
+/* What a call returns. */
 enum {
     PDIC_DONE = 0,
     PDIC_ABSENT = 100,
-    PDIC_MAX_HEADWORD = 248, /* longest headword, in bytes: an output of this size is never too short */
-    PDIC_MAX_TEXT = 3000     /* longest text, in bytes */
+
+    /* the slices */
+    PDIC_BAD_LENGTH = 1,    /* `len` is under 256, no multiple of 256, or over the slice (create: the slice is under 256) */
+    PDIC_SHORT_WORK = 2,    /* the working slice is shorter than the image slice */
+    /* the image */
+    PDIC_BAD_VERSION = 3,   /* header: high version byte, block_size, header_size or attrlen is wrong */
+    PDIC_LEFT_OUT = 4,      /* header: dicorder, dictype, os, index_blkbit or extheader is not 0 */
+    PDIC_BAD_AREAS = 5,     /* header: index_block is over 32,767 or past `len`, or there are more than 65,536 data blocks */
+    PDIC_BAD_INDEX = 6,     /* an index rule, or an element's headword rule, is broken */
+    PDIC_BAD_PLACE = 7,     /* a run's block number, its number of blocks, or its place is outside the data blocks */
+    PDIC_BAD_RUN = 8,       /* an entry rule or a rule of a run is broken */
+    PDIC_BAD_BLOCKS = 9,    /* a data block lies in two runs, in a run and on the free list, twice on the list or in neither;
+                               or the list leaves the data blocks or names a block that is not free */
+    PDIC_BAD_COUNTS = 10,   /* nword or nblock2 does not count the entries or the blocks in runs */
+    /* the call */
+    PDIC_READ_ONLY = 11,    /* the version's low byte is over 15: the image may only be read */
+    PDIC_BAD_HEADWORD = 12, /* the headword is empty (walk allows that), over 248 bytes long, or has a zero byte */
+    PDIC_BAD_TEXT = 13,     /* the text is over 3,000 bytes long or has a zero byte, or the attribute has 0x80 clear or
+                               0x10 set */
+    PDIC_SHORT_OUTPUT = 14, /* an output slice is too short for the answer; then none of the outputs is written */
+    PDIC_FULL = 15          /* the changed image would be longer than its slice, or have over 65,536 data blocks or over
+                               32,767 index blocks */
 };
+
+/* Limits, in bytes: outputs of these sizes are never too short, and no image is longer. */
+enum {
+    PDIC_MAX_HEADWORD = 248,
+    PDIC_MAX_TEXT = 3000,
+    PDIC_MAX_IMAGE = 256 * (1 + 32767 + 65536) /* header, most index blocks, most data blocks */
+};
+
+/* The bits of an attribute. */
+enum {
+    PDIC_LEVEL = 0x0F,    /* the word's level, 0 to 15 */
+    PDIC_PARTS = 0x10,    /* parts follow the text: such an entry is refused */
+    PDIC_LEARN = 0x20,    /* a word to learn by heart */
+    PDIC_CHANGED = 0x40,  /* a word that was corrected */
+    PDIC_PLAIN = 0x80     /* set in every attribute; alone, the attribute of a plain entry */
+};
+
+/* What a number that a call returned means, in one English phrase; never null. Plain C beside the
+ * engine, outside the proofs. */
+const char *pdic_strerror(uint32_t number);
 
 /* Tests the image and counts what it holds.
  *
@@ -93,7 +123,7 @@ uint32_t pdic_walk(const uint8_t *image, size_t image_size, size_t len,
  * Returns PDIC_DONE or 1. With PDIC_DONE *new_len is 256. */
 uint32_t pdic_create(uint8_t *image, size_t image_size, size_t *new_len);
 
-/* Adds an entry, or replaces the one with this headword. A plain entry's attribute is 0x80.
+/* Adds an entry, or replaces the one with this headword. A plain entry's attribute is PDIC_PLAIN.
  *
  * Returns PDIC_DONE or 1 to 13, 15. With PDIC_DONE the image's length is *new_len; it never gets
  * shorter. Any other number leaves image and *new_len as they were. */

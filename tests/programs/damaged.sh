@@ -4,7 +4,7 @@
 # accepted after every change. Works in the present folder, which must be empty.
 set -eu
 here=$(cd "$(dirname "$0")" && pwd)
-samples=$here/../../examples/c
+samples=$here/../../examples
 number=$1
 programs=$2
 shift 2

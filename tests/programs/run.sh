@@ -4,11 +4,11 @@
 # all of them, and crashes. PDIC_LIB names another folder with a libpdic.a.
 set -eu
 here=$(cd "$(dirname "$0")" && pwd)
-samples=$here/../../examples/c
+root=$here/../..
 work=$(mktemp -d)
 trap 'rm -rf "$work"' EXIT
-"$samples/build.sh" "$work/plain" -g
-"$samples/build.sh" "$work/sanitized" -g -fsanitize=address,undefined -fno-sanitize-recover=all
+"$root/programs/build.sh" "$work/plain" -g
+"$root/programs/build.sh" "$work/sanitized" -g -fsanitize=address,undefined -fno-sanitize-recover=all
 memory="valgrind -q --error-exitcode=99 --leak-check=full --show-leak-kinds=all --errors-for-leak-kinds=all"
 
 # inside NAME COMMAND..: runs the command in a new folder
@@ -19,18 +19,26 @@ inside() {
     "$@"
 }
 
-root=$here/../..
 "$here/docs.py" "$work/plain" "$root/README.md" "$root"/docs/*.md
 gcc -std=c11 -O2 -Wall -Wextra -Wpedantic -Werror -I"$root/include" -o "$work/stack" "$here/stack.c" \
     "${PDIC_LIB:-$root/target/staticlib}/libpdic.a" -lpthread
 "$work/stack"
-"$samples/demo.sh" "$work/plain" >"$work/demo.txt"
+"$root/examples/demo.sh" "$work/plain" >"$work/demo.txt"
 cmp "$work/demo.txt" "$here/demo.txt"
-inside story "$here/story.sh" "$work/plain" >"$work/story.txt"
-inside story-sanitized "$here/story.sh" "$work/sanitized" >"$work/story-sanitized.txt"
-inside story-valgrind "$here/story.sh" "$work/plain" $memory >"$work/story-valgrind.txt"
-for name in story story-sanitized story-valgrind; do cmp "$work/$name.txt" "$here/story.txt"; done
-echo "programs: $(grep -c '^\$' "$here/story.txt") runs as stored, plain, sanitized and under valgrind; the demo as stored"
+# tell STORY NAME FOLDER [WRAPPER..]: the story as stored
+tell() {
+    story=$1 name=$1-$2
+    shift 2
+    inside "$name" "$here/story.sh" "$story" "$@" >"$work/$name.txt"
+    cmp "$work/$name.txt" "$here/stories/$story.txt"
+}
+for path in "$here"/stories/*.sh; do
+    story=$(basename "$path" .sh)
+    tell "$story" plain "$work/plain"
+    tell "$story" sanitized "$work/sanitized"
+    tell "$story" valgrind "$work/plain" $memory
+done
+echo "programs: $(cat "$here"/stories/*.txt | grep -c '^\$') runs as stored, plain, sanitized and under valgrind; the demo as stored"
 
 # report NAME COMMAND..: what the command says last, if it succeeds
 report() {

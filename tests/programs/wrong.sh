@@ -3,7 +3,7 @@
 # stored runs, or fail under the sanitizers, or lose a dictionary in a crash.
 set -eu
 here=$(cd "$(dirname "$0")" && pwd)
-samples=$here/../../examples/c
+root=$here/../..
 work=$1/wrong
 mkdir "$work"
 count=0
@@ -12,15 +12,15 @@ count=0
 made() {
     name=$1 file=$2 edit=$3
     shift 3
-    mkdir -p "$work/$name/examples/c" "$work/$name/run"
-    cp "$samples"/* "$work/$name/examples/c"
-    ln -s "$here/../../include" "$work/$name/include"
-    sed -i "$edit" "$work/$name/examples/c/$file"
-    if cmp -s "$work/$name/examples/c/$file" "$samples/$file"; then
+    mkdir -p "$work/$name/programs" "$work/$name/run"
+    cp "$root"/programs/* "$work/$name/programs"
+    ln -s "$root/include" "$root/lib" "$work/$name"
+    sed -i "$edit" "$work/$name/programs/$file"
+    if cmp -s "$work/$name/programs/$file" "$root/programs/$file"; then
         echo "wrong program $name: the edit changes nothing"
         exit 1
     fi
-    PDIC_LIB=${PDIC_LIB:-$here/../../target/staticlib} "$work/$name/examples/c/build.sh" "$work/$name" "$@"
+    PDIC_LIB=${PDIC_LIB:-$root/target/staticlib} "$work/$name/programs/build.sh" "$work/$name" "$@"
     count=$((count + 1))
     cd "$work/$name/run"
 }
@@ -28,11 +28,13 @@ unnoticed() {
     echo "wrong program $name: not noticed"
     exit 1
 }
-# in_story NAME FILE EDIT [FLAG..]: its runs must differ from the stored ones
+# in_story STORY NAME FILE EDIT [FLAG..]: its runs must differ from the stored ones
 in_story() {
+    story=$1
+    shift
     made "$@"
-    "$here/story.sh" "$work/$name" >"$work/$name.txt" 2>&1 || true
-    ! cmp -s "$work/$name.txt" "$here/story.txt" || unnoticed
+    "$here/story.sh" "$story" "$work/$name" >"$work/$name.txt" 2>&1 || true
+    ! cmp -s "$work/$name.txt" "$here/stories/$story.txt" || unnoticed
 }
 in_crash() {
     made "$@"
@@ -40,15 +42,15 @@ in_crash() {
 }
 sanitized='-fsanitize=address,undefined -fno-sanitize-recover=all'
 
-in_story output-with-absent fill.c 's/return status == 0 ? write_filled(m, output) : status;/write_filled(m, output); return status;/'
-in_story text-of-neighbour fill.c 's/compare_bytes(before->headword, k->headword) == 0/compare_bytes(before->headword, k->headword) <= 0/'
-in_story absent-not-counted fill.c 's/if (status == 0) status = 1;//'
-in_story refusal-ignored book.c 's/if (number == PDIC_DONE) return 0;/return 0;/'
-in_story never-grows book.c 's/if (b->size >= LONGEST) return 0;/if (b->size) return 0;/'
-in_story write-error-ignored glossary.c 's/if (fflush(stdout) == 0 .*return status;/return status;/'
-in_story twice-accepted glossary.c 's/if (compare_bytes(x->headword, y->headword) != 0) continue;/continue;/'
-in_story filed-one-short near.c 's/filed\[PDIC_MAX_HEADWORD + 1\]/filed[PDIC_MAX_HEADWORD]/' $sanitized
-in_story filled-leaks fill.c 's/^    free(out);$//' $sanitized
-in_story text-after-end fill.c 's/m->texts_len += found->text_len;/m->texts_len += found->text_len + 4000;/' $sanitized
+in_story fill output-with-absent fill.c 's/return status == 0 ? write_filled(m, output) : status;/write_filled(m, output); return status;/'
+in_story fill text-of-neighbour fill.c 's/compare_bytes(before->headword, k->headword) == 0/compare_bytes(before->headword, k->headword) <= 0/'
+in_story fill absent-not-counted fill.c 's/if (status == 0) status = 1;//'
+in_story refusals refusal-ignored book.c 's/if (number == PDIC_DONE) return 0;/return 0;/'
+in_story glossary never-grows book.c 's/if (b->size >= PDIC_MAX_IMAGE) return 0;/if (b->size) return 0;/'
+in_story glossary write-error-ignored glossary.c 's/if (fflush(stdout) == 0 .*return status;/return status;/'
+in_story lists twice-accepted glossary.c 's/if (compare_bytes(x->headword, y->headword) != 0) continue;/continue;/'
+in_story glossary filed-one-short near.c 's/filed\[PDIC_MAX_HEADWORD + 1\]/filed[PDIC_MAX_HEADWORD]/' $sanitized
+in_story fill filled-leaks fill.c 's/^    free(out);$//' $sanitized
+in_story fill text-after-end fill.c 's/m->texts_len += found->text_len;/m->texts_len += found->text_len + 4000;/' $sanitized
 in_crash written-in-place file.c 's/int fd = mkstemp(beside)/int fd = open(path, O_WRONLY | O_TRUNC | O_CREAT, 0666)/;s/|| rename(beside, path) != 0/|| 0/'
 echo "$count wrong programs noticed"

@@ -40,9 +40,6 @@ uint32_t book_insert(book *b, bytes headword, bytes text);
 uint32_t book_delete(book *b, bytes headword);
 uint32_t book_optimise(book *b);
 
-/* What a refusal means, in words. */
-const char *meaning(uint32_t number);
-
 /* Prints that a headword, or the entry that it was to have, is refused, and why. */
 void print_refused(FILE *out, bytes headword, uint32_t number);
 

@@ -5,39 +5,12 @@
 #include <string.h>
 #include "file.h"
 
-enum {
-    PLAIN = 0x80,                                  /* the attribute of an entry without marks */
-    FULL = 15,                                     /* the refusal for want of room */
-    FIRST_SIZE = 65536,
-    LONGEST = 256 * (1 + 32767 + 65536)            /* header, most index blocks, most data blocks */
-};
-
-const char *meaning(uint32_t number)
-{
-    static const char *const words[] = {
-        [1] = "its length is under 256 bytes or no multiple of 256: cut short, or another kind of file",
-        [2] = "the working slice is shorter than the image slice",
-        [3] = "no PDIC Hyper dictionary of version 4",
-        [4] = "its header asks for what is left out: another order, type, system, block width or an extended header",
-        [5] = "its header gives more blocks than the file or the format has",
-        [6] = "its index is damaged",
-        [7] = "a run's place or number of blocks is wrong",
-        [8] = "an entry or a run is damaged",
-        [9] = "its free list is damaged, or a block is used twice or not at all",
-        [10] = "its header counts entries or blocks wrongly",
-        [11] = "this version may be read but not changed",
-        [12] = "a headword has 1 to 248 bytes, none of them zero",
-        [13] = "a text has at most 3,000 bytes, none of them zero",
-        [14] = "an output slice is too short",
-        [15] = "the dictionary is full",
-    };
-    return number < sizeof words / sizeof words[0] && words[number] ? words[number] : "no number of the engine's";
-}
+enum { FIRST_SIZE = 65536 };
 
 void print_refused(FILE *out, bytes headword, uint32_t number)
 {
     print_quoted(out, headword);
-    fprintf(out, " is refused %" PRIu32 ": %s\n", number, meaning(number));
+    fprintf(out, " is refused %" PRIu32 ": %s\n", number, pdic_strerror(number));
 }
 
 bytes headword_of(const entry *e)
@@ -62,8 +35,8 @@ static void book_resize(book *b, size_t size)
 /* Makes room for a larger dictionary; gives 0 where the format allows no larger one. */
 static int book_grow(book *b)
 {
-    if (b->size >= LONGEST) return 0;
-    book_resize(b, b->size > LONGEST / 2 ? LONGEST : 2 * b->size);
+    if (b->size >= PDIC_MAX_IMAGE) return 0;
+    book_resize(b, b->size > PDIC_MAX_IMAGE / 2 ? PDIC_MAX_IMAGE : 2 * b->size);
     return 1;
 }
 
@@ -84,14 +57,14 @@ int book_load(book *b, const char *path)
 {
     figures f;
     *b = (book){ 0 };
-    if (read_file(path, &b->image, &b->len) != 0) {
+    if (read_file(path, PDIC_MAX_IMAGE, &b->image, &b->len) != 0) {
         fprintf(stderr, "%s: %s\n", path, strerror(errno));
         return -1;
     }
     b->size = b->len;
     uint32_t number = book_check(b, &f);
     if (number == PDIC_DONE) return 0;
-    fprintf(stderr, "%s: refused %" PRIu32 ": %s\n", path, number, meaning(number));
+    fprintf(stderr, "%s: refused %" PRIu32 ": %s\n", path, number, pdic_strerror(number));
     book_free(b);
     return -1;
 }
@@ -129,7 +102,7 @@ uint32_t book_look_up(const book *b, bytes headword, entry *found)
 uint32_t book_walk(const book *b, bytes from, int above, entry *found)
 {
     uint8_t start[PDIC_MAX_HEADWORD]; /* `from` may be the headword of `found` */
-    if (from.len > sizeof start) return 12;
+    if (from.len > sizeof start) return PDIC_BAD_HEADWORD;
     memcpy(start, from.at, from.len);
     return pdic_walk(b->image, b->size, b->len, start, from.len, above != 0, found->headword, sizeof found->headword,
                      found->text, sizeof found->text, &found->attribute, &found->headword_len, &found->text_len);
@@ -139,9 +112,9 @@ uint32_t book_insert(book *b, bytes headword, bytes text)
 {
     uint32_t number;
     book_writable(b);
-    do number = pdic_insert(b->image, b->size, b->len, b->work, b->size, headword.at, headword.len, PLAIN, text.at,
+    do number = pdic_insert(b->image, b->size, b->len, b->work, b->size, headword.at, headword.len, PDIC_PLAIN, text.at,
                             text.len, &b->len);
-    while (number == FULL && book_grow(b));
+    while (number == PDIC_FULL && book_grow(b));
     return number;
 }
 
@@ -150,7 +123,7 @@ uint32_t book_delete(book *b, bytes headword)
     uint32_t number;
     book_writable(b);
     do number = pdic_delete(b->image, b->size, b->len, b->work, b->size, headword.at, headword.len, &b->len);
-    while (number == FULL && book_grow(b));
+    while (number == PDIC_FULL && book_grow(b));
     return number;
 }
 

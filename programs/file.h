@@ -8,8 +8,9 @@
 /* Memory of at least one byte, or old memory made longer; without memory the program ends with status 2. */
 void *take_memory(void *old, size_t size);
 
-/* Reads a whole file into memory that the caller frees. Gives 0, or -1 with errno set. */
-int read_file(const char *path, uint8_t **bytes, size_t *len);
+/* Reads a whole file of at most `most` bytes into memory that the caller frees. Gives 0, or -1 with errno set, EFBIG where
+ * the file is longer: nothing is read behind that. */
+int read_file(const char *path, size_t most, uint8_t **bytes, size_t *len);
 
 /* Writes a new file beside the old one and renames it over that. Gives 0, or -1 with errno set; then the old
  * file is as it was. */

@@ -20,6 +20,8 @@
 #include "near.h"
 #include "progress.h"
 
+enum { LONGEST_MANUAL = 1 << 30 };
+
 /* A mark in the manual: where it stands, its headword, and what was found for it. */
 typedef struct {
     const uint8_t *start, *end;
@@ -187,7 +189,7 @@ int main(int argc, char **argv)
     manual m = { .path = argv[2] };
     if (book_load(&b, argv[1]) != 0) return 2;
     int status = 2;
-    if (read_file(m.path, &m.content, &m.len) != 0) fprintf(stderr, "%s: %s\n", m.path, strerror(errno));
+    if (read_file(m.path, LONGEST_MANUAL, &m.content, &m.len) != 0) fprintf(stderr, "%s: %s\n", m.path, strerror(errno));
     else status = fill(&b, &m, argv[3]);
     free(m.content);
     free(m.texts);

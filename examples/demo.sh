@@ -1,9 +1,9 @@
 #!/bin/sh
-# demo.sh [FOLDER]: the main job, with the programs of the folder (else target/examples): a glossary made from a list, a
+# demo.sh [FOLDER]: the main job, with the programs of the folder (else target/programs): a glossary made from a list, a
 # manual filled, a draft that names an absent term, and what the engine says of a damaged file.
 set -eu
 here=$(cd "$(dirname "$0")" && pwd)
-programs=$(cd "${1:-$here/../../target/examples}" && pwd)
+programs=$(cd "${1:-$here/../target/programs}" && pwd)
 work=$(mktemp -d)
 trap 'rm -rf "$work"' EXIT
 cp "$here/machinery.tsv" "$here/manual.txt" "$here/draft.txt" "$work"

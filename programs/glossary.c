@@ -29,6 +29,8 @@
 #include "near.h"
 #include "progress.h"
 
+enum { LONGEST_LIST = 1 << 30 };
+
 /* One line of a list. */
 typedef struct {
     bytes headword, text;
@@ -112,7 +114,7 @@ static int sort_lines(list *l)
 
 static int read_list(list *l)
 {
-    if (read_file(l->path, &l->content, &l->len) != 0) {
+    if (read_file(l->path, LONGEST_LIST, &l->content, &l->len) != 0) {
         fprintf(stderr, "%s: %s\n", l->path, strerror(errno));
         return -1;
     }
@@ -196,7 +198,7 @@ static int optimise(book *b, char **args)
 {
     uint32_t number = book_optimise(b);
     if (number == PDIC_DONE) return save(b, args);
-    fprintf(stderr, "%s: refused %" PRIu32 ": %s\n", args[0], number, meaning(number));
+    fprintf(stderr, "%s: refused %" PRIu32 ": %s\n", args[0], number, pdic_strerror(number));
     return 2;
 }
 

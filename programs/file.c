@@ -18,28 +18,37 @@ void *take_memory(void *old, size_t size)
     return memory;
 }
 
-int read_file(const char *path, uint8_t **bytes, size_t *len)
+/* Reads from an open file; as read_file. */
+static int read_all(int fd, size_t most, uint8_t **bytes, size_t *len)
 {
-    int fd = open(path, O_RDONLY);
-    if (fd < 0) return -1;
-    size_t size = 65536;
-    ssize_t got;
-    *bytes = take_memory(NULL, size);
+    size_t size = 0;
+    *bytes = NULL;
     *len = 0;
-    while ((got = read(fd, *bytes + *len, size - *len)) > 0) {
-        *len += (size_t)got;
-        if (*len == size) *bytes = take_memory(*bytes, size *= 2);
+    for (;;) {
+        if (*len == size) *bytes = take_memory(*bytes, size = 2 * size + 65536);
+        ssize_t got = read(fd, *bytes + *len, size - *len);
+        if (got == 0) return 0;
+        if (got > 0) *len += (size_t)got;
+        else if (errno != EINTR) return -1;
+        if (*len > most) {
+            errno = EFBIG;
+            return -1;
+        }
     }
-    if (got < 0) {
-        int error = errno;
+}
+
+int read_file(const char *path, size_t most, uint8_t **bytes, size_t *len)
+{
+    int fd = open(path, O_RDONLY | O_CLOEXEC);
+    if (fd < 0) return -1;
+    int failed = read_all(fd, most, bytes, len), error = errno;
+    close(fd);
+    if (failed) {
         free(*bytes);
         *bytes = NULL;
-        close(fd);
-        errno = error;
-        return -1;
     }
-    close(fd);
-    return 0;
+    errno = error;
+    return failed;
 }
 
 static int write_all(int fd, const uint8_t *bytes, size_t len)
