@@ -1,9 +1,7 @@
 #include "book.h"
-#include <errno.h>
 #include <inttypes.h>
 #include <stdlib.h>
 #include <string.h>
-#include "file.h"
 
 enum { FIRST_SIZE = 65536 };
 
@@ -21,6 +19,11 @@ bytes headword_of(const entry *e)
 bytes text_of(const entry *e)
 {
     return (bytes){ e->text, e->text_len };
+}
+
+int begins_with(const entry *e, bytes front)
+{
+    return e->headword_len >= front.len && memcmp(e->headword, front.at, front.len) == 0;
 }
 
 /* Makes the slices `size` bytes long. What stood in the working slice does not matter. */
@@ -46,41 +49,65 @@ static void book_writable(book *b)
     if (!b->work) book_resize(b, b->size);
 }
 
-void book_create(book *b)
+/* Says that a file is not read or written, and why. */
+static int failed(const char *path, const char *what)
 {
-    *b = (book){ 0 };
+    fprintf(stderr, "%s: %s%s\n", shown_path(path), what, file_fault());
+    return STATUS_REFUSED;
+}
+
+int book_create(book *b, const char *path)
+{
+    *b = (book){ .file = { .fd = -1 } };
+    if (hold_new_file(&b->file, path) != HELD) return failed(path, "not made: ");
     book_resize(b, FIRST_SIZE);
     pdic_create(b->image, b->size, &b->len);
+    return STATUS_DONE;
+}
+
+/* Checks what was read. */
+static int checked(book *b, const char *path)
+{
+    figures f;
+    b->size = b->len;
+    uint32_t number = book_check(b, &f);
+    if (number == PDIC_DONE) return STATUS_DONE;
+    fprintf(stderr, "%s: refused %" PRIu32 ": %s\n", shown_path(path), number, pdic_strerror(number));
+    book_free(b);
+    return STATUS_REFUSED;
 }
 
 int book_load(book *b, const char *path)
 {
-    figures f;
-    *b = (book){ 0 };
-    if (read_file(path, PDIC_MAX_IMAGE, &b->image, &b->len) != 0) {
-        fprintf(stderr, "%s: %s\n", path, strerror(errno));
-        return -1;
+    *b = (book){ .file = { .fd = -1 } };
+    if (read_file(path, PDIC_MAX_IMAGE, &b->image, &b->len) != 0) return failed(path, "");
+    return checked(b, path);
+}
+
+int book_hold(book *b, const char *path, unsigned seconds)
+{
+    *b = (book){ .file = { .fd = -1 } };
+    int held = hold_file(&b->file, path, seconds);
+    if (held != HELD) {
+        failed(path, "not changed: ");
+        return held == IN_USE ? STATUS_IN_USE : STATUS_REFUSED;
     }
-    b->size = b->len;
-    uint32_t number = book_check(b, &f);
-    if (number == PDIC_DONE) return 0;
-    fprintf(stderr, "%s: refused %" PRIu32 ": %s\n", path, number, pdic_strerror(number));
-    book_free(b);
-    return -1;
+    if (read_held(&b->file, PDIC_MAX_IMAGE, &b->image, &b->len) == 0) return checked(b, path);
+    let_go(&b->file);
+    return failed(path, "");
 }
 
 int book_save(const book *b, const char *path)
 {
-    if (replace_file(path, b->image, b->len) == 0) return 0;
-    fprintf(stderr, "%s: not written: %s\n", path, strerror(errno));
-    return -1;
+    return replace_held(&b->file, b->image, b->len) == 0 ? STATUS_DONE : failed(path, "not written: ");
 }
 
 void book_free(book *b)
 {
     free(b->image);
     free(b->work);
-    *b = (book){ 0 };
+    let_go(&b->file);
+    *b = (book){ .file = { .fd = -1 } };
 }
 
 uint32_t book_check(const book *b, figures *f)
@@ -108,12 +135,12 @@ uint32_t book_walk(const book *b, bytes from, int above, entry *found)
                      found->text, sizeof found->text, &found->attribute, &found->headword_len, &found->text_len);
 }
 
-uint32_t book_insert(book *b, bytes headword, bytes text)
+uint32_t book_insert(book *b, bytes headword, uint8_t attribute, bytes text)
 {
     uint32_t number;
     book_writable(b);
-    do number = pdic_insert(b->image, b->size, b->len, b->work, b->size, headword.at, headword.len, PDIC_PLAIN, text.at,
-                            text.len, &b->len);
+    do number = pdic_insert(b->image, b->size, b->len, b->work, b->size, headword.at, headword.len, attribute,
+                            text.at, text.len, &b->len);
     while (number == PDIC_FULL && book_grow(b));
     return number;
 }

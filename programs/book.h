@@ -3,13 +3,18 @@
 #define BOOK_H
 
 #include "bytes.h"
+#include "file.h"
 #include "pdic.h"
 
 /* The image is the first `len` bytes of a slice of `size`; `work` is lent to the changing calls. */
 typedef struct {
     uint8_t *image, *work;
     size_t size, len;
+    held_file file; /* while the dictionary is held for a change */
 } book;
+
+/* The exit status of the programs. */
+enum { STATUS_DONE = 0, STATUS_ABSENT = 1, STATUS_REFUSED = 2, STATUS_IN_USE = 3 };
 
 /* An entry that was found. */
 typedef struct {
@@ -21,13 +26,18 @@ typedef struct {
     uint64_t headwords, index_blocks, data_blocks, free_blocks;
 } figures;
 
-/* An empty dictionary. */
-void book_create(book *b);
+/* Each gives STATUS_DONE, or says on standard error why not and gives another status. */
 
-/* Reads a file and checks it. Gives 0, or says on standard error why not and gives -1. */
+/* Reads a file and checks it. */
 int book_load(book *b, const char *path);
 
-/* Replaces the file by the dictionary. Gives 0, or says on standard error why not and gives -1. */
+/* The same, for a change: the file is held until book_free, waiting as many seconds for another program. */
+int book_hold(book *b, const char *path, unsigned seconds);
+
+/* An empty dictionary for a file that is not there yet. */
+int book_create(book *b, const char *path);
+
+/* Writes a dictionary that is held or new. */
 int book_save(const book *b, const char *path);
 
 void book_free(book *b);
@@ -36,7 +46,7 @@ void book_free(book *b);
 uint32_t book_check(const book *b, figures *f);
 uint32_t book_look_up(const book *b, bytes headword, entry *found);
 uint32_t book_walk(const book *b, bytes from, int above, entry *found);
-uint32_t book_insert(book *b, bytes headword, bytes text);
+uint32_t book_insert(book *b, bytes headword, uint8_t attribute, bytes text);
 uint32_t book_delete(book *b, bytes headword);
 uint32_t book_optimise(book *b);
 
@@ -45,5 +55,6 @@ void print_refused(FILE *out, bytes headword, uint32_t number);
 
 bytes headword_of(const entry *e);
 bytes text_of(const entry *e);
+int begins_with(const entry *e, bytes front);
 
 #endif

@@ -27,28 +27,29 @@ static int digit(uint8_t byte)
     return -1;
 }
 
+/* Is there a percent sign at a place, with two digits behind it? */
+static int is_escape(bytes written, size_t i)
+{
+    return i + 2 < written.len && digit(written.at[i + 1]) >= 0 && digit(written.at[i + 2]) >= 0;
+}
+
 int unescape(bytes written, uint8_t *to, size_t *len, size_t *fault)
 {
-    size_t n = 0;
+    for (*fault = 0; *fault < written.len; ++*fault)
+        if (written.at[*fault] == '%' && !is_escape(written, *fault)) return -1;
+    *len = 0;
     for (size_t i = 0; i < written.len; i++) {
         uint8_t byte = written.at[i];
         if (byte == '%') {
-            int high = i + 2 < written.len ? digit(written.at[i + 1]) : -1;
-            int low = i + 2 < written.len ? digit(written.at[i + 2]) : -1;
-            if (high < 0 || low < 0) {
-                *fault = i;
-                return -1;
-            }
-            byte = (uint8_t)(16 * high + low);
+            byte = (uint8_t)(16 * digit(written.at[i + 1]) + digit(written.at[i + 2]));
             i += 2;
         }
-        to[n++] = byte;
+        to[(*len)++] = byte;
     }
-    *len = n;
     return 0;
 }
 
-static int is_control(uint8_t byte)
+int is_control(uint8_t byte)
 {
     return byte < 32 || byte == 127;
 }

@@ -24,6 +24,9 @@ uint8_t *append(uint8_t *to, bytes b);
  * behind it; then *fault is its place. A percent sign is never part of a longer character in Shift JIS or UTF-8. */
 int unescape(bytes written, uint8_t *to, size_t *len, size_t *fault);
 
+/* Is it a control byte? */
+int is_control(uint8_t byte);
+
 /* Prints bytes in double quotes, control bytes as %XX. */
 void print_quoted(FILE *out, bytes b);
 

@@ -166,7 +166,7 @@ static int write_filled(const manual *m, const char *path)
     size_t len;
     uint8_t *out = filled(m, &len);
     int failed = path ? replace_file(path, out, len) : write_out(out, len);
-    if (failed) fprintf(stderr, "%s: not written: %s\n", path ? path : "standard output", strerror(errno));
+    if (failed) fprintf(stderr, "%s: not written: %s\n", path ? path : "standard output", file_fault());
     free(out);
     return failed ? 2 : 0;
 }
@@ -189,7 +189,7 @@ int main(int argc, char **argv)
     manual m = { .path = argv[2] };
     if (book_load(&b, argv[1]) != 0) return 2;
     int status = 2;
-    if (read_file(m.path, LONGEST_MANUAL, &m.content, &m.len) != 0) fprintf(stderr, "%s: %s\n", m.path, strerror(errno));
+    if (read_file(m.path, LONGEST_MANUAL, &m.content, &m.len) != 0) fprintf(stderr, "%s: %s\n", m.path, file_fault());
     else status = fill(&b, &m, argv[3]);
     free(m.content);
     free(m.texts);

@@ -1,21 +1,8 @@
-/* glossary.c - makes a dictionary file from a list, changes it and reads it.
+/* glossary.c - makes a dictionary file from a list, changes it and reads it. `glossary --help` says how.
  *
- *   glossary make FILE LIST            a new dictionary from a list; FILE must not be there yet
- *   glossary merge FILE LIST           add a list's entries; an entry that is there already is replaced
- *   glossary add FILE HEADWORD TEXT    add one entry or replace it
- *   glossary delete FILE HEADWORD      remove one entry
- *   glossary find FILE HEADWORD        print an entry's text
- *   glossary list FILE [FROM]          print the entries as a list, from a headword on
- *   glossary check FILE                print what the dictionary holds
- *   glossary optimise FILE             give the free blocks up
- *
- * A list has one entry on each line, headword and text with one tab between. Empty lines are passed over; a headword that
- * stands there twice is refused. In a printed list, control bytes of a text are spaces.
- *
- * A change writes a new file beside the old one and renames it, so that a crash leaves the old or the new file whole, and
- * writes nothing at all where any part of it is refused.
- *
- * Exit status: 0 done, 1 the headword is absent, 2 the file, the list or an argument is refused.
+ * A change holds the file from its reading to its writing, so that no edit of two programs is lost, writes a new file
+ * beside the old one and renames it, so that a crash leaves the old or the new file whole, and writes nothing at all where
+ * any part of it is refused.
  */
 #define _POSIX_C_SOURCE 200809L
 #include <errno.h>
@@ -25,124 +12,46 @@
 #include <string.h>
 #include <unistd.h>
 #include "book.h"
-#include "file.h"
+#include "lists.h"
 #include "near.h"
 #include "progress.h"
 
-enum { LONGEST_LIST = 1 << 30 };
+enum { WAIT = 30, LONGEST_WAIT = 86400 };
 
-/* One line of a list. */
+/* What the options say. */
 typedef struct {
-    bytes headword, text;
-    size_t number;
-} line;
+    int dry_run, attribute; /* attribute: -1 where none is told */
+    const char *from;
+    unsigned wait;
+} options;
 
+/* A command at work: the dictionary, its file as messages show it, the arguments behind that, and the list that they name or are. */
 typedef struct {
+    book b;
     const char *path;
-    uint8_t *content;
-    size_t len;
-    line *lines;
-    size_t count;
-} list;
+    char **args;
+    int count, is_new;
+    list l;
+    options told;
+} task;
 
-/* Why a call did not do its work. Each gives the program's status. */
+/* What became of a list's entries. */
+typedef struct {
+    size_t added, replaced, same;
+} tally;
+
 static int refused(const char *path, bytes headword, uint32_t number)
 {
     fprintf(stderr, "%s: ", path);
     print_refused(stderr, headword, number);
-    return 2;
+    return STATUS_REFUSED;
 }
 
-static int absent(const book *b, const char *path, bytes headword)
+static int absent(const task *t, bytes headword)
 {
-    fprintf(stderr, "%s: ", path);
-    print_absent(stderr, b, headword);
-    return 1;
-}
-
-/* Reads one line: headword, one tab, text. Gives 0, or says what is wrong and gives -1. */
-static int split_line(list *l, bytes text, size_t number)
-{
-    if (text.len > 0 && text.at[text.len - 1] == '\r') text.len--;
-    if (text.len == 0) return 0;
-    const uint8_t *tab = memchr(text.at, '\t', text.len), *end = text.at + text.len;
-    if (!tab || memchr(tab + 1, '\t', (size_t)(end - tab - 1))) {
-        fprintf(stderr, "%s:%zu: not headword, one tab and text\n", l->path, number);
-        return -1;
-    }
-    l->lines[l->count++] = (line){ .headword = { text.at, (size_t)(tab - text.at) },
-                                   .text = { tab + 1, (size_t)(end - tab - 1) }, .number = number };
-    return 0;
-}
-
-static int split_lines(list *l)
-{
-    const uint8_t *at = l->content, *end = at + l->len;
-    size_t size = 0, number = 0;
-    while (at < end) {
-        const uint8_t *stop = memchr(at, '\n', (size_t)(end - at));
-        if (!stop) stop = end;
-        if (l->count == size) l->lines = take_memory(l->lines, (size = 2 * size + 256) * sizeof *l->lines);
-        if (split_line(l, (bytes){ at, (size_t)(stop - at) }, ++number) != 0) return -1;
-        at = stop + (stop < end);
-    }
-    return 0;
-}
-
-/* By headword, and equal ones as they stand in the list. */
-static int compare_lines(const void *a, const void *b)
-{
-    const line *x = a, *y = b;
-    int order = compare_bytes(x->headword, y->headword);
-    return order != 0 ? order : (x->number > y->number) - (x->number < y->number);
-}
-
-/* Puts the lines in headword order. Gives 0, or says which headword stands there twice and gives -1. */
-static int sort_lines(list *l)
-{
-    qsort(l->lines, l->count, sizeof *l->lines, compare_lines);
-    for (size_t i = 1; i < l->count; i++) {
-        const line *x = &l->lines[i - 1], *y = &l->lines[i];
-        if (compare_bytes(x->headword, y->headword) != 0) continue;
-        fprintf(stderr, "%s:%zu: ", l->path, y->number);
-        print_quoted(stderr, y->headword);
-        fprintf(stderr, " stands in line %zu too\n", x->number);
-        return -1;
-    }
-    return 0;
-}
-
-static int read_list(list *l)
-{
-    if (read_file(l->path, LONGEST_LIST, &l->content, &l->len) != 0) {
-        fprintf(stderr, "%s: %s\n", l->path, strerror(errno));
-        return -1;
-    }
-    if (split_lines(l) != 0) return -1;
-    return l->count > 0 ? sort_lines(l) : 0;
-}
-
-static void free_list(list *l)
-{
-    free(l->content);
-    free(l->lines);
-}
-
-/* Adds a list's entries to the dictionary. Gives 0, or says which is refused and gives -1. */
-static int insert_lines(book *b, const list *l)
-{
-    for (size_t i = 0; i < l->count; i++) {
-        const line *x = &l->lines[i];
-        progress("entries added", i, l->count);
-        uint32_t number = book_insert(b, x->headword, x->text);
-        if (number == PDIC_DONE) continue;
-        progress_end();
-        fprintf(stderr, "%s:%zu: ", l->path, x->number);
-        print_refused(stderr, x->headword, number);
-        return -1;
-    }
-    progress_end();
-    return 0;
+    fprintf(stderr, "%s: ", t->path);
+    print_absent(stderr, &t->b, headword);
+    return STATUS_ABSENT;
 }
 
 static figures figures_of(const book *b)
@@ -152,139 +61,372 @@ static figures figures_of(const book *b)
     return f;
 }
 
-static int print_figures(book *b, char **args)
+static int print_figures(task *t)
 {
-    figures f = figures_of(b);
+    figures f = figures_of(&t->b);
     printf("%s: headwords %" PRIu64 ", index blocks %" PRIu64 ", data blocks %" PRIu64 " (free %" PRIu64 "), bytes %zu\n",
-           args[0], f.headwords, f.index_blocks, f.data_blocks, f.free_blocks, b->len);
-    return 0;
+           t->path, f.headwords, f.index_blocks, f.data_blocks, f.free_blocks, t->b.len);
+    return STATUS_DONE;
 }
 
-/* Writes the changed dictionary and says what it holds. Gives the program's status. */
-static int save(book *b, char **args)
+/* Writes the changed dictionary and says what it holds. */
+static int save(task *t)
 {
-    return book_save(b, args[0]) == 0 ? print_figures(b, args) : 2;
+    int status = book_save(&t->b, t->path);
+    return status == STATUS_DONE ? print_figures(t) : status;
 }
 
-static int merge(book *b, char **args)
+/* Says what a merging would do with an entry. */
+static void print_plan(const item *x, const entry *stored)
 {
-    list l = { .path = args[1] };
-    uint64_t before = figures_of(b).headwords;
-    int status = read_list(&l) == 0 && insert_lines(b, &l) == 0 ? save(b, args) : 2;
-    if (status == 0) {
-        uint64_t added = figures_of(b).headwords - before;
-        printf("%s: %" PRIu64 " added, %" PRIu64 " replaced\n", l.path, added, l.count - added);
+    fputs(stored ? "would replace " : "would add ", stdout);
+    print_quoted(stdout, x->headword);
+    fputs(": ", stdout);
+    if (stored) {
+        print_quoted(stdout, text_of(stored));
+        fputs(" by ", stdout);
     }
-    free_list(&l);
+    print_quoted(stdout, x->text);
+    putchar('\n');
+}
+
+/* Adds an entry or replaces the stored one; its attribute is the one told, else the stored one's. What is stored already
+ * is left alone. Gives the engine's number. */
+static uint32_t put(task *t, const item *x, tally *n)
+{
+    entry stored;
+    uint32_t number = t->is_new ? PDIC_ABSENT : book_look_up(&t->b, x->headword, &stored);
+    if (number != PDIC_DONE && number != PDIC_ABSENT) return number;
+    int is_stored = number == PDIC_DONE;
+    int attribute = x->attribute >= 0 ? x->attribute : is_stored ? stored.attribute : PDIC_PLAIN;
+    if (is_stored && stored.attribute == attribute && compare_bytes(text_of(&stored), x->text) == 0) {
+        n->same++;
+        return PDIC_DONE;
+    }
+    if (t->told.dry_run) print_plan(x, is_stored ? &stored : NULL);
+    else number = book_insert(&t->b, x->headword, (uint8_t)attribute, x->text);
+    if (number != PDIC_DONE && number != PDIC_ABSENT) return number;
+    if (is_stored) n->replaced++;
+    else n->added++;
+    return PDIC_DONE;
+}
+
+/* Puts the list's entries into the dictionary. Gives STATUS_DONE, or says which is refused. */
+static int put_all(task *t, tally *n)
+{
+    for (size_t i = 0; i < t->l.count; i++) {
+        const item *x = &t->l.items[i];
+        if (!t->told.dry_run) progress("entries added", i, t->l.count);
+        uint32_t number = put(t, x, n);
+        if (number == PDIC_DONE) continue;
+        progress_end();
+        fprintf(stderr, "%s:%zu: ", t->l.path, x->line);
+        print_refused(stderr, x->headword, number);
+        return STATUS_REFUSED;
+    }
+    progress_end();
+    return STATUS_DONE;
+}
+
+static int merge(task *t)
+{
+    tally n = { 0 };
+    int status = put_all(t, &n);
+    if (status == STATUS_DONE && !t->told.dry_run) status = save(t);
+    if (status == STATUS_DONE)
+        printf("%s: %zu added, %zu replaced, %zu as stored%s\n", t->l.path, n.added, n.replaced, n.same,
+               t->told.dry_run ? " (nothing is written)" : "");
     return status;
 }
 
-static int add(book *b, char **args)
+static int add(task *t)
 {
-    bytes headword = string_bytes(args[1]);
-    uint32_t number = book_insert(b, headword, string_bytes(args[2]));
-    return number == PDIC_DONE ? save(b, args) : refused(args[0], headword, number);
+    tally n = { 0 };
+    item x = { .headword = string_bytes(t->args[0]), .text = string_bytes(t->args[1]), .attribute = t->told.attribute };
+    uint32_t number = put(t, &x, &n);
+    return number == PDIC_DONE ? save(t) : refused(t->path, x.headword, number);
 }
 
-static int delete(book *b, char **args)
+/* Does something with each headword of the list. Gives the gravest status. */
+static int for_each(task *t, int (*act)(task *t, bytes headword))
 {
-    bytes headword = string_bytes(args[1]);
-    uint32_t number = book_delete(b, headword);
-    if (number == PDIC_ABSENT) return absent(b, args[0], headword);
-    return number == PDIC_DONE ? save(b, args) : refused(args[0], headword, number);
+    int status = STATUS_DONE;
+    for (size_t i = 0; status != STATUS_REFUSED && i < t->l.count; i++) {
+        int one = act(t, t->l.items[i].headword);
+        if (one > status) status = one;
+    }
+    return status;
 }
 
-static int optimise(book *b, char **args)
+static int delete_one(task *t, bytes headword)
 {
-    uint32_t number = book_optimise(b);
-    if (number == PDIC_DONE) return save(b, args);
-    fprintf(stderr, "%s: refused %" PRIu32 ": %s\n", args[0], number, pdic_strerror(number));
-    return 2;
+    uint32_t number = book_delete(&t->b, headword);
+    if (number == PDIC_ABSENT) return absent(t, headword);
+    return number == PDIC_DONE ? STATUS_DONE : refused(t->path, headword, number);
 }
 
-static int find(book *b, char **args)
+static int delete(task *t)
 {
-    bytes headword = string_bytes(args[1]);
-    entry e;
-    uint32_t number = book_look_up(b, headword, &e);
-    if (number == PDIC_ABSENT) return absent(b, args[0], headword);
-    if (number != PDIC_DONE) return refused(args[0], headword, number);
-    fwrite(e.text, 1, e.text_len, stdout);
-    putchar('\n');
-    return 0;
+    int status = for_each(t, delete_one);
+    return status == STATUS_DONE ? save(t) : status;
 }
 
+/* Prints bytes with control bytes as spaces. */
 static void print_plain(bytes b)
 {
-    for (size_t i = 0; i < b.len; i++) putchar(b.at[i] < 32 ? ' ' : b.at[i]);
+    for (size_t i = 0; i < b.len; i++) putchar(is_control(b.at[i]) ? ' ' : b.at[i]);
 }
 
-static int print_list(book *b, char **args)
+static void print_line(const entry *e)
 {
-    bytes from = string_bytes(args[1] ? args[1] : "");
-    size_t all = figures_of(b).headwords;
+    print_plain(headword_of(e));
+    putchar('\t');
+    print_plain(text_of(e));
+    putchar('\n');
+}
+
+static int look_one(task *t, bytes headword)
+{
     entry e;
-    uint32_t number = book_walk(b, from, 0, &e);
-    for (size_t i = 0; number == PDIC_DONE; i++) {
-        print_plain(headword_of(&e));
-        putchar('\t');
-        print_plain(text_of(&e));
+    uint32_t number = book_look_up(&t->b, headword, &e);
+    if (number == PDIC_ABSENT) return absent(t, headword);
+    if (number != PDIC_DONE) return refused(t->path, headword, number);
+    if (t->count == 1 && !t->l.content) { /* one headword, named as an argument */
+        fwrite(e.text, 1, e.text_len, stdout);
         putchar('\n');
+    } else {
+        print_line(&e);
+    }
+    return STATUS_DONE;
+}
+
+static int look(task *t)
+{
+    return for_each(t, look_one);
+}
+
+static int optimise(task *t)
+{
+    uint32_t number = book_optimise(&t->b);
+    if (number == PDIC_DONE) return save(t);
+    fprintf(stderr, "%s: refused %" PRIu32 ": %s\n", t->path, number, pdic_strerror(number));
+    return STATUS_REFUSED;
+}
+
+/* Prints the entries from a headword on that begin with a prefix. */
+static int print_entries(task *t, bytes from, bytes prefix, void (*print)(const entry *e))
+{
+    size_t all = figures_of(&t->b).headwords;
+    entry e;
+    uint32_t number = book_walk(&t->b, compare_bytes(from, prefix) < 0 ? prefix : from, 0, &e);
+    for (size_t i = 0; number == PDIC_DONE && begins_with(&e, prefix); i++) {
+        print(&e);
         if (!isatty(STDOUT_FILENO)) progress("entries listed", i, all);
-        number = book_walk(b, headword_of(&e), 1, &e);
+        number = book_walk(&t->b, headword_of(&e), 1, &e);
     }
     progress_end();
-    return number == PDIC_ABSENT ? 0 : refused(args[0], from, number);
+    return number == PDIC_DONE || number == PDIC_ABSENT ? STATUS_DONE : refused(t->path, from, number);
 }
 
-/* A command, how many arguments it takes, and whether it makes the dictionary. */
+static int print_list(task *t)
+{
+    bytes from = string_bytes(t->told.from ? t->told.from : "");
+    return print_entries(t, from, string_bytes(t->count > 0 ? t->args[0] : ""), print_line);
+}
+
+static void print_dump_row(const entry *e)
+{
+    print_row(stdout, e);
+}
+
+static int dump(task *t)
+{
+    print_columns(stdout);
+    return print_entries(t, string_bytes(""), string_bytes(""), print_dump_row);
+}
+
+/* A command: its name and another word for it, what it takes, how many arguments behind FILE (most: -1 for any number) and
+ * what they are, what it does with the file, and its options. */
+enum { READS, CHANGES, MAKES };
+enum { WORDS, A_LIST, HEADWORD_LIST };
+enum { DRY_RUN = 1, ATTRIBUTE = 2, FROM = 4 };
+typedef struct {
+    const char *name, *also, *takes, *purpose;
+    int least, most, arguments, use, options;
+    int (*run)(task *t);
+} command;
+
+static const command commands[] = {
+    { "make", NULL, "FILE LIST", "a new dictionary from a list", 1, 1, A_LIST, MAKES, 0, merge },
+    { "merge", NULL, "FILE LIST", "add a list's entries, replace those that are there", 1, 1, A_LIST, CHANGES, DRY_RUN, merge },
+    { "add", NULL, "FILE HEADWORD TEXT", "add an entry or replace it", 2, 2, WORDS, CHANGES, ATTRIBUTE, add },
+    { "delete", NULL, "FILE HEADWORD..", "remove entries, all of them or none", 1, -1, HEADWORD_LIST, CHANGES, 0, delete },
+    { "look", "find", "FILE HEADWORD..", "print an entry's text, or a list of several", 1, -1, HEADWORD_LIST, READS, 0, look },
+    { "list", NULL, "FILE [PREFIX]", "print the entries, or those that begin so", 0, 1, WORDS, READS, FROM, print_list },
+    { "dump", NULL, "FILE", "print all entries as a table for make and merge", 0, 0, WORDS, READS, 0, dump },
+    { "check", NULL, "FILE", "print what the dictionary holds", 0, 0, WORDS, READS, 0, print_figures },
+    { "optimise", NULL, "FILE", "give the free blocks up", 0, 0, WORDS, CHANGES, 0, optimise },
+};
+enum { COMMANDS = sizeof commands / sizeof commands[0] };
+
 static const struct {
-    const char *name;
-    int least, most, is_new;
-    int (*run)(book *b, char **args);
-} commands[] = {
-    { "make", 2, 2, 1, merge },   { "merge", 2, 2, 0, merge },      { "add", 3, 3, 0, add },
-    { "delete", 2, 2, 0, delete }, { "find", 2, 2, 0, find },        { "list", 1, 2, 0, print_list },
-    { "check", 1, 1, 0, print_figures }, { "optimise", 1, 1, 0, optimise },
+    int bit;
+    const char *name, *purpose;
+} option_words[] = {
+    { DRY_RUN, "--dry-run", "say what would be added and replaced, and write nothing" },
+    { ATTRIBUTE, "--attribute=N", "the entry's attribute, as 0xA0; else the stored one, or 0x80" },
+    { FROM, "--from=HEADWORD", "begin at this headword" },
 };
 
-static int usage(void)
+static void print_command(FILE *out, const command *c)
 {
-    fputs("usage: glossary make FILE LIST\n"
-          "       glossary merge FILE LIST\n"
-          "       glossary add FILE HEADWORD TEXT\n"
-          "       glossary delete FILE HEADWORD\n"
-          "       glossary find FILE HEADWORD\n"
-          "       glossary list FILE [FROM]\n"
-          "       glossary check FILE\n"
-          "       glossary optimise FILE\n", stderr);
-    return 2;
+    fprintf(out, "  %-8s %-20s %s\n", c->name, c->takes, c->purpose);
+    for (size_t i = 0; i < sizeof option_words / sizeof option_words[0]; i++)
+        if (c->options & option_words[i].bit) fprintf(out, "    %-27s %s\n", option_words[i].name, option_words[i].purpose);
+    if (c->use == CHANGES) fprintf(out, "    %-27s %s (%d)\n", "--wait=SECONDS", "for another program that changes FILE", WAIT);
 }
 
-/* The dictionary that a command works on. Gives 0, or says what is wrong and gives -1. */
-static int open_book(book *b, const char *path, int is_new)
+/* Prints how the program, or one command of it, is used. */
+static void print_help(const command *only)
 {
-    if (!is_new) return book_load(b, path);
-    if (access(path, F_OK) == 0) {
-        fprintf(stderr, "%s: is there already; merge adds a list to it\n", path);
-        return -1;
-    }
-    book_create(b);
+    puts("usage: glossary COMMAND [OPTION..] FILE [ARGUMENT..]\n");
+    for (size_t i = 0; i < COMMANDS; i++)
+        if (!only || only == &commands[i]) print_command(stdout, &commands[i]);
+    puts("\n"
+         "LIST has one entry on each line, headword and text with one tab between; or it\n"
+         "is a table: a first line of column names, %headword, attribute, text, and %XX\n"
+         "for a byte, such as %09 for a tab and %25 for a percent sign. dump prints such\n"
+         "a table. - as LIST, or as the only HEADWORD, is standard input. -- ends the\n"
+         "options. find is another word for look.\n\n"
+         "Exit status: 0 done, 1 a headword is absent, 2 the file, the list or an\n"
+         "argument is refused, 3 another program is changing the file. The file stays as\n"
+         "it was unless it is 0.");
+}
+
+static int usage(const char *words, const char *which)
+{
+    fprintf(stderr, "glossary: %s%s\nglossary --help says how it is used\n", words, which);
+    return STATUS_REFUSED;
+}
+
+static const command *command_called(const char *name)
+{
+    for (size_t i = 0; i < COMMANDS; i++)
+        if (strcmp(name, commands[i].name) == 0 || (commands[i].also && strcmp(name, commands[i].also) == 0)) return &commands[i];
+    return NULL;
+}
+
+/* What stands behind an option's name and "=", or NULL where the word is another. */
+static const char *value_of(const char *word, const char *name)
+{
+    size_t len = strlen(name);
+    return strncmp(word, name, len) == 0 && word[len] == '=' ? word + len + 1 : NULL;
+}
+
+/* Reads a number of seconds. Gives 0 or -1. */
+static int read_seconds(const char *digits, unsigned *seconds)
+{
+    char *end;
+    unsigned long number = strtoul(digits, &end, 10);
+    if (digits[0] < '0' || digits[0] > '9' || *end != '\0' || number > LONGEST_WAIT) return -1;
+    *seconds = (unsigned)number;
     return 0;
+}
+
+/* Reads an option of a command. Gives 0, or -1 where it is none. */
+static int read_option(const command *c, const char *word, options *o)
+{
+    const char *value;
+    if (c->options & DRY_RUN && strcmp(word, "--dry-run") == 0) return o->dry_run = 1, 0;
+    if (c->options & FROM && (value = value_of(word, "--from"))) return o->from = value, 0;
+    if (c->options & ATTRIBUTE && (value = value_of(word, "--attribute")))
+        return (o->attribute = read_attribute(string_bytes(value))) < 0 ? -1 : 0;
+    if (c->use == CHANGES && (value = value_of(word, "--wait"))) return read_seconds(value, &o->wait);
+    return -1;
+}
+
+/* Splits a command's words into options and arguments, the file first. Gives 0, or -1 with a bad option in `*bad`. */
+static int read_words(const command *c, int count, char **words, task *t, char **bad)
+{
+    int is_open = 1;
+    t->args = words;
+    for (int i = 0; i < count; i++) {
+        if (is_open && strcmp(words[i], "--") == 0) {
+            is_open = 0;
+        } else if (is_open && words[i][0] == '-' && words[i][1] != '\0') {
+            *bad = words[i];
+            if (read_option(c, words[i], &t->told) != 0) return -1;
+        } else {
+            t->args[t->count++] = words[i];
+        }
+    }
+    return 0;
+}
+
+/* Reads the list that the arguments name, or makes one of the headwords that they are. */
+static int read_arguments(const command *c, task *t)
+{
+    if (c->arguments == WORDS) return STATUS_DONE;
+    int is_input = t->count == 1 && strcmp(t->args[0], "-") == 0, failed = 0;
+    if (c->arguments == A_LIST) failed = read_list(&t->l, t->args[0], ENTRIES);
+    else if (is_input) failed = read_list(&t->l, "-", HEADWORDS);
+    else t->l.items = take_memory(NULL, (size_t)t->count * sizeof *t->l.items);
+    for (int i = 0; c->arguments == HEADWORD_LIST && !is_input && i < t->count; i++)
+        t->l.items[t->l.count++] = (item){ .headword = string_bytes(t->args[i]) };
+    return failed ? STATUS_REFUSED : STATUS_DONE;
+}
+
+/* Opens the dictionary that is there, for a change or for reading. */
+static int open_book(const command *c, task *t, const char *file)
+{
+    int is_held = c->use == CHANGES && !t->told.dry_run;
+    return is_held ? book_hold(&t->b, file, t->told.wait) : book_load(&t->b, file);
+}
+
+/* Runs a command. A new file's place is looked at first, and a dictionary is held only when its list has been read. */
+static int run(const command *c, task *t)
+{
+    const char *file = *t->args++;
+    t->count--;
+    t->path = shown_path(file);
+    t->is_new = c->use == MAKES;
+    int status = t->is_new ? book_create(&t->b, file) : STATUS_DONE;
+    if (status == STATUS_DONE) status = read_arguments(c, t);
+    if (status == STATUS_DONE && !t->is_new) status = open_book(c, t, file);
+    if (status == STATUS_DONE) status = c->run(t);
+    book_free(&t->b);
+    free_list(&t->l);
+    return status;
+}
+
+/* Sees that standard output took all that was printed. */
+static int finish(int status)
+{
+    if (fflush(stdout) == 0 && !ferror(stdout)) return status;
+    fprintf(stderr, "standard output: %s\n", strerror(errno));
+    return STATUS_REFUSED;
+}
+
+/* Does a word ask for help, or for the version? Then it is answered. */
+static int is_question(const char *word, const command *c)
+{
+    if (strcmp(word, "--help") == 0) print_help(c);
+    else if (strcmp(word, "--version") == 0) puts("glossary " PDIC_VERSION);
+    else return 0;
+    return 1;
 }
 
 int main(int argc, char **argv)
 {
-    for (size_t i = 0; argc >= 3 && i < sizeof commands / sizeof commands[0]; i++) {
-        if (strcmp(argv[1], commands[i].name) != 0) continue;
-        if (argc - 2 < commands[i].least || argc - 2 > commands[i].most) break;
-        book b;
-        if (open_book(&b, argv[2], commands[i].is_new) != 0) return 2;
-        int status = commands[i].run(&b, argv + 2);
-        book_free(&b);
-        if (fflush(stdout) == 0 && !ferror(stdout)) return status;
-        fprintf(stderr, "standard output: %s\n", strerror(errno));
-        return 2;
-    }
-    return usage();
+    char *bad;
+    task t = { .b = { .file = { .fd = -1 } }, .told = { .attribute = -1, .wait = WAIT } };
+    if (argc < 2) return usage("a command is missing", "");
+    if (is_question(argv[1], NULL)) return finish(STATUS_DONE);
+    const command *c = command_called(argv[1]);
+    if (!c) return usage("no command is called ", argv[1]);
+    for (int i = 2; i < argc && strcmp(argv[i], "--") != 0; i++)
+        if (is_question(argv[i], c)) return finish(STATUS_DONE);
+    if (read_words(c, argc - 2, argv + 2, &t, &bad) != 0) return usage("no such option, or no such value: ", bad);
+    if (t.count < 1 + c->least || (c->most >= 0 && t.count > 1 + c->most)) return usage("the arguments are ", c->takes);
+    return finish(run(c, &t));
 }

@@ -25,11 +25,6 @@ static void offer(FILE *out, offers *o, bytes headword)
     o->len[o->count++] = headword.len;
 }
 
-static int begins_with(const entry *e, bytes front)
-{
-    return e->headword_len >= front.len && memcmp(e->headword, front.at, front.len) == 0;
-}
-
 /* Is there a headword with this front? The least that is not below the front is it, if there is one. */
 static int has_front(const book *b, bytes front)
 {

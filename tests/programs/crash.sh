@@ -28,5 +28,9 @@ for moment in 0.01 0.1 0.2 0.4 0.6 0.8 1.0 1.5 2.0 3.0 60; do
         were_new=$((were_new + 1))
     fi
 done
+left=$(ls -A | grep -c '^\.now\.dic\.unfinished-' || true)
+[ "$left" -le 1 ] || { echo "crash: $left unfinished files are left"; exit 1; }
+"$programs/glossary" delete now.dic a >/dev/null
+[ "$(ls -A | grep -c unfinished || true)" -eq 0 ] || { echo "crash: an unfinished file stays"; exit 1; }
 [ "$were_old" -ge 1 ] && [ "$were_new" -ge 1 ] || { echo "crash: old $were_old, new $were_new"; exit 1; }
 echo "ended in the midst 12 times: the dictionary was whole each time"

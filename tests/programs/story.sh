@@ -20,5 +20,15 @@ run() {
     $wrapper "$programs/$program" "$@" 2>&1 || status=$?
     [ "$status" -eq 0 ] || echo "[$status]"
 }
+# the same with standard output on a full disk
+full() {
+    echo "\$ $* >/dev/full"
+    program=$1
+    shift
+    status=0
+    $wrapper "$programs/$program" "$@" >/dev/full 2>said.txt || status=$?
+    cat said.txt
+    echo "[$status]"
+}
 letters() { printf "%$1s" '' | tr ' ' "$2"; }
 . "$here/stories/$story.sh"

@@ -1,6 +1,6 @@
 #!/bin/sh
 # wrong.sh FOLDER: the tests notice wrong programs. Each is made from the right one by one edit, and must differ from the
-# stored runs, or fail under the sanitizers, or lose a dictionary in a crash.
+# stored runs, fail under the sanitizers, or fail a test.
 set -eu
 here=$(cd "$(dirname "$0")" && pwd)
 root=$here/../..
@@ -20,7 +20,7 @@ made() {
         echo "wrong program $name: the edit changes nothing"
         exit 1
     fi
-    PDIC_LIB=${PDIC_LIB:-$root/target/staticlib} "$work/$name/programs/build.sh" "$work/$name" "$@"
+    PDIC_LIB=${PDIC_LIB:-$root/target/staticlib} "$work/$name/programs/build.sh" "$work/$name" "$@" -w
     count=$((count + 1))
     cd "$work/$name/run"
 }
@@ -36,21 +36,44 @@ in_story() {
     "$here/story.sh" "$story" "$work/$name" >"$work/$name.txt" 2>&1 || true
     ! cmp -s "$work/$name.txt" "$here/stories/$story.txt" || unnoticed
 }
-in_crash() {
+# in_test TEST NAME FILE EDIT [FLAG..]: the test, with its first arguments if it has such, must fail
+in_test() {
+    test=$1
+    shift
     made "$@"
-    ! "$here/crash.sh" "$work/$name" >"$work/$name.txt" 2>&1 || unnoticed
+    ! "$here"/$test "$work/$name" >"$work/$name.txt" 2>&1 || unnoticed
 }
 sanitized='-fsanitize=address,undefined -fno-sanitize-recover=all'
 
 in_story fill output-with-absent fill.c 's/return status == 0 ? write_filled(m, output) : status;/write_filled(m, output); return status;/'
 in_story fill text-of-neighbour fill.c 's/compare_bytes(before->headword, k->headword) == 0/compare_bytes(before->headword, k->headword) <= 0/'
 in_story fill absent-not-counted fill.c 's/if (status == 0) status = 1;//'
-in_story refusals refusal-ignored book.c 's/if (number == PDIC_DONE) return 0;/return 0;/'
+in_story refusals refusal-ignored book.c 's/if (number == PDIC_DONE) return STATUS_DONE;/return STATUS_DONE;/'
 in_story glossary never-grows book.c 's/if (b->size >= PDIC_MAX_IMAGE) return 0;/if (b->size) return 0;/'
 in_story glossary write-error-ignored glossary.c 's/if (fflush(stdout) == 0 .*return status;/return status;/'
-in_story lists twice-accepted glossary.c 's/if (compare_bytes(x->headword, y->headword) != 0) continue;/continue;/'
+in_story lists twice-accepted lists.c 's/if (y->headword.len == 0 || .*continue;/continue;/'
 in_story glossary filed-one-short near.c 's/filed\[PDIC_MAX_HEADWORD + 1\]/filed[PDIC_MAX_HEADWORD]/' $sanitized
 in_story fill filled-leaks fill.c 's/^    free(out);$//' $sanitized
 in_story fill text-after-end fill.c 's/m->texts_len += found->text_len;/m->texts_len += found->text_len + 4000;/' $sanitized
-in_crash written-in-place file.c 's/int fd = mkstemp(beside)/int fd = open(path, O_WRONLY | O_TRUNC | O_CREAT, 0666)/;s/|| rename(beside, path) != 0/|| 0/'
+in_test crash.sh written-in-place file.c 's/int fd = open_beside(path, &beside);/beside = copy_of(path, strlen(path)); int fd = open(path, O_WRONLY | O_TRUNC | O_CREAT, 0666);/;s/|| rename_beside(beside, path, is_new) != 0//;s/unlink(beside);/;/'
+in_test crash.sh unfinished-kept file.c 's/^    remove_stale(path);$//'
+in_test together.sh not-locked file.c 's/while (flock(fd, LOCK_EX | LOCK_NB) != 0)/while (0)/'
+in_test together.sh lock-of-a-replaced-file file.c 's/if (held == HELD \&\& is_same(h->fd, h->path)) return HELD;/if (held == HELD) return HELD;/'
+in_test together.sh made-over-another file.c 's/if (!is_new) return rename/if (is_new >= 0) return rename/'
+in_story files link-replaced file.c 's/h->path = realpath(path, NULL);/h->path = copy_of(path, strlen(path));/'
+in_story files output-link-replaced file.c 's/char \*real = realpath(path, NULL);/char *real = copy_of(path, strlen(path));/'
+in_story files mode-lost file.c 's/return fchmod(fd, .*/return 0;/'
+in_story files read-only-replaced file.c 's/if ((file->st_mode \& 0222) == 0) return fault("it may only be read");//'
+in_story files fifo-replaced file.c 's/if (!S_ISREG(old.st_mode)) return write_straight(path, bytes, len);//'
+in_story files living-file-removed file.c 's/if (flock(fd, LOCK_EX | LOCK_NB) == 0) unlink(path);/unlink(path);/'
+in_story files waits-not file.c 's/if (now() >= until) {/if (1) {/'
+in_story lists blank-stored lists.c 's/if (blank_at(written, 0) || blank_at(written, 1))/if (0)/'
+in_story lists mark-stored lists.c 's/ == 0 ? 3 : 0;/ == 0 ? 0 : 0;/'
+in_story lists first-fault-alone lists.c 's/MOST_TOLD = 20/MOST_TOLD = 1/'
+in_story lists inserted-with-faults lists.c 's/    int failed = tell_faults(&r);/    tell_faults(\&r); int failed = 0;/'
+in_test 'exchange.py 1 10' percent-not-escaped lists.c "s/ || b.at\[i\] == '%')/)/"
+in_test 'exchange.py 1 10' attribute-not-dumped lists.c 's/(unsigned)e->attribute/0x80u/'
+in_story glossary attribute-lost glossary.c 's/is_stored ? stored.attribute : PDIC_PLAIN/PDIC_PLAIN/'
+in_story glossary some-deleted glossary.c 's/return status == STATUS_DONE ? save(t) : status;/return save(t), status;/'
+in_story glossary dry-run-writes glossary.c 's/if (status == STATUS_DONE \&\& !t->told.dry_run) status = save(t);/if (status == STATUS_DONE) status = save(t);/'
 echo "$count wrong programs noticed"

@@ -1,6 +1,20 @@
 # arguments
-note "arguments"
-run fill machinery.dic
+note "help and version, on standard output"
+run glossary --help 2>/dev/null
+run glossary --version 2>/dev/null
+for command in make merge add delete look find list dump check optimise; do
+    run glossary $command --help 2>/dev/null >said.txt
+    sed -n '1p; 4,/^$/p' said.txt
+    run glossary $command --version 2>/dev/null
+done
+
+note "what is not understood"
 run glossary
 run glossary add machinery.dic x
 run glossary sort machinery.dic
+run glossary check
+run glossary check machinery.dic x
+run glossary check --from=a machinery.dic
+run glossary list --wait=3 machinery.dic
+run glossary merge --dry machinery.dic machinery.tsv
+run glossary look -v machinery.dic clutch

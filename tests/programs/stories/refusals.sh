@@ -20,7 +20,7 @@ for name in length version order index-blocks index run entry free-list count mi
     run glossary delete $name.dic coolant
 done
 damaged reading 140 '\020'
-run glossary find reading.dic coolant
+run glossary look reading.dic coolant
 run glossary delete reading.dic coolant
 run glossary optimise reading.dic
-run glossary check .
+

@@ -1,0 +1,83 @@
+# the files themselves: links, rights, files that are no files, another program at work, files left over
+names() { ls -A | grep -v '^machinery\.tsv$\|^manual\.txt$\|^draft\.txt$\|^said\.txt$' | tr '\n' ' '; echo; }
+
+note "what a symbolic link leads to is replaced"
+mkdir kept
+mv machinery.dic kept/real.dic
+ln -s kept/real.dic link.dic
+run glossary add link.dic horn avertisseur
+readlink link.dic
+run glossary look kept/real.dic horn
+ln -s kept/not-there.dic nowhere.dic
+run glossary add nowhere.dic horn avertisseur
+run glossary make nowhere.dic machinery.tsv
+run fill kept/real.dic manual.txt nowhere.dic
+printf 'old' >kept/filled.txt
+ln -s kept/filled.txt filled.txt
+run fill kept/real.dic manual.txt filled.txt
+readlink filled.txt
+sed -n 3p kept/filled.txt
+ls kept
+rm nowhere.dic filled.txt
+
+note "the mode is kept, and the owner where the system lets us"
+cp kept/real.dic mode.dic
+chmod 640 mode.dic
+[ "$(id -u)" -ne 0 ] || chown 12:34 mode.dic
+before=$(stat -c '%a %u %g' mode.dic)
+run glossary add mode.dic klaxon avertisseur
+[ "$(stat -c '%a %u %g' mode.dic)" = "$before" ] || echo "not kept: $before"
+printf 'a <<klaxon>>\n' >short.txt
+printf 'old' >out.txt
+chmod 604 out.txt
+run fill mode.dic short.txt out.txt
+stat -c %a out.txt
+cat out.txt
+
+note "a file that may only be read"
+chmod 444 mode.dic
+run glossary add mode.dic horn2 avertisseur
+run glossary look mode.dic klaxon
+chmod 444 out.txt
+run fill mode.dic short.txt out.txt
+cat out.txt
+
+note "FIFOs, a device that never ends, and folders"
+mkfifo pipe
+cat pipe >from-pipe.txt &
+run fill kept/real.dic manual.txt pipe
+wait
+cmp from-pipe.txt manual.txt >/dev/null || echo "filled through the pipe"
+[ -p pipe ] && echo "the pipe is there"
+run glossary add pipe a b
+run glossary make pipe machinery.tsv
+run glossary check /dev/zero
+run glossary check .
+run glossary add . a b
+run fill kept/real.dic manual.txt kept
+run fill kept/real.dic manual.txt no/folder.txt
+run glossary check - <kept/real.dic
+
+note "another program changes the dictionary"
+cp kept/real.dic shared.dic
+flock shared.dic sleep 3 &
+sleep 0.5
+run glossary add --wait=1 shared.dic horn2 avertisseur
+run glossary look shared.dic horn
+run glossary merge --dry-run shared.dic machinery.tsv
+wait
+run glossary add --wait=0 shared.dic horn2 avertisseur
+for wait in x -1 1s 86401 ''; do run glossary add --wait=$wait shared.dic a b; done
+
+note "files that a program left when it was ended are removed, those of a living one are not"
+: >.shared.dic.unfinished-Ab3dEf
+: >.shared.dic.unfinished-living
+: >.shared.dic.unfinished-toolong
+: >.other.dic.unfinished-Ab3dEf
+flock .shared.dic.unfinished-living sleep 3 &
+sleep 0.5
+run glossary add shared.dic horn3 avertisseur
+names
+wait
+run glossary delete shared.dic horn3
+names
