@@ -17,14 +17,16 @@ use Rattle.spec.proofs.ListsLaws.{hold-both}
 use Rattle.spec.proofs.BytesLaws.{Small, small-of, bytes-of, small-drop, small-at}
 use Rattle.spec.proofs.ClaimLaws.{sorted-list-claim}
 use Rattle.editor.proofs.Rows.{all-bytes}
-use Rattle.script.specs.Script.{headword-size, text-size, call-size, kinds, call-of, front-call, calls-from, calls-of, code-of, Played, played-from, played, fed, Claimed}
+use Rattle.script.specs.Script.{headword-size, text-size, call-size, kinds, call-of, front-call, calls-from, calls-of, Told, told, Played, played-from, played, fed, Claimed}
 
 -- after the last call the image is accepted and its entries are the sorted list's
-last-matches : (below : List ℕ → List ℕ → Bool) (n : ℕ) (cs : List Call) (s : List ℕ) (L : ℕ) (es : List Entry) (codes : List ℕ) → History below s L es cs
-    → Matches below (played-from n cs s L codes .image) (played-from n cs s L codes .length-after) (fed below cs s L es)
-unfolding History played-from fed
-last-matches below n [] s L es codes h = h
-last-matches below n (c ∷ cs) s L es codes h = last-matches below (n + 1) cs (perform s L c .image) (perform s L c .length-after) (list-step below (is-refused (perform s L c .observed)) c es) (set codes n (code-of (perform s L c .observed))) (h .2)
+last-matches : (below : List ℕ → List ℕ → Bool) (n : ℕ) (cs : List Call) (s : List ℕ) (L : ℕ) (es : List Entry) (work codes : List ℕ) → History below s L es cs
+    → Matches below (played-from n cs s L work codes .image) (played-from n cs s L work codes .length-after) (fed below cs s L es)
+unfolding History played-from told fed
+last-matches below n [] s L es work codes h = h
+last-matches below n (c ∷ cs) s L es work codes h =
+    let r : Told = told s L work c in
+    last-matches below (n + 1) cs (r .image) (r .length-after) (list-step below (is-refused (perform s L c .observed)) c es) (r .work) (set codes n (r .code)) (h .2)
 
 -- every call of a list is of bytes
 AllBytes : List Call → Type 0
@@ -72,8 +74,11 @@ kinds-bytes w h a t p q r =
 call-of-bytes : (w : ℕ) (s : List ℕ) → Small s → (c : Call) → call-of w s ≡ some c → T (call-bytes c)
 unfolding call-of AllBytes
 call-of-bytes w s h c e =
-    kinds-bytes w (bytes-at 5 (headword-size s) s) (getD s 4 0) (bytes-at (5 + headword-size s) (text-size s) s)
-    (bytes-of (bytes-at 5 (headword-size s) s) (small-at 5 (headword-size s) s h)) (lt→ltb (getD s 4 0) 256 (small-get s 4 h)) (bytes-of (bytes-at (5 + headword-size s) (text-size s) s) (small-at (5 + headword-size s) (text-size s) s h)) (getD s 0 0) c e
+    let x : List ℕ = bytes-at 5 (headword-size s) s in
+    let y : List ℕ = bytes-at (5 + headword-size s) (text-size s) s in
+    let p : T (areBytes x) = bytes-of x (small-at 5 (headword-size s) s h) in
+    let q : T (areBytes y) = bytes-of y (small-at (5 + headword-size s) (text-size s) s h) in
+    kinds-bytes w x (getD s 4 0) y p (lt→ltb (getD s 4 0) 256 (small-get s 4 h)) q (getD s 0 0) c e
 
 -- the same where it must be whole
 front-bytes : (w : ℕ) (s : List ℕ) → Small s → (c : Call) → front-call w s ≡ some c → T (call-bytes c)
@@ -90,19 +95,21 @@ unfolding calls-from all
 calls-from-bytes w zero s h = tt
 calls-from-bytes w (suc n) s h = go (front-call w s) refl (calls-from-bytes w n (drop (call-size s) s) (small-drop (call-size s) s h))
   where
-    go : (o : Option Call) → front-call w s ≡ o → T (all call-bytes (calls-from w n (drop (call-size s) s))) → T (all call-bytes (elim o [ none ↦ [] | some c ↦ c ∷ calls-from w n (drop (call-size s) s) ]))
+    go : (o : Option Call) → front-call w s ≡ o → T (all call-bytes (calls-from w n (drop (call-size s) s)))
+        → T (all call-bytes (elim o [ none ↦ [] | some c ↦ c ∷ calls-from w n (drop (call-size s) s) ]))
     go none e ih = tt
     go (some c) e ih = hold-both (call-bytes c) (all call-bytes (calls-from w n (drop (call-size s) s))) (front-bytes w s h c e) ih
 
 -- THE CLAIM of every script on every slice: what play leaves, by its contract, is what the sorted-list claim says of the script's calls
-pub script-claim : (s : List ℕ) → T (areBytes s) → (L : ℕ) (script : List ℕ) → T (areBytes script) → (w : ℕ) (codes : List ℕ) (left : Played) → left ≡ played (calls-of w script) s L codes
-    → Claimed (calls-of w script) s L (left .image) (left .length-after)
+pub script-claim : (s : List ℕ) → T (areBytes s) → (L : ℕ) (script : List ℕ) → T (areBytes script) → (w : ℕ) (work codes : List ℕ) (left : Played)
+    → left ≡ played (calls-of w script) s L work codes → Claimed (calls-of w script) s L (left .image) (left .length-after)
 unfolding SortedListClaim calls-of played Claimed
-script-claim s small L script bytes w codes left e i got =
-    let h : History (i .frame .format .below) s L (entries-of i) (calls-of w script) = sorted-list-claim s L i small got (calls-of w script) (calls-from-bytes w (length script) script (small-of script bytes)) in
-    (h, rw e (last-matches (i .frame .format .below) 0 (calls-of w script) s L (entries-of i) codes h))
+script-claim s small L script bytes w work codes left e i got =
+    let cs : List Call = calls-of w script in
+    let h : History (i .frame .format .below) s L (entries-of i) cs = sorted-list-claim s L i small got cs (calls-from-bytes w (length script) script (small-of script bytes)) in
+    (h, rw e (last-matches (i .frame .format .below) 0 cs s L (entries-of i) work codes h))
 
 -- as the code knows it
-pub script-claimed : (s : List ℕ) → ((k : ℕ) → getD s k 0 < 256) → (L : ℕ) (script : List ℕ) → ((k : ℕ) → getD script k 0 < 256) → (w : ℕ) (codes : List ℕ) (left : Played)
-    → left ≡ played (calls-of w script) s L codes → Claimed (calls-of w script) s L (left .image) (left .length-after)
-script-claimed s p L script q w codes left e = script-claim s (all-bytes s p) L script (all-bytes script q) w codes left e
+pub script-claimed : (s : List ℕ) → ((k : ℕ) → getD s k 0 < 256) → (L : ℕ) (script : List ℕ) → ((k : ℕ) → getD script k 0 < 256) → (w : ℕ) (work codes : List ℕ) (left : Played)
+    → left ≡ played (calls-of w script) s L work codes → Claimed (calls-of w script) s L (left .image) (left .length-after)
+script-claimed s p L script q w work codes left e = script-claim s (all-bytes s p) L script (all-bytes script q) w work codes left e

@@ -50,12 +50,16 @@ reading-number n k = ⊎-elim (λ (a : n ≤ 10). omega arith) (λ (b : (n ≡ 1
 code-byte : (s : List ℕ) (L : ℕ) → T (areBytes s) → (c : Call) → code-of (perform s L c .observed) < 256
 unfolding perform
 code-byte s L small (look-up-call h out) = text-code (look-up s L h out .answer) (look-up s L h out .text) (λ n e. reading-number n (first-numbers .look-up-rows s L h out small .no-other n e))
-code-byte s L small (walk-call above h word text) = entry-code (walk s L above h word text .answer) (walk s L above h word text .headword) (walk s L above h word text .text) (λ n e. reading-number n (first-numbers .walk-rows s L above h word text small .no-other n e))
-code-byte s L small (insert-call work h a t) = done-code (insert s L work h a t .answer) (λ n e. ⊎-elim (λ (p : n ≤ 13). omega arith) (λ (p : n ≡ 15). omega arith) (first-numbers .insert-rows s L work h a t small .no-other n e))
-code-byte s L small (delete-call work h) = removed-code (delete s L work h .answer) (λ n e. ⊎-elim (λ (p : n ≤ 12). omega arith) (λ (p : n ≡ 15). omega arith) (first-numbers .delete-rows s L work h small .no-other n e))
+code-byte s L small (walk-call above h word text) =
+    let r = walk s L above h word text in
+    entry-code (r .answer) (r .headword) (r .text) (λ n e. reading-number n (first-numbers .walk-rows s L above h word text small .no-other n e))
+code-byte s L small (insert-call work h a t) =
+    done-code (insert s L work h a t .answer) (λ n e. ⊎-elim (λ (p : n ≤ 13). omega arith) (λ (p : n ≡ 15). omega arith) (first-numbers .insert-rows s L work h a t small .no-other n e))
+code-byte s L small (delete-call work h) =
+    removed-code (delete s L work h .answer) (λ n e. ⊎-elim (λ (p : n ≤ 12). omega arith) (λ (p : n ≡ 15). omega arith) (first-numbers .delete-rows s L work h small .no-other n e))
 code-byte s L small (optimise-call work) = done-code (optimise s L work .answer) (λ n e. omega (arith, first-numbers .optimise-rows s L work small .no-other n e))
 
 -- as the code knows it
-pub code-small : (s : List ℕ) → ((k : ℕ) → getD s k 0 < 256) → (L : ℕ) (c : Call) (t : Told) → t ≡ told (perform s L c) → t .code < 256
+pub code-small : (s : List ℕ) → ((k : ℕ) → getD s k 0 < 256) → (L : ℕ) (work : List ℕ) (c : Call) (t : Told) → t ≡ told s L work c → t .code < 256
 unfolding told
-code-small s h L c t e = rw e (code-byte s L (all-bytes s h) c)
+code-small s h L work c t e = rw e (code-byte s L (all-bytes s h) c)

@@ -10,8 +10,8 @@ use lib.Seq.{take-length, drop-drop}
 use lib.Dec.{leb}
 use borrow.Author.Tests.{le-leb, lt-leb}
 use Rattle.spec.specs.Bytes.{from-little-endian, bytes-at}
-use Rattle.spec.specs.Claim.{Call, perform}
-use Rattle.script.specs.Script.{headword-size, text-size, call-size, kinds, call-of, front-call, SizeOf, calls-from, calls-of, code-of, Told, told, Played, played-from, played}
+use Rattle.spec.specs.Claim.{Call}
+use Rattle.script.specs.Script.{headword-size, text-size, call-size, kinds, call-of, front-call, SizeOf, calls-from, calls-of, told, Played, played-from, played}
 
 -- nothing stands past the end
 none-past : (l : List Call) (i : ℕ) → length l ≤ i → getElem? l i ≡ none
@@ -98,7 +98,9 @@ unfolding calls-of
 calls-first w s c p e =
     let n : ℕ = length s - 1 in
     let k : length s ≡ suc n = omega arith in
-    calls-enough w (length s) (suc n) s (omega arith) (omega arith) ∙ calls-some w n s c (front-whole w s p ∙ e) ∙ ap (λ (cs : List Call). c ∷ cs) (calls-enough w n (length (drop (call-size s) s)) (drop (call-size s) s) (omega (arith, length-drop (call-size s) s)) (omega arith))
+    let rest : List ℕ = drop (call-size s) s in
+    let r : calls-from w n rest ≡ calls-from w (length rest) rest = calls-enough w n (length rest) rest (omega (arith, length-drop (call-size s) s)) (omega arith) in
+    calls-enough w (length s) (suc n) s (omega arith) (omega arith) ∙ calls-some w n s c (front-whole w s p ∙ e) ∙ ap (λ (cs : List Call). c ∷ cs) r
 
 -- what stands at a place is something
 some-at : (l : List Call) (i : ℕ) → i < length l → (c : Call) × (getElem? l i ≡ some c)
@@ -114,19 +116,16 @@ call-there w s p =
     some-at l (getD s 0 0) (omega (arith, six-kinds w (bytes-at 5 (headword-size s) s) (getD s 4 0) (bytes-at (5 + headword-size s) (text-size s) s)))
 
 -- the first call performed, then the rest
-played-call : (n : ℕ) (c : Call) (cs : List Call) (s codes : List ℕ) (L code : ℕ) (s′ : List ℕ) (L′ : ℕ) → record { code = code; image = s′; length-after = L′ } ≡ told (perform s L c)
-    → (codes′ : List ℕ) → codes′ ≡ set codes n code → played-from n (c ∷ cs) s L codes ≡ played-from (n + 1) cs s′ L′ codes′
-unfolding played-from told
-played-call n c cs s codes L code s′ L′ u codes′ k =
-    let x : code ≡ code-of (perform s L c .observed) = ap (λ (r : Told). r .code) u in
-    let y : s′ ≡ perform s L c .image = ap (λ (r : Told). r .image) u in
-    let z : L′ ≡ perform s L c .length-after = ap (λ (r : Told). r .length-after) u in
-    rw (k, x, y, z)
+played-call : (n : ℕ) (c : Call) (cs : List Call) (s : List ℕ) (L : ℕ) (work codes : List ℕ) (code : ℕ) (s′ : List ℕ) (L′ : ℕ) (work′ : List ℕ)
+    → record { code = code; image = s′; length-after = L′; work = work′ } ≡ told s L work c
+    → (codes′ : List ℕ) → codes′ ≡ set codes n code → played-from n (c ∷ cs) s L work codes ≡ played-from (n + 1) cs s′ L′ work′ codes′
+unfolding played-from
+played-call n c cs s L work codes code s′ L′ work′ u codes′ k = rw (k, ← u)
 
 -- at the start
-pub played-start : (w : ℕ) (script s : List ℕ) (L : ℕ) (codes : List ℕ) → played-from 0 (calls-of w (drop 0 script)) s L codes ≡ played (calls-of w script) s L codes
+pub played-start : (w : ℕ) (script s : List ℕ) (L : ℕ) (work codes : List ℕ) → played-from 0 (calls-of w (drop 0 script)) s L work codes ≡ played (calls-of w script) s L work codes
 unfolding played
-played-start w script s L codes = refl
+played-start w script s L work codes = refl
 
 -- the rest of a script as a part
 rest-is : (script : List ℕ) (at : ℕ) → take (length script - at) (drop at script) ≡ drop at script
@@ -137,19 +136,25 @@ pub size-told : (s : List ℕ) (size : ℕ) → SizeOf s size → (size ≡ 0 �
 size-told s size known z = let (a, b, d) = known .1 (omega arith) in (omega arith, d)
 
 -- The loop. X is what is to come of the whole script.
-module _ (w : ℕ) (script : List ℕ) (at n L : ℕ) (s codes : List ℕ) (X : Played) (inv : played-from n (calls-of w (drop at script)) s L codes ≡ X) (size : ℕ) (known : SizeOf (take (length script - at) (drop at script)) size) where
+module _ (w : ℕ) (script : List ℕ) (at n L : ℕ) (s work codes : List ℕ) (X : Played) (inv : played-from n (calls-of w (drop at script)) s L work codes ≡ X) (size : ℕ)
+    (known : SizeOf (take (length script - at) (drop at script)) size) where
   -- the end
-  pub played-end : size ≡ 0 → record { image = s; length-after = L; codes = codes } ≡ X
+  pub played-end : size ≡ 0 → record { image = s; length-after = L; work = work; codes = codes } ≡ X
   unfolding calls-of played-from
-  played-end e = sym (ap (λ (cs : List Call). played-from n cs s L codes) (calls-none w (length (drop at script)) (drop at script) (rw (rest-is script at) at (known .0 e w)))) ∙ inv
+  played-end e =
+      let none-left : calls-of w (drop at script) ≡ [] = calls-none w (length (drop at script)) (drop at script) (rw (rest-is script at) at (known .0 e w)) in
+      sym (ap (λ (cs : List Call). played-from n cs s L work codes) none-left) ∙ inv
 
   -- a turn
-  pub played-turn : (size ≡ 0 → ⊥) → (v : ℕ) → v ≡ w → (code : ℕ) (s′ : List ℕ) (L′ : ℕ)
-      → ((c : Call) → call-of v (take (length script - at) (drop at script)) ≡ some c → record { code = code; image = s′; length-after = L′ } ≡ told (perform s L c))
+  pub played-turn : (size ≡ 0 → ⊥) → length work ≡ w → (code : ℕ) (s′ : List ℕ) (L′ : ℕ) (work′ : List ℕ)
+      → ((c : Call) → call-of (length work) (take (length script - at) (drop at script)) ≡ some c → record { code = code; image = s′; length-after = L′; work = work′ } ≡ told s L work c)
       → (codes′ : List ℕ) → codes′ ≡ set codes n code
-      → played-from (n + 1) (calls-of w (drop (at + size) script)) s′ L′ codes′ ≡ X
-  played-turn z v g code s′ L′ t codes′ k =
+      → played-from (n + 1) (calls-of w (drop (at + size) script)) s′ L′ work′ codes′ ≡ X
+  played-turn z g code s′ L′ work′ t codes′ k =
+      let rest : List ℕ = drop at script in
       let (a, b, d) = rw (rest-is script at) at (known .1 (omega arith)) in
-      let (c, e) = call-there w (drop at script) d in
-      let f : drop (at + size) script ≡ drop (call-size (drop at script)) (drop at script) = sym (drop-drop size at script) ∙ ap (λ (x : ℕ). drop x (drop at script)) a in
-      rw f (sym (played-call n c (calls-of w (drop (call-size (drop at script)) (drop at script))) s codes L code s′ L′ (t c (rw (g, rest-is script at) e)) codes′ k) ∙ ap (λ (cs : List Call). played-from n cs s L codes) (sym (calls-first w (drop at script) c (omega arith) e)) ∙ inv)
+      let (c, e) = call-there w rest d in
+      let cs : List Call = calls-of w (drop (call-size rest) rest) in
+      let f : drop (at + size) script ≡ drop (call-size rest) rest = sym (drop-drop size at script) ∙ ap (λ (x : ℕ). drop x rest) a in
+      let first : calls-of w rest ≡ c ∷ cs = calls-first w rest c (omega arith) e in
+      rw f (sym (played-call n c cs s L work codes code s′ L′ work′ (t c (rw (g, rest-is script at) e)) codes′ k) ∙ ap (λ (l : List Call). played-from n l s L work codes) (sym first) ∙ inv)

@@ -11,7 +11,9 @@ use Rattle.spec.specs.Outcome.{Outcome, refused, ok}
 use Rattle.spec.specs.Bytes.{from-little-endian, bytes-at, zeros}
 use Rattle.spec.specs.Entry.{Entry}
 use Rattle.spec.specs.Check.{Image, image-in, entries-of}
-use Rattle.spec.specs.Claim.{Call, look-up-call, walk-call, insert-call, delete-call, optimise-call, Observed, absent, text-found, entry-found, done, removed, Performed, perform, is-refused, list-step, Matches, History}
+use Rattle.spec.specs.Calls.{work-after}
+use Rattle.spec.specs.Claim.{Call, look-up-call, walk-call, insert-call, delete-call, optimise-call, perform, is-refused, list-step, Matches, History}
+use Rattle.spec.specs.Claim.{Observed, absent, text-found, entry-found, done, removed}
 
 -- the length of the headword of the call at the front of s
 abbrev pub headword-size : List ℕ → ℕ
@@ -66,30 +68,44 @@ code-of (ok (entry-found h t a m n)) = 0
 code-of (ok done) = 0
 code-of (ok removed) = 0
 
--- what is kept of a call: its code, the image slice and the length that stands then
+-- the working slice after a call: a reading call is not lent it; "all zero after each changing call, except that 1 and 2 leave it untouched"
+unfoldable pub work-left : Call → Outcome Observed → List ℕ → List ℕ
+work-left (look-up-call h out) o work = work
+work-left (walk-call above h out-headword out-text) o work = work
+work-left (insert-call other h a t) o work = work-after o work
+work-left (delete-call other h) o work = work-after o work
+work-left (optimise-call other) o work = work-after o work
+
+-- what is left of a call: its code, the image slice, the length that stands then, and the working slice
 pub record Told : Type 0 where
   pub code : ℕ
   pub image : List ℕ
   pub length-after : ℕ
+  pub work : List ℕ
 
--- of the call as the claim performs it
-unfoldable pub told : Performed → Told
-told r = record { code = code-of (r .observed); image = r .image; length-after = r .length-after }
+-- of the call as the claim performs it on the image slice s with the length L; the call's own working slice is zeros, and work is the one lent
+unfoldable pub told : List ℕ → ℕ → List ℕ → Call → Told
+told s L work c =
+    let r = perform s L c in
+    record { code = code-of (r .observed); image = r .image; length-after = r .length-after; work = work-left c (r .observed) work }
 
--- what is left of all calls: the image slice, the length that stands then, and the slice of codes
+-- what is left of all calls: the image slice, the length that stands then, the working slice, and the slice of codes
 pub record Played : Type 0 where
   pub image : List ℕ
   pub length-after : ℕ
+  pub work : List ℕ
   pub codes : List ℕ
 
--- the calls performed in order, each with the length that stands then; the code of the first goes to place n of the slice of codes, if there is one
-unfoldable pub played-from : ℕ → List Call → List ℕ → ℕ → List ℕ → Played
-played-from n [] s L codes = record { image = s; length-after = L; codes = codes }
-played-from n (c ∷ cs) s L codes = played-from (n + 1) cs (perform s L c .image) (perform s L c .length-after) (set codes n (code-of (perform s L c .observed)))
+-- the calls performed in order, each with the length and the working slice that stand then; the code of the first goes to place n of the slice of codes, if there is one
+unfoldable pub played-from : ℕ → List Call → List ℕ → ℕ → List ℕ → List ℕ → Played
+played-from n [] s L work codes = record { image = s; length-after = L; work = work; codes = codes }
+played-from n (c ∷ cs) s L work codes =
+    let r = told s L work c in
+    played-from (n + 1) cs (r .image) (r .length-after) (r .work) (set codes n (r .code))
 
--- the calls performed in order on the image slice s with the length L
-unfoldable pub played : List Call → List ℕ → ℕ → List ℕ → Played
-played cs s L codes = played-from 0 cs s L codes
+-- the calls performed in order on the image slice s with the length L and the working slice work
+unfoldable pub played : List Call → List ℕ → ℕ → List ℕ → List ℕ → Played
+played cs s L work codes = played-from 0 cs s L work codes
 
 -- the sorted list fed with the same calls, and with whether each was refused
 unfoldable pub fed : (List ℕ → List ℕ → Bool) → List Call → List ℕ → ℕ → List Entry → List Entry
@@ -106,5 +122,5 @@ Claimed cs s L image length-after =
 
 -- names all definitions of this module: who unfolds it unfolds them
 unfoldable pub open-script : Unit {0}
-unfolding kinds call-of front-call calls-from calls-of code-of told played-from played fed Claimed
+unfolding kinds call-of front-call calls-from calls-of code-of work-left told played-from played fed Claimed
 open-script = tt

@@ -1,5 +1,5 @@
 -- `delete` meets its contract.
-use Rattle.script.proofs.Laws.{delete-refused, delete-absent, delete-done, delete-length}
+use Rattle.script.proofs.Laws.{delete-refused, delete-absent, delete-done}
 use borrow.Author.Needs.{needs}
 use Rattle.script.proofs.delete.Statement.{statement}
 use Rattle.script.proofs.delete.Tie as tie
@@ -23,7 +23,7 @@ same-length-2 : tie.Need-same-length-2
 same-length-2 c = search needs
 
 returns : tie.Need-returns
-returns c = (search delete-refused, search delete-length)
+returns c = search delete-refused
 
 same-length-3 : tie.Need-same-length-3
 same-length-3 c = search needs
@@ -32,7 +32,7 @@ same-length-4 : tie.Need-same-length-4
 same-length-4 c = search needs
 
 returns-2 : tie.Need-returns-2
-returns-2 c = (search delete-absent, search delete-length)
+returns-2 c = search delete-absent
 
 same-length-5 : tie.Need-same-length-5
 same-length-5 c = search needs
@@ -41,7 +41,7 @@ same-length-6 : tie.Need-same-length-6
 same-length-6 c = search needs
 
 returns-3 : tie.Need-returns-3
-returns-3 c = (search delete-done, search delete-length)
+returns-3 c = search delete-done
 
 pub delete-spec : {M : Type 1} → statement M
 delete-spec =

@@ -1,5 +1,5 @@
 -- `insert` meets its contract.
-use Rattle.script.proofs.Laws.{insert-refused, insert-done, insert-length}
+use Rattle.script.proofs.Laws.{insert-refused, insert-done}
 use borrow.Author.Needs.{needs}
 use Rattle.script.proofs.insert.Statement.{statement}
 use Rattle.script.proofs.insert.Tie as tie
@@ -20,7 +20,7 @@ same-length-2 : tie.Need-same-length-2
 same-length-2 c = search needs
 
 returns : tie.Need-returns
-returns c = (search insert-refused, search insert-length)
+returns c = search insert-refused
 
 same-length-3 : tie.Need-same-length-3
 same-length-3 c = search needs
@@ -29,7 +29,7 @@ same-length-4 : tie.Need-same-length-4
 same-length-4 c = search needs
 
 returns-2 : tie.Need-returns-2
-returns-2 c = (search insert-done, search insert-length)
+returns-2 c = search insert-done
 
 pub insert-spec : {M : Type 1} → statement M
 insert-spec =

@@ -1,5 +1,5 @@
 -- `optimise` meets its contract.
-use Rattle.script.proofs.Laws.{optimise-refused, optimise-done, optimise-length}
+use Rattle.script.proofs.Laws.{optimise-refused, optimise-done}
 use borrow.Author.Needs.{needs}
 use Rattle.script.proofs.optimise.Statement.{statement}
 use Rattle.script.proofs.optimise.Tie as tie
@@ -20,7 +20,7 @@ same-length-2 : tie.Need-same-length-2
 same-length-2 c = search needs
 
 returns : tie.Need-returns
-returns c = (search optimise-refused, search optimise-length)
+returns c = search optimise-refused
 
 same-length-3 : tie.Need-same-length-3
 same-length-3 c = search needs
@@ -29,7 +29,7 @@ same-length-4 : tie.Need-same-length-4
 same-length-4 c = search needs
 
 returns-2 : tie.Need-returns-2
-returns-2 c = (search optimise-done, search optimise-length)
+returns-2 c = search optimise-done
 
 pub optimise-spec : {M : Type 1} → statement M
 optimise-spec =

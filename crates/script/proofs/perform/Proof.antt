@@ -1,6 +1,7 @@
 -- `perform` meets its contract.
-use mathlib.Core.Path.{refl}
+use mathlib.Core.Path.{_≡_}
 use native.Mathlib.Omega.{arith}
+use lib.ListN.{getD}
 use Rattle.script.proofs.ByKind.{performed-0, performed-1, performed-2, performed-3, performed-4, performed-5}
 use borrow.Author.Needs.{needs}
 use Rattle.script.proofs.perform.Statement.{statement}
@@ -34,7 +35,13 @@ same-length : tie.Need-same-length
 same-length c = search needs
 
 returns : tie.Need-returns
-returns c = let q = performed-0 _ (c .before .before .before .before .before .before .before .before .before .before .args .s .now) (c .before .before .before .before .before .before .before .before .before .before .args .image .now) (c .before .before .before .before .before .before .before .before .before .before .args .len) (λ k. omega (arith, c .before .before .before .before .before .before .before .before .slice-known .given k)) _ (c .before .before .before .before .wide .ensures .0) (c .before .before .if1 .taken) _ (c .look-up .ensures) in (q .0, (q .1, refl))
+returns c =
+    let worded = c .before .before .before .before in
+    let known = worded .before .before .before .before in
+    let start = known .before .before .args in
+    let bytes = known .slice-known .given in
+    let e = worded .wide .ensures .0 in
+    performed-0 _ (start .s .now) (start .image .now) (start .len) (λ k. omega (arith, bytes k)) _ e (c .before .before .if1 .taken) _ (c .look-up .ensures)
 
 walk-requires : tie.Need-walk-requires
 walk-requires c κs = search needs
@@ -43,7 +50,13 @@ same-length-2 : tie.Need-same-length-2
 same-length-2 c = search needs
 
 returns-2 : tie.Need-returns-2
-returns-2 c = let q = performed-1 _ (c .before .before .before .before .before .before .before .before .before .before .before .args .s .now) (c .before .before .before .before .before .before .before .before .before .before .before .args .image .now) (c .before .before .before .before .before .before .before .before .before .before .before .args .len) (λ k. omega (arith, c .before .before .before .before .before .before .before .before .before .slice-known .given k)) _ (c .before .before .before .before .before .wide .ensures .0) (c .before .before .if2 .taken) _ (c .walk .ensures) in (q .0, (q .1, refl))
+returns-2 c =
+    let worded = c .before .before .before .before .before in
+    let known = worded .before .before .before .before in
+    let start = known .before .before .args in
+    let bytes = known .slice-known .given in
+    let e = worded .wide .ensures .0 in
+    performed-1 _ (start .s .now) (start .image .now) (start .len) (λ k. omega (arith, bytes k)) _ e (c .before .before .if2 .taken) _ (c .walk .ensures)
 
 walk-requires-2 : tie.Need-walk-requires-2
 walk-requires-2 c κs = search needs
@@ -52,7 +65,13 @@ same-length-3 : tie.Need-same-length-3
 same-length-3 c = search needs
 
 returns-3 : tie.Need-returns-3
-returns-3 c = let q = performed-2 _ (c .before .before .before .before .before .before .before .before .before .before .before .before .args .s .now) (c .before .before .before .before .before .before .before .before .before .before .before .before .args .image .now) (c .before .before .before .before .before .before .before .before .before .before .before .before .args .len) (λ k. omega (arith, c .before .before .before .before .before .before .before .before .before .before .slice-known .given k)) _ (c .before .before .before .before .before .before .wide .ensures .0) (c .before .before .if3 .taken) _ (c .walk2 .ensures) in (q .0, (q .1, refl))
+returns-3 c =
+    let worded = c .before .before .before .before .before .before in
+    let known = worded .before .before .before .before in
+    let start = known .before .before .args in
+    let bytes = known .slice-known .given in
+    let e = worded .wide .ensures .0 in
+    performed-2 _ (start .s .now) (start .image .now) (start .len) (λ k. omega (arith, bytes k)) _ e (c .before .before .if3 .taken) _ (c .walk2 .ensures)
 
 read-u16-requires : tie.Need-read-u16-requires
 read-u16-requires c κs = search needs
@@ -82,7 +101,15 @@ same-length-5 : tie.Need-same-length-5
 same-length-5 c = search needs
 
 returns-4 : tie.Need-returns-4
-returns-4 c = let q = performed-3 _ (c .before .before .before .before .before .before .before .before .before .before .before .before .before .before .before .before .before .before .before .before .before .args .s .now) (c .before .before .before .before .before .before .before .before .before .before .before .before .before .before .before .before .before .before .before .before .before .args .image .now) (c .before .before .before .before .before .before .before .before .before .before .before .before .before .before .before .before .before .before .before .before .before .args .len) (λ k. omega (arith, c .before .before .before .before .before .before .before .before .before .before .before .before .before .before .before .before .before .before .before .slice-known .given k)) _ (c .before .before .before .before .before .before .before .before .before .before .before .before .before .before .before .wide .ensures .0) (c .before .before .before .before .before .before .before .before .before .before .if4 .taken) _ (c .before .before .before .before .before .before .before .before .before .read-u16 .ensures .0) _ (c .before .before .before .before .insert .ensures .0) in (q .0, (q .1, c .before .before .before .before .insert .ensures .1))
+returns-4 c =
+    let called = c .before .before .before .before in
+    let read = called .before .before .before .before .before in
+    let worded = read .before .before .before .before .before .before in
+    let known = worded .before .before .before .before in
+    let start = known .before .before .args in
+    let bytes = known .slice-known .given in
+    let e = worded .wide .ensures .0 in
+    performed-3 _ (start .s .now) (start .image .now) (start .len) (λ k. omega (arith, bytes k)) _ e (read .before .if4 .taken) _ (read .read-u16 .ensures .0) _ (called .insert .ensures)
 
 delete-requires : tie.Need-delete-requires
 delete-requires c κs = search needs
@@ -94,7 +121,14 @@ same-length-7 : tie.Need-same-length-7
 same-length-7 c = search needs
 
 returns-5 : tie.Need-returns-5
-returns-5 c = let q = performed-4 _ (c .before .before .before .before .before .before .before .before .before .before .before .before .before .before .before .before .before .before .before .args .s .now) (c .before .before .before .before .before .before .before .before .before .before .before .before .before .before .before .before .before .before .before .args .image .now) (c .before .before .before .before .before .before .before .before .before .before .before .before .before .before .before .before .before .before .before .args .len) (λ k. omega (arith, c .before .before .before .before .before .before .before .before .before .before .before .before .before .before .before .before .before .slice-known .given k)) _ (c .before .before .before .before .before .before .before .before .before .before .before .before .before .wide .ensures .0) (c .before .before .before .before .before .before .before .if5 .taken) _ (c .before .before .before .before .delete .ensures .0) in (q .0, (q .1, c .before .before .before .before .delete .ensures .1))
+returns-5 c =
+    let called = c .before .before .before .before in
+    let worded = called .before .before .before .before .before .before .before .before .before in
+    let known = worded .before .before .before .before in
+    let start = known .before .before .args in
+    let bytes = known .slice-known .given in
+    let e = worded .wide .ensures .0 in
+    performed-4 _ (start .s .now) (start .image .now) (start .len) (λ k. omega (arith, bytes k)) _ e (called .before .before .before .if5 .taken) _ (called .delete .ensures)
 
 optimise-requires : tie.Need-optimise-requires
 optimise-requires c κs = search needs
@@ -106,7 +140,14 @@ same-length-9 : tie.Need-same-length-9
 same-length-9 c = search needs
 
 returns-6 : tie.Need-returns-6
-returns-6 c = let q = performed-5 _ (c .before .before .before .before .before .before .before .before .before .before .before .before .before .before .before .before .before .before .before .args .s .now) (c .before .before .before .before .before .before .before .before .before .before .before .before .before .before .before .before .before .before .before .args .image .now) (c .before .before .before .before .before .before .before .before .before .before .before .before .before .before .before .before .before .before .before .args .len) (λ k. omega (arith, c .before .before .before .before .before .before .before .before .before .before .before .before .before .before .before .before .before .slice-known .given k)) (omega arith) _ (c .before .before .before .before .optimise .ensures .0) in (q .0, (q .1, c .before .before .before .before .optimise .ensures .1))
+returns-6 c =
+    let kind : getD (c .before .before .before .before .before .before .before .before .before .before .before .before .before .before .before .before .before .before .before .args .s .now) 0 0 ≡ 5 =
+    omega arith in
+    let called = c .before .before .before .before in
+    let known = called .before .before .before .before .before .before .before .before .before .before .before .before .before in
+    let start = known .before .before .args in
+    let bytes = known .slice-known .given in
+    performed-5 _ (start .s .now) (start .image .now) (start .len) (λ k. omega (arith, bytes k)) kind _ (called .optimise .ensures)
 
 pub perform-spec : {M : Type 1} → statement M
 perform-spec =

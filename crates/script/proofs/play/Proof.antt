@@ -13,13 +13,13 @@ use Rattle.script.proofs.play.Tie as tie
 abbrev Inv-loop : tie.InvT-loop
 Inv-loop script image₀ len work₀ codes₀ l₀ at₀ n₀ image work codes l at n =
     (at ≤ length script) × (n ≤ at) × (length image ≡ length image₀) × (length work ≡ length work₀) × (length codes ≡ length codes₀)
-    × (played-from n (calls-of (length work₀) (drop at script)) image l codes ≡ played (calls-of (length work₀) script) image₀ len codes₀)
+    × (played-from n (calls-of (length work₀) (drop at script)) image l work codes ≡ played (calls-of (length work₀) script) image₀ len work₀ codes₀)
 
 abbrev μ-loop : tie.MeasureT-loop
 μ-loop script image₀ len work₀ codes₀ l₀ at₀ n₀ image work codes l at n = length script - at
 
 loop-holds : tie.Need-loop-holds Inv-loop μ-loop
-loop-holds c = (omega arith, omega arith, refl, refl, refl, played-start _ _ _ _ _)
+loop-holds c = (omega arith, omega arith, refl, refl, refl, played-start _ _ _ _ _ _)
 
 sub-rest : tie.Need-sub-rest Inv-loop μ-loop
 sub-rest c = search needs
@@ -44,8 +44,12 @@ same-length-3 c = omega arith
 
 returns : tie.Need-returns Inv-loop μ-loop
 returns c =
-    let e = played-end _ (c .before .before .before .before .before .before .before .before .args .script .now) (c .before .before .before .loop .at) _ _ _ _ _ (c .before .before .before .loop .inv .5) _ (c .before .call-size .ensures .0) (c .if1 .taken) in
-    (e, (script-claimed (c .before .before .before .before .before .before .before .before .args .image .now) (λ k. omega (arith, c .before .before .before .before .before .before .slice-known .given k)) _ (c .before .before .before .before .before .before .before .before .args .script .now) (λ k. omega (arith, c .before .before .before .before .before .before .before .shared-slice-known .given k)) _ _ _ e, omega arith))
+    let start = c .before .before .before .before .before .before .before .before .args in
+    let turn = c .before .before .before .loop in
+    let e = played-end _ (start .script .now) (turn .at) _ _ _ _ _ _ (turn .inv .5) _ (c .before .call-size .ensures .0) (c .if1 .taken) in
+    let image-bytes = c .before .before .before .before .before .before .slice-known in
+    let script-bytes = c .before .before .before .before .before .before .before .shared-slice-known in
+    (e, script-claimed (start .image .now) (λ k. omega (arith, image-bytes .given k)) _ (start .script .now) (λ k. omega (arith, script-bytes .given k)) _ _ _ _ e)
 
 perform-requires : tie.Need-perform-requires Inv-loop μ-loop
 perform-requires c κs = size-told _ _ (c .before .before .before .call-size .ensures .0) (c .before .before .if1 .left)
@@ -63,7 +67,16 @@ loop-less : tie.Need-loop-less Inv-loop μ-loop
 loop-less c = omega arith
 
 loop-again : tie.Need-loop-again Inv-loop μ-loop
-loop-again c = (omega arith, omega arith, omega arith, omega arith, omega arith, played-turn _ (c .before .before .before .before .before .before .before .before .before .before .before .before .before .before .before .before .before .before .before .args .script .now) (c .before .before .before .before .before .before .before .before .before .before .before .before .before .before .loop .at) _ _ _ _ _ (c .before .before .before .before .before .before .before .before .before .before .before .before .before .before .loop .inv .5) _ (c .before .before .before .before .before .before .before .before .before .before .before .before .call-size .ensures .0) (c .before .before .before .before .before .before .before .before .before .before .before .if1 .left) _ (c .before .before .before .before .before .before .before .before .before .before .before .before .before .before .loop .inv .3) _ _ _ (c .before .before .before .before .before .before .before .before .perform .ensures .0) _ (c .before .before .put-code .ensures))
+loop-again c =
+    let stored = c .before .before in
+    let performed = stored .before .before .before .before .before .before in
+    let sized = performed .before .before .before .before in
+    let turn = sized .before .before .loop in
+    let start = sized .before .before .before .before .before .before .before .args in
+    let known = sized .call-size .ensures .0 in
+    let full = performed .before .before .before .if1 .left in
+    let next = played-turn _ (start .script .now) (turn .at) _ _ _ _ _ _ (turn .inv .5) _ known full (turn .inv .3) _ _ _ _ (performed .perform .ensures .0) _ (stored .put-code .ensures) in
+    (omega arith, omega arith, omega arith, omega arith, omega arith, next)
 
 pub play-spec : {M : Type 1} → statement M
 play-spec =
