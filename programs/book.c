@@ -2,6 +2,7 @@
 #include <inttypes.h>
 #include <stdlib.h>
 #include <string.h>
+#include "seal.h"
 
 enum { FIRST_SIZE = 65536 };
 
@@ -65,14 +66,16 @@ int book_create(book *b, const char *path)
     return STATUS_DONE;
 }
 
-/* Checks what was read. */
+/* Checks what was read, and its seal. */
 static int checked(book *b, const char *path)
 {
     figures f;
     b->size = b->len;
     uint32_t number = book_check(b, &f);
-    if (number == PDIC_DONE) return STATUS_DONE;
-    fprintf(stderr, "%s: refused %" PRIu32 ": %s\n", shown_path(path), number, pdic_strerror(number));
+    if (number == PDIC_DONE && test_seal(path, (bytes){ b->image, b->len }) != SEAL_BROKEN) return STATUS_DONE;
+    fprintf(stderr, "%s: ", shown_path(path));
+    if (number == PDIC_DONE) fprintf(stderr, "refused: not the bytes that were sealed\n");
+    else fprintf(stderr, "refused %" PRIu32 ": %s\n", number, pdic_strerror(number));
     book_free(b);
     return STATUS_REFUSED;
 }
@@ -91,6 +94,11 @@ int book_hold(book *b, const char *path, unsigned seconds)
     if (held != HELD) {
         failed(path, "not changed: ");
         return held == IN_USE ? STATUS_IN_USE : STATUS_REFUSED;
+    }
+    if (is_sealed(path)) {
+        fprintf(stderr, "%s: not changed: it is sealed\n", path);
+        let_go(&b->file);
+        return STATUS_REFUSED;
     }
     if (read_held(&b->file, PDIC_MAX_IMAGE, &b->image, &b->len) == 0) return checked(b, path);
     let_go(&b->file);

@@ -28,10 +28,11 @@ typedef struct {
 
 /* Each gives STATUS_DONE, or says on standard error why not and gives another status. */
 
-/* Reads a file and checks it. */
+/* Reads a file and checks it, with its seal if it has one. */
 int book_load(book *b, const char *path);
 
-/* The same, for a change: the file is held until book_free, waiting as many seconds for another program. */
+/* The same, for a change: the file is held until book_free, waiting as many seconds for another program. A sealed one is
+ * refused. */
 int book_hold(book *b, const char *path, unsigned seconds);
 
 /* An empty dictionary for a file that is not there yet. */

@@ -15,6 +15,7 @@
 #include "lists.h"
 #include "near.h"
 #include "progress.h"
+#include "seal.h"
 
 enum { WAIT = 30, LONGEST_WAIT = 86400 };
 
@@ -25,10 +26,11 @@ typedef struct {
     unsigned wait;
 } options;
 
-/* A command at work: the dictionary, its file as messages show it, the arguments behind that, and the list that they name or are. */
+/* A command at work: the dictionary, its file, the same as messages show it, the arguments behind that, and the list that
+ * they name or are. */
 typedef struct {
     book b;
-    const char *path;
+    const char *file, *path;
     char **args;
     int count, is_new;
     list l;
@@ -245,6 +247,16 @@ static int dump(task *t)
     return print_entries(t, string_bytes(""), string_bytes(""), print_dump_row);
 }
 
+static int seal(task *t)
+{
+    if (t->path != t->file || write_seal(t->file, (bytes){ t->b.image, t->b.len }) != 0) {
+        fprintf(stderr, "%s: not sealed: %s\n", t->path, t->path != t->file ? "it is no file" : file_fault());
+        return STATUS_REFUSED;
+    }
+    printf("%s: sealed\n", t->path);
+    return STATUS_DONE;
+}
+
 /* A command: its name and another word for it, what it takes, how many arguments behind FILE (most: -1 for any number) and
  * what they are, what it does with the file, and its options. */
 enum { READS, CHANGES, MAKES };
@@ -266,6 +278,7 @@ static const command commands[] = {
     { "dump", NULL, "FILE", "print all entries as a table for make and merge", 0, 0, WORDS, READS, 0, dump },
     { "check", NULL, "FILE", "print what the dictionary holds", 0, 0, WORDS, READS, 0, print_figures },
     { "optimise", NULL, "FILE", "give the free blocks up", 0, 0, WORDS, CHANGES, 0, optimise },
+    { "seal", NULL, "FILE", "write its digest to FILE.sha256", 0, 0, WORDS, READS, 0, seal },
 };
 enum { COMMANDS = sizeof commands / sizeof commands[0] };
 
@@ -298,6 +311,8 @@ static void print_help(const command *only)
          "for a byte, such as %09 for a tab and %25 for a percent sign. dump prints such\n"
          "a table. - as LIST, or as the only HEADWORD, is standard input. -- ends the\n"
          "options. find is another word for look.\n\n"
+         "A sealed dictionary, with FILE.sha256 beside it, is read only while its bytes\n"
+         "are those that were sealed, and is not changed. Remove FILE.sha256 to change it.\n\n"
          "Exit status: 0 done, 1 a headword is absent, 2 the file, the list or an\n"
          "argument is refused, 3 another program is changing the file. The file stays as\n"
          "it was unless it is 0.");
@@ -377,22 +392,22 @@ static int read_arguments(const command *c, task *t)
 }
 
 /* Opens the dictionary that is there, for a change or for reading. */
-static int open_book(const command *c, task *t, const char *file)
+static int open_book(const command *c, task *t)
 {
     int is_held = c->use == CHANGES && !t->told.dry_run;
-    return is_held ? book_hold(&t->b, file, t->told.wait) : book_load(&t->b, file);
+    return is_held ? book_hold(&t->b, t->file, t->told.wait) : book_load(&t->b, t->file);
 }
 
 /* Runs a command. A new file's place is looked at first, and a dictionary is held only when its list has been read. */
 static int run(const command *c, task *t)
 {
-    const char *file = *t->args++;
+    t->file = *t->args++;
     t->count--;
-    t->path = shown_path(file);
+    t->path = shown_path(t->file);
     t->is_new = c->use == MAKES;
-    int status = t->is_new ? book_create(&t->b, file) : STATUS_DONE;
+    int status = t->is_new ? book_create(&t->b, t->file) : STATUS_DONE;
     if (status == STATUS_DONE) status = read_arguments(c, t);
-    if (status == STATUS_DONE && !t->is_new) status = open_book(c, t, file);
+    if (status == STATUS_DONE && !t->is_new) status = open_book(c, t);
     if (status == STATUS_DONE) status = c->run(t);
     book_free(&t->b);
     free_list(&t->l);

@@ -1,7 +1,8 @@
 #!/bin/sh
 # The example programs and the demo against what is stored, the commands in the documents, and the stack that the calls take;
-# then the same runs under AddressSanitizer and UndefinedBehaviorSanitizer, and under valgrind; then damaged dictionaries under
-# all of them, and crashes. PDIC_LIB names another folder with a libpdic.a.
+# then the same runs under AddressSanitizer and UndefinedBehaviorSanitizer, and under valgrind; then damaged dictionaries and
+# dictionaries that travel under all of them, crashes, many programs at once, and wrong programs. PDIC_LIB names another folder
+# with a libpdic.a.
 set -eu
 here=$(cd "$(dirname "$0")" && pwd)
 root=$here/../..
@@ -23,6 +24,10 @@ inside() {
 gcc -std=c11 -O2 -Wall -Wextra -Wpedantic -Werror -I"$root/include" -o "$work/stack" "$here/stack.c" \
     "${PDIC_LIB:-$root/target/staticlib}/libpdic.a" -lpthread
 "$work/stack"
+gcc -std=c11 -O2 -Wall -Wextra -Wpedantic -Werror -I"$root/include" -o "$work/flips" "$here/flips.c" \
+    "${PDIC_LIB:-$root/target/staticlib}/libpdic.a"
+"$work/plain/glossary" make "$work/sample.dic" "$root/examples/machinery.tsv" >/dev/null
+echo "sample glossary: $("$work/flips" "$work/sample.dic")"
 "$root/examples/demo.sh" "$work/plain" >"$work/demo.txt"
 cmp "$work/demo.txt" "$here/demo.txt"
 # tell STORY NAME FOLDER [WRAPPER..]: the story as stored
@@ -51,6 +56,11 @@ report 'programs, plain' inside damaged "$here/damaged.sh" 300 "$work/plain"
 report 'programs, sanitized' inside damaged-sanitized "$here/damaged.sh" 100 "$work/sanitized"
 report 'programs, valgrind' inside damaged-valgrind "$here/damaged.sh" 12 "$work/plain" $memory
 report 'programs' inside crash "$here/crash.sh" "$work/plain"
+report 'programs' inside together "$here/together.sh" "$work/plain"
+report 'programs, sanitized' inside together-sanitized "$here/together.sh" "$work/sanitized"
+report 'programs' inside exchange "$here/exchange.py" 1 60 "$work/plain"
+report 'programs, sanitized' inside exchange-sanitized "$here/exchange.py" 2 15 "$work/sanitized"
+report 'programs, valgrind' inside exchange-valgrind "$here/exchange.py" 3 2 "$work/plain" $memory
 report 'programs' "$here/wrong.sh" "$work"
 
 # long work shows its progress on a terminal, and nothing in a pipe

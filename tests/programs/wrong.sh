@@ -67,6 +67,8 @@ in_story files read-only-replaced file.c 's/if ((file->st_mode \& 0222) == 0) re
 in_story files fifo-replaced file.c 's/if (!S_ISREG(old.st_mode)) return write_straight(path, bytes, len);//'
 in_story files living-file-removed file.c 's/if (flock(fd, LOCK_EX | LOCK_NB) == 0) unlink(path);/unlink(path);/'
 in_story files waits-not file.c 's/if (now() >= until) {/if (1) {/'
+in_story files seal-not-tested book.c 's/ \&\& test_seal(.*) != SEAL_BROKEN)/)/'
+in_story files sealed-changed book.c 's/if (is_sealed(path)) {/if (0) {/'
 in_story lists blank-stored lists.c 's/if (blank_at(written, 0) || blank_at(written, 1))/if (0)/'
 in_story lists mark-stored lists.c 's/ == 0 ? 3 : 0;/ == 0 ? 0 : 0;/'
 in_story lists first-fault-alone lists.c 's/MOST_TOLD = 20/MOST_TOLD = 1/'

@@ -2,7 +2,7 @@
 note "help and version, on standard output"
 run glossary --help 2>/dev/null
 run glossary --version 2>/dev/null
-for command in make merge add delete look find list dump check optimise; do
+for command in make merge add delete look find list dump check optimise seal; do
     run glossary $command --help 2>/dev/null >said.txt
     sed -n '1p; 4,/^$/p' said.txt
     run glossary $command --version 2>/dev/null

@@ -44,7 +44,7 @@ cat out.txt
 
 note "FIFOs, a device that never ends, and folders"
 mkfifo pipe
-cat pipe >from-pipe.txt &
+timeout 20 cat pipe >from-pipe.txt &
 run fill kept/real.dic manual.txt pipe
 wait
 cmp from-pipe.txt manual.txt >/dev/null || echo "filled through the pipe"
@@ -81,3 +81,30 @@ names
 wait
 run glossary delete shared.dic horn3
 names
+
+note "a sealed dictionary is read while its bytes are those that were sealed, and is not changed"
+cp kept/real.dic sealed.dic
+ln -s sealed.dic link-to-sealed.dic
+run glossary seal sealed.dic
+cat sealed.dic.sha256
+sha256sum -c sealed.dic.sha256
+run glossary look sealed.dic horn
+run glossary look link-to-sealed.dic horn
+run glossary add sealed.dic horn2 avertisseur
+run glossary delete link-to-sealed.dic horn
+run glossary merge --dry-run sealed.dic machinery.tsv
+run glossary seal sealed.dic
+cp sealed.dic whole.dic
+printf X | dd of=sealed.dic bs=1 seek=531 conv=notrunc 2>said.txt
+cmp sealed.dic whole.dic | sed 's/.*differ/differ/'
+run glossary check sealed.dic
+run glossary look link-to-sealed.dic horn
+run fill sealed.dic manual.txt
+run glossary seal sealed.dic
+cp whole.dic sealed.dic
+printf 'no digest' >sealed.dic.sha256
+run glossary check sealed.dic
+rm sealed.dic.sha256
+run glossary add sealed.dic horn2 avertisseur
+run glossary seal - <sealed.dic
+run glossary seal missing.dic
