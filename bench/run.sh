@@ -8,7 +8,7 @@ seconds=${1:-30}
 work=$(mktemp -d)
 trap 'rm -rf "$work"' EXIT
 lib=${PDIC_LIB:-$here/../target/staticlib}
-[ -n "${PDIC_LIB:-}" ] || (cd "$here/.." && rt staticlib pdic >/dev/null)
+[ -n "${PDIC_LIB:-}" ] || "$here/../tools/engine.sh"
 gcc -shared -o "$work/engine.so" -Wl,--whole-archive "$lib/libpdic.a" -Wl,--no-whole-archive
 baseline="gcc -O3 -march=x86-64-v2 -fPIC -shared -Wall -Wextra -Werror"
 $baseline -DPDIC_PLAIN -o "$work/plain.so" "$here/baseline.c"

@@ -3,7 +3,7 @@
 # second reader's and editor's comparisons. Arguments: seed, number of images for the one and of histories for the other.
 set -eu
 cd "$(dirname "$0")/.."
-rt staticlib pdic
+tools/engine.sh
 tests/programs/run.sh
 tests/list/run.sh
 tests/fuzz/run.sh "${1:-1}"
