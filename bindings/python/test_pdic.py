@@ -1,0 +1,185 @@
+#!/usr/bin/env python3
+"""Tests of pdic.py: examples of the paper (docs/papers/01-scope.md), refusals, walks, and the constants of include/pdic.h."""
+import os
+import re
+import tempfile
+import unittest
+
+import pdic
+
+HEADER = os.path.join(os.path.dirname(os.path.abspath(__file__)), '..', '..', 'include', 'pdic.h')
+
+
+def letters(count):
+    return b't' * count
+
+
+class Case(unittest.TestCase):
+    def refused(self, number, dictionary, call, *arguments):
+        before = bytes(dictionary)
+        with self.assertRaises(pdic.PdicError) as refused:
+            call(*arguments)
+        self.assertEqual(refused.exception.number, number)
+        self.assertEqual(str(refused.exception), f'refused {number}: {refused.exception.meaning}')
+        self.assertEqual(bytes(dictionary), before)
+
+
+class Examples(Case):
+    def setUp(self):
+        self.dictionary = pdic.Dictionary()
+
+    def test_p2_p3(self):
+        self.dictionary.insert(b'ABC', b'one')
+        self.assertEqual(len(bytes(self.dictionary)), 768)
+        self.dictionary.insert(b'ABDEF', b'two')
+        image = bytes(self.dictionary)
+        self.assertEqual(len(image), 768)
+        self.assertEqual(image[512:538], b'\x01\0\x08\0\0ABC\0\x80one\x08\0\x02DEF\0\x80two\0\0')
+        self.assertEqual(self.dictionary.check(), pdic.Counts(2, 1, 1, 0))
+        self.assertEqual(self.dictionary.look_up(b'ABDEF'), pdic.Entry(b'ABDEF', pdic.PLAIN, b'two'))
+
+    def test_p6_p7(self):
+        self.dictionary.insert(b'a', letters(500))
+        self.dictionary.insert(b'b', letters(509))
+        self.assertEqual(len(bytes(self.dictionary)), 1792)
+        self.assertTrue(self.dictionary.delete(b'a'))
+        self.assertEqual(self.dictionary.check().free_blocks, 2)
+        self.dictionary.optimise()
+        self.assertEqual(len(bytes(self.dictionary)), 1280)
+
+    def test_p6_full(self):
+        for most in 1791, 1792:
+            dictionary = pdic.Dictionary(most)
+            dictionary.insert(b'a', letters(500))
+            if most < 1792:
+                self.refused(pdic.FULL, dictionary, dictionary.insert, b'b', letters(509))
+            else:
+                dictionary.insert(b'b', letters(509))
+
+    def test_p10(self):
+        self.dictionary.insert(letters(248), letters(3000))
+        self.refused(pdic.BAD_HEADWORD, self.dictionary, self.dictionary.insert, letters(249), b'')
+        self.refused(pdic.BAD_TEXT, self.dictionary, self.dictionary.insert, b'a', letters(3001))
+
+    def test_arguments(self):
+        d = self.dictionary
+        self.refused(pdic.BAD_HEADWORD, d, d.look_up, b'')
+        self.refused(pdic.BAD_HEADWORD, d, d.look_up, b'a\0b')
+        self.refused(pdic.BAD_HEADWORD, d, d.delete, letters(249))
+        self.refused(pdic.BAD_HEADWORD, d, next, d.walk(letters(249)))
+        self.refused(pdic.BAD_TEXT, d, d.insert, b'a', b'\0')
+        self.refused(pdic.BAD_TEXT, d, d.insert, b'a', b'', 0x00)
+        self.refused(pdic.BAD_TEXT, d, d.insert, b'a', b'', pdic.PLAIN | pdic.PARTS)
+        for attribute in -1, 0x180:
+            self.assertRaises(ValueError, d.insert, b'a', b'', attribute)
+        self.assertRaises(TypeError, d.look_up, 'a')
+        self.assertRaises(TypeError, d.insert, b'a', 'text')
+
+    def test_absent(self):
+        self.assertIsNone(self.dictionary.look_up(b'a'))
+        self.assertFalse(self.dictionary.delete(b'a'))
+        self.assertEqual(list(self.dictionary), [])
+        self.assertEqual(self.dictionary.check(), pdic.Counts(0, 0, 0, 0))
+
+    def test_replaced(self):
+        self.dictionary.insert(b'a', b'one')
+        self.dictionary.insert(b'a', b'', pdic.PLAIN | pdic.LEARN | 3)
+        self.assertEqual(list(self.dictionary), [pdic.Entry(b'a', 0xA3, b'')])
+
+
+class Walks(unittest.TestCase):
+    """A dictionary that grows many times, its headwords in no order."""
+
+    def setUp(self):
+        self.dictionary = pdic.Dictionary()
+        words = [b'%d' % (k * 7919 % 2000) for k in range(2000)] + [b'\x83\x42', b'Z', b'z', b'\xff']
+        for word in words:
+            self.dictionary.insert(word, word + b' text')
+        self.entries = [pdic.Entry(word, pdic.PLAIN, word + b' text') for word in sorted(words)]
+
+    def test_order(self):
+        self.assertEqual(list(self.dictionary), self.entries)
+        self.assertEqual(self.dictionary.check().headwords, len(self.entries))
+
+    def test_start(self):
+        middle = self.entries[1000].headword
+        self.assertEqual(list(self.dictionary.walk(middle)), self.entries[1000:])
+        self.assertEqual(list(self.dictionary.walk(middle, above=True)), self.entries[1001:])
+        self.assertEqual(list(self.dictionary.walk(b'\xff', above=True)), [])
+
+    def test_changed_between_steps(self):
+        for entry in self.dictionary:
+            self.assertTrue(self.dictionary.delete(entry.headword))
+        self.assertEqual(self.dictionary.check().headwords, 0)
+
+    def test_file(self):
+        with tempfile.TemporaryDirectory() as folder:
+            path = os.path.join(folder, 'words.dic')
+            with open(path, 'wb') as file:
+                file.write(bytes(self.dictionary))
+            copy = pdic.Dictionary.open(path)
+            copy.insert(b'new', b'')
+            with open(path, 'rb') as file:
+                self.assertEqual(file.read(), bytes(self.dictionary))
+        self.assertNotEqual(bytes(copy), bytes(self.dictionary))
+        self.assertEqual(len(list(copy)), len(self.entries) + 1)
+
+
+class Images(Case):
+    def setUp(self):
+        dictionary = pdic.Dictionary()
+        dictionary.insert(b'ABC', b'one')
+        self.image = bytes(dictionary)
+
+    def changed(self, at, byte):
+        return self.image[:at] + bytes([byte]) + self.image[at + 1:]
+
+    def test_damaged(self):
+        for image, number in ((b'', pdic.BAD_LENGTH), (self.image[:700], pdic.BAD_LENGTH), (self.changed(141, 5), pdic.BAD_VERSION),
+                              (self.changed(164, 1), pdic.LEFT_OUT), (self.changed(148, 9), pdic.BAD_AREAS),
+                              (self.changed(258, 0), pdic.BAD_INDEX), (self.changed(256, 1), pdic.BAD_PLACE),
+                              (self.changed(521, 0), pdic.BAD_RUN), (self.changed(186, 0), pdic.BAD_BLOCKS),
+                              (self.changed(160, 2), pdic.BAD_COUNTS)):
+            with self.subTest(number=number):
+                self.refused(number, image, pdic.Dictionary.from_bytes, image)
+
+    def test_read_only(self):
+        dictionary = pdic.Dictionary.from_bytes(self.changed(140, 16))
+        self.assertEqual(dictionary.look_up(b'ABC').text, b'one')
+        self.refused(pdic.READ_ONLY, dictionary, dictionary.insert, b'a', b'')
+        self.refused(pdic.READ_ONLY, dictionary, dictionary.delete, b'a')
+        self.refused(pdic.READ_ONLY, dictionary, dictionary.optimise)
+
+
+class Header(unittest.TestCase):
+    def setUp(self):
+        with open(HEADER, encoding='ascii') as file:
+            self.header = re.sub(r'/\*.*?\*/', '', file.read(), flags=re.S)
+
+    def test_constants(self):
+        declared = {name: eval(value) for name, value in re.findall(r'PDIC_(\w+) = ([\w *+()]+)', self.header)}
+        mine = {name: value for name, value in vars(pdic).items() if name.isupper() and isinstance(value, int)}
+        self.assertEqual(mine, declared)
+
+    def test_interface(self):
+        number = {name: int(value) for name, value in re.findall(r'#define PDIC_VERSION_(\w+) (\d+)', self.header)}
+        interface = f'{number["MAJOR"]}' if number['MAJOR'] else f'0.{number["MINOR"]}'
+        self.assertEqual(pdic.SONAME, f'libpdic.so.{interface}')
+
+    def test_calls(self):
+        """The types of each call are those that the header declares."""
+        kinds = {'const uint8_t *': 'c_char_p', 'uint8_t *': 'c_void_p', 'size_t ': 'c_ulong', 'uint8_t ': 'c_ubyte',
+                 'uint64_t *': 'LP_c_ulong', 'size_t *': 'LP_c_ulong', 'uint32_t ': 'c_uint'}
+        calls = re.findall(r'\b(?:uint32_t |const char \*)(pdic_\w+)\(([^)]*)\)', self.header)
+        self.assertTrue(calls)
+        for name, parameters in calls:
+            declared = []
+            for parameter in re.split(r',\s*', parameters):
+                kind, parameter = re.fullmatch(r'(.*?[ *])(\w+)', parameter).groups()
+                special = {'image': 'c_void_p', 'attribute': 'LP_c_ubyte' if '*' in kind else 'c_ubyte'}
+                declared.append(special.get(parameter, kinds[kind]))
+            self.assertEqual([each.__name__ for each in getattr(pdic._library, name).argtypes], declared, name)
+
+
+if __name__ == '__main__':
+    unittest.main()
