@@ -302,7 +302,8 @@ static void print_command(FILE *out, const command *c)
 /* Prints how the program, or one command of it, is used. */
 static void print_help(const command *only)
 {
-    puts("usage: glossary COMMAND [OPTION..] FILE [ARGUMENT..]\n");
+    puts("usage: glossary COMMAND [OPTION..] FILE [ARGUMENT..]\n"
+         "       glossary [COMMAND] --help | --version\n");
     for (size_t i = 0; i < COMMANDS; i++)
         if (!only || only == &commands[i]) print_command(stdout, &commands[i]);
     puts("\n"

@@ -47,12 +47,11 @@ def same_spaces(text):
 
 
 def test_program(path, program):
-    """Options, and commands where the page has such a section. False where the program has no --help."""
+    """Options, and commands where the page has such a section."""
     page = read(path)
     run = subprocess.run([program, '--help'], capture_output=True, text=True)
     if run.returncode != 0:
-        print(f'man: {os.path.basename(program)} has no --help yet', file=sys.stderr)
-        return False
+        fail(path, '--help fails')
     option = re.compile(r'(?<![\w-])--?[a-z][a-z-]*')
     compare(path, 'options', set(option.findall(plain(page))), set(option.findall(run.stdout)))
     commands = section(page, 'COMMANDS')
@@ -60,7 +59,6 @@ def test_program(path, program):
     shown = set(re.findall(r'^(?:usage:)?\s*(?:\w+ )?([a-z]+) (?=\[?(?:--|[A-Z]{2}))', run.stdout, re.M)) - {os.path.basename(program)}
     if not tags <= set(re.findall(r'\w+', run.stdout)) or not shown <= set(re.findall(r'\w+', plain(commands))):
         fail(path, f'commands {sorted(tags)}, and {sorted(shown)} in --help')
-    return True
 
 
 def test_calls(path, header_path):
@@ -89,7 +87,8 @@ void example(const uint8_t *image, size_t size, size_t len) {{
 
 def main():
     man, programs, header = sys.argv[1:]
-    agreeing = sum(test_program(f'{man}/man1/{name}.1', f'{programs}/{name}') for name in ('fill', 'glossary'))
+    for name in 'fill', 'glossary':
+        test_program(f'{man}/man1/{name}.1', f'{programs}/{name}')
     test_calls(f'{man}/man3/pdic.3', header)
     pages = glob.glob(f'{man}/man?/*')
     rendered = pages if shutil.which('groff') else []
@@ -97,7 +96,7 @@ def main():
         warnings = subprocess.run(['groff', '-t', '-man', '-Tutf8', '-ww', '-z', path], capture_output=True, text=True).stderr
         if warnings:
             fail(path, warnings)
-    print(f'{len(pages)} man pages ({len(rendered)} rendered, {agreeing} as --help)')
+    print(f'{len(pages)} man pages ({len(rendered)} rendered)')
 
 
 main()

@@ -4,7 +4,7 @@ run glossary --help 2>/dev/null
 run glossary --version 2>/dev/null
 for command in make merge add delete look find list dump check optimise seal; do
     run glossary $command --help 2>/dev/null >said.txt
-    sed -n '1p; 4,/^$/p' said.txt
+    sed -n '1p; 5,/^$/p' said.txt
     run glossary $command --version 2>/dev/null
 done
 
