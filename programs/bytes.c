@@ -70,7 +70,8 @@ void print_exact(FILE *out, bytes b)
     for (size_t i = 0; i < b.len; i++) {
         uint8_t byte = b.at[i];
         int is_odd_blank = byte == ' ' && (i == 0 || i + 1 == b.len || b.at[i - 1] == ' ');
-        if (is_control(byte) || byte > 127 || byte == '%' || is_odd_blank) fprintf(out, "%%%02X", (unsigned)byte);
+        int is_sign = byte == '%' || byte == '<' || byte == '>';
+        if (is_control(byte) || byte > 127 || is_sign || is_odd_blank) fprintf(out, "%%%02X", (unsigned)byte);
         else putc(byte, out);
     }
     putc('"', out);

@@ -30,8 +30,9 @@ int is_control(uint8_t byte);
 /* Prints bytes in double quotes, control bytes as %XX. */
 void print_quoted(FILE *out, bytes b);
 
-/* Prints bytes in double quotes so that none is mistaken for another: as %XX a percent sign, a blank that is the first,
- * the last or behind a blank, and all that is no plain letter, digit or sign. */
+/* Prints bytes in double quotes so that none is mistaken for another: as %XX a percent sign, a < or >, a blank that is the
+ * first, the last or behind a blank, and all that is no plain letter, digit or sign. What stands between the quotes can be
+ * copied into a mark of a manual. */
 void print_exact(FILE *out, bytes b);
 
 #endif

@@ -280,6 +280,12 @@ int replace_file(const char *path, const uint8_t *bytes, size_t len)
     return failed ? -1 : 0;
 }
 
+int is_same_file(const char *path, const char *other)
+{
+    struct stat a, b;
+    return stat(path, &a) == 0 && stat(other, &b) == 0 && a.st_dev == b.st_dev && a.st_ino == b.st_ino && S_ISREG(a.st_mode);
+}
+
 static int64_t now(void)
 {
     struct timespec t;

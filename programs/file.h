@@ -21,6 +21,9 @@ const char *shown_path(const char *path);
  * as it was. */
 int replace_file(const char *path, const uint8_t *bytes, size_t len);
 
+/* Do two paths lead to one regular file? */
+int is_same_file(const char *path, const char *other);
+
 /* Writes to standard output, all of it. Gives 0 or -1. */
 int write_out(const uint8_t *bytes, size_t len);
 

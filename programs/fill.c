@@ -1,15 +1,13 @@
 /* fill.c - puts a dictionary's texts into a manual.
  *
- *   fill DICTIONARY MANUAL [OUTPUT]
+ *   fill [OPTION].. DICTIONARY MANUAL [OUTPUT]
  *
- * A term is marked in the manual as <<headword>>, on one line; both marks are made of bytes that are never part of a
- * longer character in UTF-8 or Shift JIS. Each mark is replaced by its entry's text, every other byte is kept. Without
- * OUTPUT the filled manual goes to standard output.
+ * A term is marked in the manual as <<headword>>; marks.h says how that is read, and there is one way only. Each mark is
+ * replaced by its entry's text, every other byte is kept, and the texts put in are not searched for marks again.
  *
- * The dictionary is checked when it is loaded; a bad one is refused with the engine's number and its meaning. If a term
- * is absent nothing is written, and standard error gets each absent headword with those near it.
- *
- * Exit status: 0 filled, 1 terms are absent, 2 the dictionary, the manual or an argument is refused.
+ * The dictionary is checked when it is loaded; a bad one is refused with the engine's number and its meaning. Where anything
+ * is refused or absent nothing is written: standard error gets the faults of the manual, or each headword that has no text,
+ * an absent one with those near it. Options and exit status are in the help below.
  */
 #include <errno.h>
 #include <stdio.h>
@@ -17,142 +15,112 @@
 #include <string.h>
 #include "book.h"
 #include "file.h"
-#include "near.h"
-#include "progress.h"
+#include "marks.h"
+#include "terms.h"
 
-enum { LONGEST_MANUAL = 1 << 30 };
+enum { LONGEST_MANUAL = 1 << 30, MOST_ARGUMENTS = 3 };
 
-/* A mark in the manual: where it stands, its headword, and what was found for it. */
+static const char usage[] = "usage: fill [OPTION].. DICTIONARY MANUAL [OUTPUT]\n";
+static const char help[] =
+    "\n"
+    "Puts a dictionary's texts where a manual marks its terms. MANUAL - is standard\n"
+    "input; OUTPUT - or no OUTPUT is standard output, and OUTPUT is neither of the\n"
+    "others. Where a term is absent, or anything is refused, nothing is written.\n"
+    "\n"
+    "Marks, each on one line:\n"
+    "  <<headword>>           is replaced by the text of that headword's entry\n"
+    "  <<%open>>, <<%close>>  write << and >> themselves\n"
+    "  <<%lt>>, <<%gt>>       write a single < or >, beside a mark for instance\n"
+    "In a headword %XX, a percent sign and two hexadecimal digits, stands for that\n"
+    "byte: %25 for a percent sign, %3C for <, %3E for >, %0A for a line feed. A\n"
+    "single < or > stands for itself. Three or more together, >> outside a mark,\n"
+    "<< in a mark, a mark with nothing in it, one that its line does not close and\n"
+    "any other percent sign are refused.\n"
+    "\n"
+    "Options, before or between the arguments:\n"
+    "  -q, --quiet   do not say what was filled\n"
+    "  --unmarked    take a manual in which nothing is marked\n"
+    "  --binary      take a manual that has zero bytes or begins as UTF-16\n"
+    "  --help        print this\n"
+    "  --version     print the version\n"
+    "  --            what follows is no option\n"
+    "\n"
+    "Exit status: 0 filled, 1 terms are absent, 2 the dictionary, the manual or an\n"
+    "argument is refused.\n";
+
 typedef struct {
-    const uint8_t *start, *end;
-    bytes headword;
-    size_t line;
-    uint32_t number;          /* the look up's answer */
-    int is_repeated;          /* an earlier mark has the same headword */
-    size_t text_at, text_len; /* the text's place among the manual's texts */
-} mark;
+    int is_quiet, takes_unmarked, takes_binary;
+    const char *arguments[MOST_ARGUMENTS];
+    int count; /* of arguments */
+} options;
 
 typedef struct {
-    const char *path;
-    uint8_t *content, *texts;
-    size_t len, texts_len, texts_size;
-    mark *marks;
-    size_t count;
+    const char *name;
+    uint8_t *content;
+    size_t len;
+    mark_list marks;
+    term_list terms;
 } manual;
 
-/* The next place before `end` where the byte stands twice, or NULL. */
-static const uint8_t *find_pair(const uint8_t *at, const uint8_t *end, int byte)
+/* Reads the manual. Gives 0, or says why not and gives -1. */
+static int read_manual(manual *m, const char *path)
 {
-    while (end - at >= 2 && (at = memchr(at, byte, (size_t)(end - at - 1)))) {
-        if (at[1] == byte) return at;
-        at++;
+    m->name = shown_path(path);
+    int failed = read_file(path, LONGEST_MANUAL, &m->content, &m->len);
+    if (failed) fprintf(stderr, "%s: %s\n", m->name, file_fault());
+    return failed;
+}
+
+/* Does the manual begin with the byte order mark of UTF-16, in either order? */
+static int is_utf16(const manual *m)
+{
+    const uint8_t *at = m->content;
+    return m->len >= 2 && ((at[0] == 0xFF && at[1] == 0xFE) || (at[0] == 0xFE && at[1] == 0xFF));
+}
+
+/* Where a byte of the manual stands. */
+static place place_of(const manual *m, const uint8_t *byte)
+{
+    place p = { 1, 1 };
+    for (const uint8_t *at = m->content; at < byte; at++) {
+        p.column++;
+        if (*at == '\n') p = (place){ p.line + 1, 1 };
     }
-    return NULL;
+    return p;
 }
 
-static size_t lines_between(const uint8_t *from, const uint8_t *to)
+/* Says what shows that the manual is no text of bytes, and gives -1; else gives 0. */
+static int refuse_binary(const manual *m)
 {
-    size_t lines = 0;
-    while (from < to && (from = memchr(from, '\n', (size_t)(to - from)))) {
-        lines++;
-        from++;
-    }
-    return lines;
+    const uint8_t *evidence = is_utf16(m) ? m->content : memchr(m->content, 0, m->len);
+    if (!evidence) return 0;
+    print_place(stderr, m->name, place_of(m, evidence));
+    fputs(is_utf16(m) ? "begins as UTF-16 does" : "a zero byte, as UTF-16 has them", stderr);
+    fputs("; --binary takes the manual as it is\n", stderr);
+    return -1;
 }
 
-/* Finds the marks. Gives 0, or says which is not closed on its line and gives -1. */
-static int find_marks(manual *m)
+/* Finds the marks. Gives 0, or says what is wrong with the manual and gives -1. */
+static int find_marks(manual *m, const options *o)
 {
-    const uint8_t *at = m->content, *end = at + m->len, *open;
-    size_t line = 1, size = 0;
-    while ((open = find_pair(at, end, '<'))) {
-        line += lines_between(at, open);
-        const uint8_t *line_end = memchr(open, '\n', (size_t)(end - open));
-        const uint8_t *close = find_pair(open + 2, line_end ? line_end : end, '>');
-        if (!close) {
-            fprintf(stderr, "%s:%zu: a mark << without its >>\n", m->path, line);
-            return -1;
-        }
-        if (m->count == size) m->marks = take_memory(m->marks, (size = 2 * size + 64) * sizeof *m->marks);
-        m->marks[m->count++] = (mark){ .start = open, .end = close + 2, .line = line,
-                                       .headword = { open + 2, (size_t)(close - open - 2) } };
-        at = close + 2;
-    }
-    return 0;
-}
-
-/* By headword, and marks of one headword as they stand in the manual. */
-static int compare_marks(const void *a, const void *b)
-{
-    const mark *x = *(mark *const *)a, *y = *(mark *const *)b;
-    int order = compare_bytes(x->headword, y->headword);
-    return order != 0 ? order : (x > y) - (x < y);
-}
-
-static void keep_text(manual *m, mark *k, const entry *found)
-{
-    if (m->texts_size - m->texts_len < PDIC_MAX_TEXT)
-        m->texts = take_memory(m->texts, m->texts_size = 2 * m->texts_size + PDIC_MAX_TEXT);
-    k->text_at = m->texts_len;
-    k->text_len = found->text_len;
-    append(m->texts + m->texts_len, text_of(found));
-    m->texts_len += found->text_len;
-}
-
-/* Looks each headword up once. */
-static void look_up_all(const book *b, manual *m)
-{
-    mark **sorted = take_memory(NULL, m->count * sizeof *sorted);
-    for (size_t i = 0; i < m->count; i++) sorted[i] = &m->marks[i];
-    qsort(sorted, m->count, sizeof *sorted, compare_marks);
-    for (size_t i = 0; i < m->count; i++) {
-        mark *k = sorted[i], *before = i > 0 ? sorted[i - 1] : NULL;
-        progress("terms looked up", i, m->count);
-        if (before && compare_bytes(before->headword, k->headword) == 0) {
-            k->number = before->number;
-            k->text_at = before->text_at;
-            k->text_len = before->text_len;
-            k->is_repeated = 1;
-        } else {
-            entry found;
-            k->number = book_look_up(b, k->headword, &found);
-            if (k->number == PDIC_DONE) keep_text(m, k, &found);
-        }
-    }
-    progress_end();
-    free(sorted);
-}
-
-/* Says of each headword for which there is no text why not. Gives the program's status. */
-static int report(const book *b, const manual *m)
-{
-    int status = 0;
-    for (size_t i = 0; i < m->count; i++) {
-        const mark *k = &m->marks[i];
-        if (k->number == PDIC_DONE || k->is_repeated) continue;
-        fprintf(stderr, "%s:%zu: ", m->path, k->line);
-        if (k->number == PDIC_ABSENT) {
-            print_absent(stderr, b, k->headword);
-            if (status == 0) status = 1;
-        } else {
-            print_refused(stderr, k->headword, k->number);
-            status = 2;
-        }
-    }
-    return status;
+    if (!o->takes_binary && refuse_binary(m) != 0) return -1;
+    if (read_marks(m->name, m->content, m->len, &m->marks) > 0) return -1;
+    if (m->marks.count > 0 || o->takes_unmarked) return 0;
+    fprintf(stderr, "%s: nothing is marked; --unmarked takes the manual as it is\n", m->name);
+    return -1;
 }
 
 /* The manual with its marks replaced; the caller frees it. */
 static uint8_t *filled(const manual *m, size_t *len)
 {
     size_t size = m->len;
-    for (size_t i = 0; i < m->count; i++) size += m->marks[i].text_len;
+    for (size_t i = 0; i < m->marks.count; i++) size += text_of_mark(&m->marks.all[i], &m->terms).len;
     uint8_t *out = take_memory(NULL, size), *to = out;
     const uint8_t *from = m->content;
-    for (size_t i = 0; i < m->count; i++) {
-        const mark *k = &m->marks[i];
+    for (size_t i = 0; i < m->marks.count; i++) {
+        const mark *k = &m->marks.all[i];
         to = append(to, (bytes){ from, (size_t)(k->start - from) });
-        to = append(to, (bytes){ m->texts + k->text_at, k->text_len });
+        to = append(to, text_of_mark(k, &m->terms));
         from = k->end;
     }
     to = append(to, (bytes){ from, (size_t)(m->content + m->len - from) });
@@ -160,40 +128,107 @@ static uint8_t *filled(const manual *m, size_t *len)
     return out;
 }
 
-/* Writes the filled manual. Gives the program's status. */
-static int write_filled(const manual *m, const char *path)
+/* Says what was filled; literal signs are no terms. */
+static void print_summary(const manual *m, size_t written)
+{
+    size_t signs = 0;
+    for (size_t i = 0; i < m->marks.count; i++) signs += m->marks.all[i].sign != NULL;
+    fprintf(stderr, "%s: ", m->name);
+    print_count(stderr, m->marks.count - signs, "mark");
+    fputs(" filled, ", stderr);
+    print_count(stderr, m->terms.count, "different term");
+    fputs(", ", stderr);
+    if (signs > 0) {
+        print_count(stderr, signs, "literal sign");
+        fputs(", ", stderr);
+    }
+    print_count(stderr, written, "byte");
+    fputs(" written\n", stderr);
+}
+
+/* Writes the filled manual; no path, or "-", is standard output. Gives the program's status. */
+static int write_filled(const manual *m, const char *path, int is_quiet)
 {
     size_t len;
     uint8_t *out = filled(m, &len);
-    int failed = path ? replace_file(path, out, len) : write_out(out, len);
-    if (failed) fprintf(stderr, "%s: not written: %s\n", path ? path : "standard output", file_fault());
+    int is_file = path && strcmp(path, "-") != 0;
+    int failed = is_file ? replace_file(path, out, len) : write_out(out, len);
+    if (failed) fprintf(stderr, "%s: not written: %s\n", is_file ? path : "standard output", file_fault());
+    else if (!is_quiet) print_summary(m, len);
     free(out);
-    return failed ? 2 : 0;
+    return failed ? STATUS_REFUSED : STATUS_DONE;
 }
 
-static int fill(const book *b, manual *m, const char *output)
+/* Refuses an output that is the dictionary or the manual: it would be lost. Gives 0 or -1. */
+static int test_output(const options *o)
 {
-    if (find_marks(m) != 0) return 2;
-    look_up_all(b, m);
-    int status = report(b, m);
-    return status == 0 ? write_filled(m, output) : status;
+    for (int i = 0; i < 2; i++) {
+        if (!o->arguments[2] || !is_same_file(o->arguments[i], o->arguments[2])) continue;
+        fprintf(stderr, "%s: not written: it is the %s\n", o->arguments[2], i == 0 ? "dictionary" : "manual");
+        return -1;
+    }
+    return 0;
+}
+
+static int fill(const book *b, manual *m, const options *o)
+{
+    if (test_output(o) != 0 || read_manual(m, o->arguments[1]) != 0 || find_marks(m, o) != 0) return STATUS_REFUSED;
+    look_up_terms(b, &m->marks, &m->terms);
+    int status = report_terms(m->name, b, &m->marks, &m->terms);
+    return status == STATUS_DONE ? write_filled(m, o->arguments[2], o->is_quiet) : status;
+}
+
+/* Prints to standard output. Gives the program's status. */
+static int print_out(const char *first, const char *second)
+{
+    if (fputs(first, stdout) != EOF && fputs(second, stdout) != EOF && fflush(stdout) == 0) return STATUS_DONE;
+    fprintf(stderr, "standard output: %s\n", strerror(errno));
+    return STATUS_REFUSED;
+}
+
+/* Takes one option. Gives -1, or the program's status where the program ends with it. */
+static int take_option(options *o, const char *option)
+{
+    if (strcmp(option, "--help") == 0) return print_out(usage, help);
+    if (strcmp(option, "--version") == 0) return print_out("fill " PDIC_VERSION "\n", "");
+    if (strcmp(option, "-q") == 0 || strcmp(option, "--quiet") == 0) o->is_quiet = 1;
+    else if (strcmp(option, "--unmarked") == 0) o->takes_unmarked = 1;
+    else if (strcmp(option, "--binary") == 0) o->takes_binary = 1;
+    else {
+        fprintf(stderr, "fill: no such option: %s; fill --help says which there are\n", option);
+        return STATUS_REFUSED;
+    }
+    return -1;
+}
+
+/* Reads options and arguments. Gives -1, or the program's status where the program ends with them. */
+static int read_arguments(options *o, int argc, char **argv)
+{
+    int status = -1, is_option = 1;
+    for (int i = 1; i < argc && status < 0; i++) {
+        if (is_option && strcmp(argv[i], "--") == 0) is_option = 0;
+        else if (is_option && argv[i][0] == '-' && argv[i][1]) status = take_option(o, argv[i]);
+        else if (o->count++ < MOST_ARGUMENTS) o->arguments[o->count - 1] = argv[i];
+    }
+    if (status < 0 && (o->count < 2 || o->count > MOST_ARGUMENTS)) {
+        fprintf(stderr, "%sfill --help says more\n", usage);
+        status = STATUS_REFUSED;
+    }
+    return status;
 }
 
 int main(int argc, char **argv)
 {
-    if (argc != 3 && argc != 4) {
-        fprintf(stderr, "usage: fill DICTIONARY MANUAL [OUTPUT]\n");
-        return 2;
-    }
+    options o = { 0 };
+    int status = read_arguments(&o, argc, argv);
+    if (status >= 0) return status;
     book b;
-    manual m = { .path = argv[2] };
-    if (book_load(&b, argv[1]) != 0) return 2;
-    int status = 2;
-    if (read_file(m.path, LONGEST_MANUAL, &m.content, &m.len) != 0) fprintf(stderr, "%s: %s\n", m.path, file_fault());
-    else status = fill(&b, &m, argv[3]);
+    manual m = { 0 };
+    if (book_load(&b, o.arguments[0]) != STATUS_DONE) return STATUS_REFUSED;
+    status = fill(&b, &m, &o);
     free(m.content);
-    free(m.texts);
-    free(m.marks);
+    free(m.marks.all);
+    free_terms(&m.terms);
     book_free(&b);
     return status;
 }

@@ -1,8 +1,8 @@
 #!/bin/sh
 # The example programs and the demo against what is stored, the commands in the documents, and the stack that the calls take;
 # then the same runs under AddressSanitizer and UndefinedBehaviorSanitizer, and under valgrind; then damaged dictionaries and
-# dictionaries that travel under all of them, crashes, many programs at once, and wrong programs. PDIC_LIB names another folder
-# with a libpdic.a.
+# dictionaries that travel under all of them, crashes, many programs at once, random manuals, look-alikes, the time that long
+# manuals take, and wrong programs. PDIC_LIB names another folder with a libpdic.a.
 set -eu
 here=$(cd "$(dirname "$0")" && pwd)
 root=$here/../..
@@ -61,6 +61,12 @@ report 'programs, sanitized' inside together-sanitized "$here/together.sh" "$wor
 report 'programs' inside exchange "$here/exchange.py" 1 60 "$work/plain"
 report 'programs, sanitized' inside exchange-sanitized "$here/exchange.py" 2 15 "$work/sanitized"
 report 'programs, valgrind' inside exchange-valgrind "$here/exchange.py" 3 2 "$work/plain" $memory
+report 'programs' inside marks "$here/marks.py" 1 2000 "$work/plain"
+report 'programs, sanitized' inside marks-sanitized "$here/marks.py" 2 300 "$work/sanitized"
+gcc -std=c11 -O2 -Wall -Wextra -Wpedantic -Werror -I"$root/include" -I"$root/programs" -o "$work/alike" "$here/alike.c" \
+    "$root/programs/alike.c" "$root/programs/bytes.c"
+report 'programs' "$work/alike" 1 5000
+report 'programs' inside growth "$here/growth.sh" "$work/plain"
 report 'programs' "$here/wrong.sh" "$work"
 
 # long work shows its progress on a terminal, and nothing in a pipe

@@ -45,16 +45,32 @@ in_test() {
 }
 sanitized='-fsanitize=address,undefined -fno-sanitize-recover=all'
 
-in_story fill output-with-absent fill.c 's/return status == 0 ? write_filled(m, output) : status;/write_filled(m, output); return status;/'
-in_story fill text-of-neighbour fill.c 's/compare_bytes(before->headword, k->headword) == 0/compare_bytes(before->headword, k->headword) <= 0/'
-in_story fill absent-not-counted fill.c 's/if (status == 0) status = 1;//'
+in_story fill output-with-absent fill.c 's/return status == STATUS_DONE ? \(write_filled.*)\) : status;/\1; return status;/'
+in_story fill text-of-neighbour terms.c 's/compare_bytes(sorted\[i - 1\]->headword, sorted\[i\]->headword) != 0/sorted[i - 1]->headword.len > 200/'
+in_story fill absent-not-counted terms.c 's/else if (status == STATUS_DONE) status = STATUS_ABSENT;//'
 in_story refusals refusal-ignored book.c 's/if (number == PDIC_DONE) return STATUS_DONE;/return STATUS_DONE;/'
 in_story glossary never-grows book.c 's/if (b->size >= PDIC_MAX_IMAGE) return 0;/if (b->size) return 0;/'
 in_story glossary write-error-ignored glossary.c 's/if (fflush(stdout) == 0 .*return status;/return status;/'
 in_story lists twice-accepted lists.c 's/if (y->headword.len == 0 || .*continue;/continue;/'
 in_story glossary filed-one-short near.c 's/filed\[PDIC_MAX_HEADWORD + 1\]/filed[PDIC_MAX_HEADWORD]/' $sanitized
 in_story fill filled-leaks fill.c 's/^    free(out);$//' $sanitized
-in_story fill text-after-end fill.c 's/m->texts_len += found->text_len;/m->texts_len += found->text_len + 4000;/' $sanitized
+in_story fill text-after-end terms.c 's/terms->texts_len += found->text_len;/terms->texts_len += found->text_len + 4000;/' $sanitized
+in_story fill three-close marks.c 's/} else if (run == 2) keep_mark/} else if (run >= 2) keep_mark/'
+in_story fill three-open marks.c "s/if (\*r->at == '<' && run == 2) {/if (*r->at == '<' \&\& run >= 2) {/"
+in_story fill stray-close-kept marks.c 's/else if (run >= 2) fault(r, r->at, ">> closes no mark.*/else if (run >= 99) fault(r, r->at, "");/'
+in_story fill mark-in-mark marks.c "s/if (byte == '<') {/if (byte == '<' \&\& run > 2) {/"
+in_story fill escapes-kept bytes.c "s/if (byte == '%') {/if (byte == 0) {/"
+in_story fill output-over-manual fill.c 's/if (test_output(o) != 0 || /if (/'
+in_story fill sign-as-term fill.c 's/print_count(stderr, m->marks.count - signs, "mark")/print_count(stderr, m->marks.count, "mark")/'
+in_story fill faults-written fill.c 's/&m->marks) > 0) return -1;/\&m->marks) > 99) return -1;/'
+in_story fill told-without-end marks.c 's/if (r->faults++ >= MOST_TOLD) return;/r->faults++;/'
+in_story fill utf-16-taken fill.c 's/is_utf16(m) ? m->content : memchr/is_utf16(m) ? NULL : memchr/'
+in_story fill zero-byte-taken fill.c 's/is_utf16(m) ? m->content : memchr(m->content, 0, m->len)/is_utf16(m) ? m->content : NULL/'
+in_story fill unmarked-taken fill.c 's/m->marks.count > 0 || o->takes_unmarked/m->marks.count > 0 || !o->takes_unmarked/'
+in_story fill summary-with-quiet fill.c 's/else if (!is_quiet) print_summary/else if (is_quiet >= 0) print_summary/'
+in_story fill blanks-not-folded alike.c 's/if (!is_blank || !is_after_blank) end = /if (!is_blank || is_after_blank < 2) end = /'
+in_story fill pairs-in-half alike.c 's/return is_pair && b.len >= 2 .*/return is_pair \&\& b.len > 999 ? 2 : 1;/'
+in_test growth.sh search-restarts marks.c "s/^    uint8_t \*open = r->at;$/    uint8_t *open = r->at; if (memchr(open, 0, (size_t)(r->end - open))) return;/"
 in_test crash.sh written-in-place file.c 's/int fd = open_beside(path, &beside);/beside = copy_of(path, strlen(path)); int fd = open(path, O_WRONLY | O_TRUNC | O_CREAT, 0666);/;s/|| rename_beside(beside, path, is_new) != 0//;s/unlink(beside);/;/'
 in_test crash.sh unfinished-kept file.c 's/^    remove_stale(path);$//'
 in_test together.sh not-locked file.c 's/while (flock(fd, LOCK_EX | LOCK_NB) != 0)/while (0)/'
