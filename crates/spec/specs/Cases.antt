@@ -1,7 +1,7 @@
 -- Cases of our own beside document 01's examples: rows with literal answers and literal bytes for every call and every refusal.
 use Prim.Native.Nat.{ℕ}
 use mathlib.Core.Bool.{Bool, true, false, _&&_}
-use mathlib.Core.List.{List, [], _∷_, _++_}
+use mathlib.Core.List.{List, [], _∷_, _++_, map}
 use lib.ListN.{length, take, replicate}
 use lib.Dec.{T, eqb}
 use Rattle.spec.specs.declared.LengthAnswer.{LengthAnswer}
@@ -13,7 +13,9 @@ use Rattle.spec.specs.Ascii.{ascii}
 use Rattle.spec.specs.Lists.{all}
 use Rattle.spec.specs.Bytes.{bytes-at, bytes-equal, zeros}
 use Rattle.spec.specs.Header.{format4}
+use Rattle.spec.specs.Run.{Run}
 use Rattle.spec.specs.Check.{image-in}
+use Rattle.spec.specs.Place.{Grown, grown}
 use Rattle.spec.specs.Calls.{create, check, look-up, walk}
 use Rattle.spec.specs.Answers.{length-answer, check-answer, look-up-answer, walk-answer, delete-answer, code, code-or-absent, lent-number, lent-number-or-absent, open-answers}
 use Rattle.spec.specs.Listing.{listing, column}
@@ -133,6 +135,14 @@ long-run =
 -- runs of 3 blocks, of which two are deleted: three free extents of 3 blocks once the last run is freed
 unfoldable pub equal-extents : List Step
 equal-extents = ins (ascii "a") (t 600) ∷ ins (ascii "b") (t 600) ∷ ins (ascii "c") (t 600) ∷ ins (ascii "d") (t 600) ∷ ins (ascii "e") (t 600) ∷ del (ascii "a") ∷ del (ascii "c") ∷ ins (ascii "e") (t 600) ∷ []
+
+-- a run of one block
+unfoldable pub one-block : ℕ → Run
+one-block b = record { headword = []; block = b; size = 1; bytes = []; entries = [] }
+
+-- the blocks of the runs before and after the run concerned under a longer index, and D
+unfoldable pub told-grown : Grown → List ℕ
+told-grown m = map (λ r. r .block) (m .before ++ m .after) ++ m .data-blocks ∷ []
 
 -- another program's bytes in all header bytes that no refusal names
 unfoldable pub strange-header : List Step
@@ -413,6 +423,8 @@ cases =
     ∷ after 1_792 long-run (lays-out (1_792 ∷ []) 1 (0 ∷ 2 ∷ []) [] ∷ [])
     -- a growth by one: the run at block 0 is moved, the one at block 1 stays
     ∷ after 3_328 (ins (ascii "c") (t 100) ∷ ins (ascii "b") (t 1_000) ∷ ins (t 248) [] ∷ ins (replicate 248 98) [] ∷ []) (lays-out (3_328 ∷ []) 3 (0 ∷ 3 ∷ 7 ∷ 2 ∷ []) [] ∷ [])
+    -- "If it must grow by g and D is below g, D becomes g.": g is 3 and D 2, so the run at 0 goes to 3, that at 1 to 4, and D to 5; then all fall by 3
+    ∷ gives (told-grown (grown 3 2 (one-block 1 ∷ []) (one-block 0 ∷ []))) (1 ∷ 0 ∷ 2 ∷ [])
     -- the lowest of three free extents of one length
     ∷ after 4_352 equal-extents (lays-out (4_352 ∷ []) 1 (3 ∷ 9 ∷ 0 ∷ []) (6 ∷ 7 ∷ 8 ∷ 12 ∷ 13 ∷ 14 ∷ []) ∷ [])
     -- a growth by two with two moved runs: the runs, empty_block2 to nblock2, the last bytes of a moved run, and a link of the free list
@@ -425,5 +437,5 @@ CasesHold = T (all case-holds cases)
 
 -- names all definitions of this module: who unfolds it unfolds them
 unfoldable pub open-cases : Unit {0}
-unfolding open-answers probe-holds case-holds strange-header strange-bytes strange-entry two-entries two-free xq xr two-moved long-run equal-extents check-probes run-probes long-headword-probes long-text-probes look-up-probes walk-probes refusal-probes bytes-probes deleted-probes free-probes cases CasesHold
+unfolding open-answers probe-holds case-holds strange-header strange-bytes strange-entry two-entries two-free xq xr two-moved long-run equal-extents one-block told-grown check-probes run-probes long-headword-probes long-text-probes look-up-probes walk-probes refusal-probes bytes-probes deleted-probes free-probes cases CasesHold
 open-cases = tt
