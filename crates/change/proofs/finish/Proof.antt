@@ -1,6 +1,7 @@
 -- `finish` meets its contract.
-use mathlib.Core.Path.{refl, sym}
+use mathlib.Core.Path.{_≡_, refl, sym}
 use native.Mathlib.Omega.{arith}
+use lib.ListN.{take}
 use lib.Seq.{length-take-le}
 use Rattle.parts.proofs.PartLaws.{copied-front}
 use Rattle.change.proofs.Laws.{run-few}
@@ -8,6 +9,18 @@ use Rattle.change.proofs.FinishLaws.{marks-long, end-behind, finish-blo
 use borrow.Author.Needs.{needs}
 use Rattle.change.proofs.finish.Statement.{statement}
 use Rattle.change.proofs.finish.Tie as tie
+
+-- the start, from where the slice is known to be long enough
+abbrev begun : tie.Else2 → tie.Start
+begun c = c .before .before .before .before .before .before .before .before .before .before .before .before .before
+
+-- what stands before the copy
+abbrev roomy : tie.After-copy → tie.Else2
+roomy c = c .before .before .before
+
+-- the working slice then begins with the image
+copied : (c : tie.After-copy) → take (begun (roomy c) .args .len) (c .copy .last .0) ≡ take (begun (roomy c) .args .len) (begun (roomy c) .args .image .now)
+copied c = let b = begun (roomy c) in copied-front (b .args .image .now) (b .args .work .now) (c .copy .last .0) (b .args .len) (c .copy .ensures .0) (b .pre .1 .0)
 
 slice-reshare-prefix-plan-end : tie.Need-slice-reshare-prefix-plan-end
 slice-reshare-prefix-plan-end c = search needs
@@ -60,17 +73,23 @@ slice-reshare-prefix-write-change : tie.Need-slice-reshare-prefix-write-change
 slice-reshare-prefix-write-change c = search needs
 
 slice-aggregate-write-change : tie.Need-slice-aggregate-write-change
-slice-aggregate-write-change c = sym (length-take-le _ _ (omega (arith, c .before .before .before .before .copy .ensures .1, c .before .before .before .before .before .before .before .before .before .before .before .before .before .before .before .before .before .before .before .before .pre .1 .0, c .before .before .before .before .before .before .before .before .before .before .before .before .before .before .before .before .before .before .before .before .pre .1 .1)))
+slice-aggregate-write-change c =
+    let p = begun (roomy (c .before .before .before .before)) .pre in
+    sym (length-take-le _ _ (omega (arith, c .before .before .before .before .copy .ensures .1, p .1 .0, p .1 .1)))
 
 write-change-requires : tie.Need-write-change-requires
 write-change-requires c κs =
-    let p = c .before .before .before .before .before .before .before .before .before .before .before .before .before .before .before .before .before .before .before .before .before .pre in
-    let e = copied-front (c .before .before .before .before .before .before .before .before .before .before .before .before .before .before .before .before .before .before .before .before .before .args .image .now) (c .before .before .before .before .before .before .before .before .before .before .before .before .before .before .before .before .before .before .before .before .before .args .work .now) (c .before .before .before .before .before .copy .last .0) (c .before .before .before .before .before .before .before .before .before .before .before .before .before .before .before .before .before .before .before .before .before .args .len) (c .before .before .before .before .before .copy .ensures .0) (p .1 .0) in
-    let f = c .before .before .before .before .before .before .before .before .before .before .if1 .left in
-    let g = c .before .before .before .before .before .before .before .before .if2 .left in
+    let b = roomy (c .before .before .before .before .before) in
+    let e = copied (c .before .before .before .before .before) in
+    let s = begun b .args .image .now in
+    let L = begun b .args .len in
+    let p = begun b .pre in
+    let a = b .before .before .before .before .plan-end .ensures .0 in
     let l = marks-long _ (p .1 .2) in
-    let a = c .before .before .before .before .before .before .before .before .before .before .before .before .plan-end .ensures .0 in
-    (copy-ready (c .before .before .before .before .before .before .before .before .before .before .before .before .before .before .before .before .before .before .before .before .before .args .image .now) (c .before .before .before .before .before .before .before .before .before .before .before .before .before .before .before .before .before .before .before .before .before .args .len) _ _ _ _ _ _ _ (p .0) _ a l f g (p .1 .0) _ e, (copy-roomy (c .before .before .before .before .before .before .before .before .before .before .before .before .before .before .before .before .before .before .before .before .before .args .image .now) (c .before .before .before .before .before .before .before .before .before .before .before .before .before .before .before .before .before .before .before .before .before .args .len) _ _ _ _ _ _ _ (p .0) _ a l f g (p .1 .0) _ e, (copy-last (c .before .before .before .before .before .before .before .before .before .before .before .before .before .before .before .before .before .before .before .before .before .args .image .now) (c .before .before .before .before .before .before .before .before .before .before .before .before .before .before .before .before .before .before .before .before .before .args .len) _ _ _ _ _ _ _ (p .0) _ a l f g (p .1 .0) _ e, p .1 .2)))
+    let f = b .before .before .if1 .left in (
+      copy-ready s L _ _ _ _ _ _ _ (p .0) _ a l f (b .if2 .left) (p .1 .0) _ e,
+      (copy-roomy s L _ _ _ _ _ _ _ (p .0) _ a l f (b .if2 .left) (p .1 .0) _ e, (copy-last s L _ _ _ _ _ _ _ (p .0) _ a l f (b .if2 .left) (p .1 .0) _ e, p .1 .2)),
+    )
 
 same-length-5 : tie.Need-same-length-5
 same-length-5 c = search needs
@@ -83,9 +102,16 @@ same-length-7 c = search needs
 
 returns-3 : tie.Need-returns-3
 returns-3 c =
-    let p = c .before .before .before .before .before .before .before .before .before .before .before .before .before .before .before .before .before .before .before .before .before .before .before .before .before .before .pre in
-    let e = copied-front (c .before .before .before .before .before .before .before .before .before .before .before .before .before .before .before .before .before .before .before .before .before .before .before .before .before .before .args .image .now) (c .before .before .before .before .before .before .before .before .before .before .before .before .before .before .before .before .before .before .before .before .before .before .before .before .before .before .args .work .now) (c .before .before .before .before .before .before .before .before .before .before .copy .last .0) (c .before .before .before .before .before .before .before .before .before .before .before .before .before .before .before .before .before .before .before .before .before .before .before .before .before .before .args .len) (c .before .before .before .before .before .before .before .before .before .before .copy .ensures .0) (p .1 .0) in
-    (finish-done (c .before .before .before .before .before .before .before .before .before .before .before .before .before .before .before .before .before .before .before .before .before .before .before .before .before .before .args .image .now) (c .before .before .before .before .before .before .before .before .before .before .before .before .before .before .before .before .before .before .before .before .before .before .before .before .before .before .args .len) _ _ _ _ _ _ _ (p .0) _ (c .before .before .before .before .before .before .before .before .before .before .before .before .before .before .before .before .before .plan-end .ensures .0) (marks-long _ (p .1 .2)) (c .before .before .before .before .before .before .before .before .before .before .before .before .before .before .before .if1 .left) (c .before .before .before .before .before .before .before .before .before .before .before .before .before .if2 .left) (p .1 .0) _ e _ (c .before .before .before .before .write-change .ensures .0), (c .before .before .before .before .write-change .ensures .1, c .before .before .before .before .before .before .before .before .before .before .copy .ensures .1))
+    let b = roomy (c .before .before .before .before .before .before .before .before .before .before) in
+    let s = begun b .args .image .now in
+    let p = begun b .pre in
+    let a = b .before .before .before .before .plan-end .ensures .0 in
+    let l = marks-long _ (p .1 .2) in
+    let f = b .before .before .if1 .left in (
+      finish-done s (begun b .args .len) _ _ _ _ _ _ _ (p .0) _ a l f (b .if2 .left) (p .1 .0)
+          _ (copied (c .before .before .before .before .before .before .before .before .before .before)) _ (c .before .before .before .before .write-change .ensures .0),
+      (c .before .before .before .before .write-change .ensures .1, c .before .before .before .before .before .before .before .before .before .before .copy .ensures .1),
+    )
 
 pub finish-spec : {M : Type 1} → statement M
 finish-spec =
