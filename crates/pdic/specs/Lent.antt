@@ -63,14 +63,14 @@ pub record WalkLent : Type 0 where
 
 -- by walk's result and what the lent numbers held
 unfoldable pub walk-lent : WalkResult → ℕ → ℕ → ℕ → WalkLent
-walk-lent r a m n =
+walk-lent r a h t =
     record {
       returned = code-or-absent (r .answer);
       headword = r .headword;
       text = r .text;
       attribute = lent-number-or-absent (λ f. f .attribute) a (r .answer);
-      headword-length = lent-number-or-absent (λ f. f .headword-length) m (r .answer);
-      text-length = lent-number-or-absent (λ f. f .text-length) n (r .answer);
+      headword-length = lent-number-or-absent (λ f. f .headword-length) h (r .answer);
+      text-length = lent-number-or-absent (λ f. f .text-length) t (r .answer);
     }
 
 -- insert, delete and optimise from C
