@@ -14,14 +14,14 @@ use spec::WalkAnswer;
 const ABSENT: u32 = 100;
 
 #[no_mangle]
-pub extern "C" fn pdic_create(image: &mut [u8], length: &mut usize) -> u32
-    ensures { λ r. ⌜ record { returned = r; image = now (image .exit); new-length = now (length .exit) } ≡ create-lent (create (now (image .entry))) (now (length .entry)) ⌝ }
+pub extern "C" fn pdic_create(image: &mut [u8], new_len: &mut usize) -> u32
+    ensures { λ r. ⌜ record { returned = r; image = now (image .exit); new-length = now («new_len» .exit) } ≡ create-lent (create (now (image .entry))) (now («new_len» .entry)) ⌝ }
 {
     let r = editor::create(image);
     match r {
         LengthAnswer::Refused(k) => k,
         LengthAnswer::Done(n) => {
-            *length = n;
+            *new_len = n;
             0
         }
     }
@@ -32,20 +32,20 @@ pub extern "C" fn pdic_check(
     image: &[u8],
     len: usize,
     headwords: &mut u64,
-    index: &mut u64,
-    area: &mut u64,
-    free: &mut u64,
+    index_blocks: &mut u64,
+    data_blocks: &mut u64,
+    free_blocks: &mut u64,
 ) -> u32
-    ensures { λ r. ⌜ record { returned = r; headwords = now (headwords .exit); index-blocks = now (index .exit); data-blocks = now (area .exit); free-blocks = now (free .exit) } ≡ check-lent (check (now (image .entry)) len) (now (headwords .entry)) (now (index .entry)) (now (area .entry)) (now (free .entry)) ⌝ }
+    ensures { λ r. ⌜ record { returned = r; headwords = now (headwords .exit); index-blocks = now («index_blocks» .exit); data-blocks = now («data_blocks» .exit); free-blocks = now («free_blocks» .exit) } ≡ check-lent (check (now (image .entry)) len) (now (headwords .entry)) (now («index_blocks» .entry)) (now («data_blocks» .entry)) (now («free_blocks» .entry)) ⌝ }
 {
     let r = reader::check(image, len);
     match r {
         CheckAnswer::Refused(k) => k,
         CheckAnswer::Counted(h, i, d, f) => {
             *headwords = h as u64;
-            *index = i as u64;
-            *area = d as u64;
-            *free = f as u64;
+            *index_blocks = i as u64;
+            *data_blocks = d as u64;
+            *free_blocks = f as u64;
             0
         }
     }
@@ -58,9 +58,9 @@ pub extern "C" fn pdic_look_up(
     headword: &[u8],
     text: &mut [u8],
     attribute: &mut u8,
-    length: &mut usize,
+    text_len: &mut usize,
 ) -> u32
-    ensures { λ r. ⌜ record { returned = r; text = now (text .exit); attribute = now (attribute .exit); text-length = now (length .exit) } ≡ look-up-lent (look-up (now (image .entry)) len (now (headword .entry)) (now (text .entry))) (now (attribute .entry)) (now (length .entry)) ⌝ }
+    ensures { λ r. ⌜ record { returned = r; text = now (text .exit); attribute = now (attribute .exit); text-length = now («text_len» .exit) } ≡ look-up-lent (look-up (now (image .entry)) len (now (headword .entry)) (now (text .entry))) (now (attribute .entry)) (now («text_len» .entry)) ⌝ }
 {
     let r = reader::look_up(image, len, headword, text);
     match r {
@@ -68,7 +68,7 @@ pub extern "C" fn pdic_look_up(
         LookUpAnswer::Absent => ABSENT,
         LookUpAnswer::Found(a, n) => {
             *attribute = a;
-            *length = n;
+            *text_len = n;
             0
         }
     }
@@ -80,22 +80,22 @@ pub extern "C" fn pdic_walk(
     len: usize,
     headword: &[u8],
     above: u8,
-    out: &mut [u8],
+    headword_out: &mut [u8],
     text: &mut [u8],
     attribute: &mut u8,
-    written: &mut usize,
-    length: &mut usize,
+    headword_len: &mut usize,
+    text_len: &mut usize,
 ) -> u32
-    ensures { λ r. ⌜ record { returned = r; headword = now (out .exit); text = now (text .exit); attribute = now (attribute .exit); headword-length = now (written .exit); text-length = now (length .exit) } ≡ walk-lent (walk (now (image .entry)) len (not (eqb above 0)) (now (headword .entry)) (now (out .entry)) (now (text .entry))) (now (attribute .entry)) (now (written .entry)) (now (length .entry)) ⌝ }
+    ensures { λ r. ⌜ record { returned = r; headword = now («headword_out» .exit); text = now (text .exit); attribute = now (attribute .exit); headword-length = now («headword_len» .exit); text-length = now («text_len» .exit) } ≡ walk-lent (walk (now (image .entry)) len (not (eqb above 0)) (now (headword .entry)) (now («headword_out» .entry)) (now (text .entry))) (now (attribute .entry)) (now («headword_len» .entry)) (now («text_len» .entry)) ⌝ }
 {
-    let r = reader::walk(image, len, headword, above != 0, out, text);
+    let r = reader::walk(image, len, headword, above != 0, headword_out, text);
     match r {
         WalkAnswer::Refused(k) => k,
         WalkAnswer::Absent => ABSENT,
         WalkAnswer::Found(a, m, n) => {
             *attribute = a;
-            *written = m;
-            *length = n;
+            *headword_len = m;
+            *text_len = n;
             0
         }
     }
@@ -109,15 +109,15 @@ pub extern "C" fn pdic_insert(
     headword: &[u8],
     attribute: u8,
     text: &[u8],
-    length: &mut usize,
+    new_len: &mut usize,
 ) -> u32
-    ensures { λ r. ⌜ record { returned = r; image = now (image .exit); work = now (work .exit); new-length = now (length .exit) } ≡ change-lent (insert (now (image .entry)) len (now (work .entry)) (now (headword .entry)) attribute (now (text .entry))) (now (length .entry)) ⌝ }
+    ensures { λ r. ⌜ record { returned = r; image = now (image .exit); work = now (work .exit); new-length = now («new_len» .exit) } ≡ change-lent (insert (now (image .entry)) len (now (work .entry)) (now (headword .entry)) attribute (now (text .entry))) (now («new_len» .entry)) ⌝ }
 {
     let r = editor::insert(image, len, work, headword, attribute, text);
     match r {
         LengthAnswer::Refused(k) => k,
         LengthAnswer::Done(n) => {
-            *length = n;
+            *new_len = n;
             0
         }
     }
@@ -129,16 +129,16 @@ pub extern "C" fn pdic_delete(
     len: usize,
     work: &mut [u8],
     headword: &[u8],
-    length: &mut usize,
+    new_len: &mut usize,
 ) -> u32
-    ensures { λ r. ⌜ record { returned = r; image = now (image .exit); work = now (work .exit); new-length = now (length .exit) } ≡ delete-lent (delete (now (image .entry)) len (now (work .entry)) (now (headword .entry))) (now (length .entry)) ⌝ }
+    ensures { λ r. ⌜ record { returned = r; image = now (image .exit); work = now (work .exit); new-length = now («new_len» .exit) } ≡ delete-lent (delete (now (image .entry)) len (now (work .entry)) (now (headword .entry))) (now («new_len» .entry)) ⌝ }
 {
     let r = editor::delete(image, len, work, headword);
     match r {
         DeleteAnswer::Refused(k) => k,
         DeleteAnswer::Absent => ABSENT,
         DeleteAnswer::Removed(n) => {
-            *length = n;
+            *new_len = n;
             0
         }
     }
@@ -149,15 +149,15 @@ pub extern "C" fn pdic_optimise(
     image: &mut [u8],
     len: usize,
     work: &mut [u8],
-    length: &mut usize,
+    new_len: &mut usize,
 ) -> u32
-    ensures { λ r. ⌜ record { returned = r; image = now (image .exit); work = now (work .exit); new-length = now (length .exit) } ≡ change-lent (optimise (now (image .entry)) len (now (work .entry))) (now (length .entry)) ⌝ }
+    ensures { λ r. ⌜ record { returned = r; image = now (image .exit); work = now (work .exit); new-length = now («new_len» .exit) } ≡ change-lent (optimise (now (image .entry)) len (now (work .entry))) (now («new_len» .entry)) ⌝ }
 {
     let r = editor::optimise(image, len, work);
     match r {
         LengthAnswer::Refused(k) => k,
         LengthAnswer::Done(n) => {
-            *length = n;
+            *new_len = n;
             0
         }
     }
