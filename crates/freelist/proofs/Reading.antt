@@ -1,5 +1,5 @@
 -- The loop that reads a free list, in the terms of the code.
-use Prim.Native.Nat.{ℕ, zero, suc, _+_, _-_, _*_, _<_, _≤_}
+use Prim.Native.Nat.{ℕ, suc, _+_, _-_, _*_, _<_, _≤_}
 use mathlib.Core.Path.{_≡_, refl, sym, ap, _∙_}
 use mathlib.Core.Logic.{_≢_}
 use mathlib.Core.Bool.{Bool, true, false, false≢true}
@@ -9,7 +9,6 @@ use lib.ListN.{length, set}
 use lib.Dec.{eqb, eqb·suc-suc}
 use borrow.Author.Tests.{eq-eqb, ne-eqb, eqb-true, eqb-false}
 use Rattle.spec.specs.Outcome.{Outcome, refused, ok, _>>=_}
-use Rattle.spec.specs.Lists as Lists
 use Rattle.spec.specs.Bytes.{from-little-endian, bytes-at, all-zero}
 use Rattle.spec.proofs.BytesLaws.{all-zero-number}
 use Rattle.spec.specs.Blocks.{free-list-end, free-list-from}

@@ -17,8 +17,7 @@ use Rattle.spec.proofs.ListsLaws.{All}
 use Rattle.spec.proofs.BytesLaws.{length-to-little-endian, length-zeros}
 use Rattle.spec.proofs.WriteLaws.{length-write, write-left}
 use Rattle.spec.proofs.PartLaws.{bytes-at-cons}
-use Rattle.spec.proofs.HeaderLaws as Headers
-use Rattle.spec.proofs.HeaderLaws.{get-take, lawful4}
+use Rattle.spec.proofs.HeaderLaws.{get-take}
 use Rattle.spec.proofs.OutcomeLaws.{accepted-answer, refused-only}
 use Rattle.spec.proofs.StoredHeaderLaws as Stored
 use Rattle.spec.proofs.StoredHeaderLaws.{slice-stored}
@@ -261,11 +260,6 @@ header-front c s h =
     ap (λ (ws : List Setting). put-all ws s) (same-settings c s)
     ∙ ap (put-all (change-settings layout4 c (take 256 s))) (sym (take-append-drop 256 s))
     ∙ put-all-front (change-settings layout4 c (take 256 s)) (take 256 s) (drop 256 s) (change-inside c (take 256 s) (length (take 256 s)) (length-take-le 256 s h)) .1
-
--- and leaves the length
-pub length-changed : (c : Counts) (s : List ℕ) → 256 ≤ length s → length (changed-header layout4 c s) ≡ length s
-unfolding format4
-length-changed c s h = Headers.length-changed layout4 (lawful4 .layout-lawful) c s h
 
 -- the first L bytes of a slice
 module _ (s : List ℕ) (L : ℕ) where
