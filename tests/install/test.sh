@@ -84,7 +84,7 @@ cd "$work"
 printf 'ABC\tone\nABDEF\ttwo\n' >small.tsv
 glossary make small.dic small.tsv >made.txt || wrong 'glossary'
 printf '<<ABDEF>>\n' >manual.txt
-[ "$(fill small.dic manual.txt)" = two ] || wrong 'fill'
+[ "$(fill -q small.dic manual.txt)" = two ] || wrong 'fill'
 pdic-list <small.dic | cmp - "$root/tests/list/expected/p3.txt" || wrong 'pdic-list'
 # lookup STATUS OUTPUT FILE HEADWORD
 lookup() {

@@ -45,7 +45,7 @@ noticed '^wrong: lookup is not built' sed -i 's|^includedir=.*|includedir=/usr/i
 noticed '^wrong: static.* is not built' ar d lib/libpdic.a strerror.o
 noticed '^wrong: pdic-list' cp bin/fill bin/pdic-list
 noticed '^fill.1: options' sed -i 's/unmarked/marked/' share/man/man1/fill.1
-noticed '^glossary.1: commands' sed -i 's/^\.BI dump/.BI print/' share/man/man1/glossary.1
+noticed '^glossary.1: commands' sed -i 's/^\.BI dump/.BI export/' share/man/man1/glossary.1
 noticed '^pdic.3: calls' sed -i 's/uint8_t " above ,/int " above ,/' share/man/man3/pdic.3
 noticed '^pdic.3: constants' sed -i 's/^PDIC_FULL\t15/PDIC_FULL\t16/' share/man/man3/pdic.3
 noticed '^pdic.3: the example' sed -i 's/sizeof headword, text/headword, text/' share/man/man3/pdic.3

@@ -10,6 +10,7 @@ import sys
 
 BLANKS = (b' ', b'\xc2\xa0', b'\xe2\x80\xaf', b'\xe3\x80\x80', b'\x81\x40', b'\xef\xbb\xbf')
 PIECES = [b'a', b'valve', b' ', b'%', b'%41', b'%20', b'%00', b'\t', b'\t', b'\r', b'\x01', b'\xc2\xa0', b'\x95\x5c', b'\xe9', b'<', b'\\']
+PLAIN = [b'a', b'b', b'valve', b'c d', b'%41', b'\xe9', b'\x95\x5c', b'<<', b'7', b'-']
 
 
 def glossary(*arguments, text=b''):
@@ -94,7 +95,8 @@ def faulty_lines(content):
 
 
 def random_list(rng):
-    lines = [b''.join(rng.choice(PIECES) for _ in range(rng.randint(0, 5))) + rng.choice([b'', b'\tb', b'\tb\r']) for _ in range(rng.randint(1, 9))]
+    pieces, ends = rng.choice([(PIECES, [b'', b'\tb', b'\tb\r']), (PLAIN, [b'\tb', b'\tb\r'])])
+    lines = [b''.join(rng.choice(pieces) for _ in range(rng.randint(0, 5))) + rng.choice(ends) for _ in range(rng.randint(1, 5))]
     content = b'first\tline\n' + b'\n'.join(lines)
     expected = faulty_lines(content)
     run = glossary('make', 'list.dic', '-', text=content)
