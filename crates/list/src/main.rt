@@ -4,7 +4,7 @@ ghost use lib.ListN.{length};
 use libc::STDIN_FILENO;
 use libc::STDOUT_FILENO;
 
-// Reads an image into `image` and writes its list by way of `out`.
+// Reads an image into `image` and writes its list by way of `out`, which is long enough for the longest: `listing` never answers 0.
 fn print_list(image: &mut [u8], out: &mut [u8])
     requires { ⌜ 4000000 ≤ length (now out) ⌝ }
 {

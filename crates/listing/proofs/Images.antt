@@ -1,8 +1,8 @@
 -- What is printed of an image, in the terms of the code.
 use Prim.Native.Nat.{ℕ, _+_, _-_, _*_, _%_, _<_, _≤_}
-use mathlib.Core.Path.{_≡_, sym, ap, subst, _∙_}
+use mathlib.Core.Path.{_≡_, refl, sym, ap, subst, _∙_}
 use mathlib.Core.Bool.{Bool, true, false, not}
-use mathlib.Core.List.{List, _++_}
+use mathlib.Core.List.{List, [], _++_}
 use native.Mathlib.Omega.{arith}
 use lib.ListN.{length, length-append}
 use lib.Seq.{take-length}
@@ -27,7 +27,7 @@ use Rattle.inspect.specs.Overview.{viewed, overview, AcceptedImage}
 use Rattle.inspect.proofs.Laws.{index-part, data-part, overview-refused, overview-sound, sound-figures}
 use Rattle.inspect.proofs.Accepted as Parts
 use Rattle.inspect.specs.declared.Inspected.{Inspected}
-use Rattle.listing.specs.Lines.{numbers, Printable, AllPrinted, Accepted}
+use Rattle.listing.specs.Lines.{numbers, Printable, AllPrinted, Accepted, listed}
 use Rattle.spec.proofs.WriteLaws.{written-behind}
 use Rattle.listing.proofs.Lines.{first-length}
 
@@ -134,6 +134,21 @@ module _ (s : List ℕ) where
       pub list-image : length s ≤ 65_536 → listing s ≡ image-lines (image-from s)
       unfolding ListingSpec.listing CheckSpec.image-in
       list-image p = rw (le-ltb 65_536 (length s) p, slice-accepted s (length s) (sym e ∙ not-false b t), take-length s)
+
+-- in a slice that is too short nothing is stored
+listed-nothing : (s out : List ℕ) → length out < 4_000_000 → listed s out ≡ []
+unfolding listed
+listed-nothing s out p = rw (lt-ltb (length out) 4_000_000 p, listed)
+
+-- it is left as it is
+pub listed-short : (s out : List ℕ) → length out < 4_000_000 → (0 ≡ length (listed s out)) × (out ≡ write 0 (listed s out) out)
+unfolding write
+listed-short s out p = rw (listed-nothing s out p) (refl, refl)
+
+-- another gets the list
+pub listed-whole : (s out : List ℕ) → 4_000_000 ≤ length out → listed s out ≡ listing s
+unfolding listed
+listed-whole s out p = rw (le-ltb (length out) 4_000_000 p, listed)
 
 -- where a list ends, by the bytes that it is
 pub list-end : (x y : List ℕ) (r : ℕ) → x ≡ y → r ≡ length y → r ≡ length x

@@ -1,8 +1,10 @@
 -- The lines of the printed list by the numbers that stand in them.
 use Prim.Native.Nat.{ℕ, suc, _+_, _*_, _≤_}
 use mathlib.Core.Path.{_≡_}
+use mathlib.Core.Bool.{true, false}
 use mathlib.Core.List.{List, [], _∷_, _++_}
 use lib.ListN.{length, drop}
+use lib.Dec.{ltb}
 use Rattle.spec.specs.Outcome.{ok}
 use Rattle.spec.specs.Bytes.{write}
 use Rattle.spec.specs.Header.{Format}
@@ -11,7 +13,7 @@ use Rattle.spec.specs.Index.{Element}
 use Rattle.spec.specs.Blocks.{run-blocks}
 use Rattle.spec.specs.Check.{Image, image-from, runs-from}
 use Rattle.spec.specs.Calls.{Figures, figures}
-use Rattle.spec.specs.Listing.{column, line, entry-lines, run-lines}
+use Rattle.spec.specs.Listing.{column, line, entry-lines, run-lines, listing}
 use Rattle.listing.specs.declared.Printed.{Printed}
 
 -- the numbers of an entry's line: ordinal, run's block, run's blocks, attribute, text length
@@ -46,7 +48,11 @@ AllPrinted F D area es start out out′ end = (rs : List Run) → runs-from F D 
 abbrev pub Accepted : List ℕ → Figures → Type 0
 Accepted s c = (i : Image) × (image-from s ≡ ok i) × (figures i ≡ c)
 
+-- what is stored for an input in a slice: its list, if the slice has the 4,000,000 bytes that the longest may take, else nothing
+unfoldable pub listed : List ℕ → List ℕ → List ℕ
+listed s out = elim (ltb (length out) 4_000_000) [ true ↦ [] | false ↦ listing s ]
+
 -- names all definitions of this module: who unfolds it unfolds them
 unfoldable pub open-lines : Unit {0}
-unfolding entry-numbers fields-line
+unfolding entry-numbers fields-line listed
 open-lines = tt

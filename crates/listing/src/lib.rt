@@ -9,7 +9,7 @@ ghost use Rattle.spec.specs.Outcome.{refused};
 ghost use Rattle.spec.specs.Header.{format4};
 ghost use Rattle.spec.specs.Check.{image-from};
 ghost use Rattle.spec.specs.Listing.{digits, column, first-line, image-lines, listing};
-ghost use Rattle.listing.specs.Lines.{entry-numbers, fields-line, numbers, RunPrinted, Printable, AllPrinted, Accepted};
+ghost use Rattle.listing.specs.Lines.{entry-numbers, fields-line, numbers, RunPrinted, Printable, AllPrinted, Accepted, listed};
 ghost use Rattle.index.specs.Elements.{elements-at, Inside};
 use byteops::copy;
 use byteops::read_u16;
@@ -282,8 +282,8 @@ fn inspected_lines(out: &mut [u8], image: &[u8]) -> usize
     }
 }
 
-// Stores the list of the image in `image`, and answers where it ends.
-pub fn listing(image: &[u8], out: &mut [u8]) -> usize
+// Stores the list of the input `image`, and answers where it ends.
+fn input_lines(out: &mut [u8], image: &[u8]) -> usize
     requires { ⌜ 4000000 ≤ length (now out) ⌝ }
     ensures { λ r. ⌜ (r ≡ length (listing (now (image .entry)))) × (r ≤ length (now (out .entry))) ⌝ }
     ensures { λ _. ⌜ now (out .exit) ≡ write 0 (listing (now (image .entry))) (now (out .entry)) ⌝ }
@@ -295,4 +295,15 @@ pub fn listing(image: &[u8], out: &mut [u8]) -> usize
         return refused_line(out, 1);
     }
     inspected_lines(out, image)
+}
+
+// Stores the list of the input `image`, and answers where it ends. A slice too short for the longest list is left as it is: 0.
+pub fn listing(image: &[u8], out: &mut [u8]) -> usize
+    ensures { λ r. ⌜ (r ≡ length (listed (now (image .entry)) (now (out .entry)))) × (r ≤ length (now (out .entry))) ⌝ }
+    ensures { λ _. ⌜ now (out .exit) ≡ write 0 (listed (now (image .entry)) (now (out .entry))) (now (out .entry)) ⌝ }
+{
+    if out.len() < 4000000 {
+        return 0;
+    }
+    input_lines(out, image)
 }
