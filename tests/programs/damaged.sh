@@ -1,5 +1,5 @@
 #!/bin/sh
-# damaged.sh NUMBER FOLDER [WRAPPER..]: runs the example programs on so many damaged dictionaries. A dictionary that check
+# damaged.sh NUMBER FOLDER [WRAPPER..]: runs the programs on so many damaged dictionaries. A dictionary that check
 # refuses is refused by every program with the same number, nothing is written and the file stays; one that is accepted is
 # accepted after every change. Works in the present folder, which must be empty.
 set -eu

@@ -1,5 +1,5 @@
 #!/bin/sh
-# The example programs and the demo against what is stored, the commands in the documents, and the stack that the calls take;
+# The programs and the demo against what is stored, the commands in the documents, and the stack that the calls take;
 # then the same runs under AddressSanitizer and UndefinedBehaviorSanitizer, and under valgrind; then damaged dictionaries and
 # dictionaries that travel under all of them, crashes, many programs at once, random manuals, look-alikes, the time that long
 # manuals take, and wrong programs. PDIC_LIB names another folder with a libpdic.a.
