@@ -1,6 +1,6 @@
 #!/bin/sh
 # demo.sh [FOLDER]: the main job, with the programs of the folder (else target/programs): a glossary made from a list, a
-# manual filled, a draft that names an absent term, and what the engine says of a damaged file.
+# manual filled, a draft that names an absent term, and what the engine says of a file that breaks a rule.
 set -eu
 here=$(cd "$(dirname "$0")" && pwd)
 programs=$(cd "${1:-$here/../target/programs}" && pwd)
@@ -42,6 +42,6 @@ step glossary add machinery.dic radiator radiateur
 sed -i 's/<<bleed valve>>/<<valve, bleed>>/' draft.txt
 step fill machinery.dic draft.txt
 
-printf '\nA byte of the dictionary file is damaged. The engine does not guess:\n'
+printf '\nA byte of the dictionary file is changed, and a rule of the format broken. The engine does not guess:\n'
 printf '\377' | dd of=machinery.dic bs=1 seek=514 conv=notrunc 2>/dev/null
 step fill machinery.dic manual.txt

@@ -145,6 +145,13 @@ static int add(task *t)
 {
     tally n = { 0 };
     item x = { .headword = string_bytes(t->args[0]), .text = string_bytes(t->args[1]), .attribute = t->told.attribute };
+    const char *unseen = unseen_in(x.headword, x.text);
+    if (unseen) {
+        fprintf(stderr, "%s: ", t->path);
+        print_exact(stderr, x.headword);
+        fprintf(stderr, " %s\n", unseen);
+        return STATUS_REFUSED;
+    }
     uint32_t number = put(t, &x, &n);
     return number == PDIC_DONE ? save(t) : refused(t->path, x.headword, number);
 }

@@ -82,11 +82,26 @@ static size_t blank_at(bytes b, int is_end)
     return 0;
 }
 
+/* Is there a control byte? */
 static int has_control(bytes b)
 {
     for (size_t i = 0; i < b.len; i++)
         if (is_control(b.at[i])) return 1;
     return 0;
+}
+
+static const char blank_words[] = "begins or ends with a blank; a table can have it as %XX";
+static const char control_words[] = "has a control byte, in it or in its text; a table can have it as %XX";
+
+static int has_blank_end(bytes headword)
+{
+    return blank_at(headword, 0) || blank_at(headword, 1);
+}
+
+const char *unseen_in(bytes headword, bytes text)
+{
+    if (has_control(headword) || has_control(text)) return control_words;
+    return has_blank_end(headword) ? blank_words : NULL;
 }
 
 /* Cuts the next column off a line. */
@@ -165,8 +180,7 @@ static bytes column_bytes(reading *r, bytes written, size_t number)
 static void read_headword(reading *r, item *x, bytes written)
 {
     size_t faults = r->fault_count;
-    if (blank_at(written, 0) || blank_at(written, 1))
-        add_fault(r, (fault){ .line = x->line, .shown = written, .words = "begins or ends with a blank; a table can have it as %XX" });
+    if (has_blank_end(written)) add_fault(r, (fault){ .line = x->line, .shown = written, .words = blank_words });
     x->headword = column_bytes(r, written, x->line);
     if (r->fault_count > faults) return;
     if (x->headword.len == 0 || x->headword.len > PDIC_MAX_HEADWORD || memchr(x->headword.at, 0, x->headword.len))
@@ -200,7 +214,7 @@ static void read_line(reading *r, bytes line, size_t number)
     }
     for (size_t i = 0; i < r->column_count; i++) {
         if (has_control(columns[i])) {
-            add_fault(r, (fault){ .line = number, .words = "a control byte; a table can have it as %XX" });
+            add_fault(r, (fault){ .line = number, .shown = columns[0], .words = control_words });
             return;
         }
         if (r->columns[i] == HEADWORD) read_headword(r, &x, columns[i]);

@@ -34,6 +34,10 @@ int read_list(list *l, const char *path, wanted what);
 
 void free_list(list *l);
 
+/* What of an entry that stands plainly would be stored though nobody sees it, in words, or NULL: a control byte, or a blank
+ * at one of the headword's ends. */
+const char *unseen_in(bytes headword, bytes text);
+
 /* An attribute as a number, 0x and hexadecimal digits or decimal; -1 where it is none that an entry may have. */
 int read_attribute(bytes written);
 

@@ -44,8 +44,10 @@ run fill machinery.dic line.txt filled.txt more
 run fill -- machinery.dic line.txt -q --help
 
 # a dictionary with headwords that are not easily marked, and with odd blanks and signs
+# escaped BYTES: what printf writes, each byte as %XX
+escaped() { printf '%b' "$1" | od -An -v -t x1 | tr -d '\n' | tr ' ' %; }
 # stored HEADWORD TEXT: adds an entry, both as printf writes them
-stored() { "$programs/glossary" add terms.dic "$(printf '%b' "$1")" "$(printf '%b' "$2")" >/dev/null; }
+stored() { printf '%%headword\ttext\n%s\t%s\n' "$(escaped "$1")" "$(escaped "$2")" | "$programs/glossary" merge terms.dic - >/dev/null; }
 : >none.tsv
 "$programs/glossary" make terms.dic none.tsv >/dev/null
 stored valve soupape

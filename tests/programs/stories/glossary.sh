@@ -54,6 +54,10 @@ run glossary delete changed.dic adaptor flat
 printf 'clutch\ncoolant\n' >unwanted.txt
 run glossary delete changed.dic - <unwanted.txt
 
+note "what nobody sees is not stored"
+for headword in 'pump ' ' pump' "pump$(printf '\302\240')" "pump$(printf '\r')" "pu	mp"; do run glossary add changed.dic "$headword" pompe; done
+run glossary add changed.dic pump "pompe$(printf '\r')"
+
 note "an entry's attribute is kept unless another is told"
 run glossary add --attribute=0xA3 changed.dic marked one
 run glossary add changed.dic marked two
