@@ -318,6 +318,7 @@ static int open_held(const char *path)
     if (S_ISDIR(file.st_mode)) return fault(strerror(EISDIR));
     if (!S_ISREG(file.st_mode)) return fault("only a regular file can be changed");
     if (may_be_written(path, &file) != 0 || may_be_made(path) != 0) return -1;
+    if (geteuid() != 0 && geteuid() != file.st_uid) return fault("it is another user's, who could not stay its owner");
     int fd = open(path, O_RDWR | O_CLOEXEC);
     return fd < 0 ? system_fault() : fd;
 }
