@@ -11,6 +11,7 @@ typedef struct {
     const char *words;
     uint32_t number;
     bytes shown;
+    size_t found; /* how many were found before it */
 } fault;
 
 /* The columns of a list, in order. */
@@ -32,13 +33,15 @@ static void add_fault(reading *r, fault f)
 {
     if (r->fault_count == r->faults_size)
         r->faults = take_memory(r->faults, (r->faults_size = 2 * r->faults_size + 64) * sizeof *r->faults);
+    f.found = r->fault_count;
     r->faults[r->fault_count++] = f;
 }
 
 static int compare_faults(const void *a, const void *b)
 {
     const fault *x = a, *y = b;
-    return (x->line > y->line) - (x->line < y->line);
+    int order = (x->line > y->line) - (x->line < y->line);
+    return order != 0 ? order : (x->found > y->found) - (x->found < y->found);
 }
 
 static void print_words(const fault *f)
@@ -161,7 +164,7 @@ int read_attribute(bytes written)
     char digits[8], *end;
     if (written.len == 0 || written.len >= sizeof digits || written.at[0] < '0' || written.at[0] > '9') return -1;
     *append((uint8_t *)digits, written) = '\0';
-    unsigned long number = strtoul(digits, &end, 0);
+    unsigned long number = strtoul(digits, &end, strncmp(digits, "0x", 2) == 0 ? 16 : 10);
     int is_good = *end == '\0' && number <= 255 && (number & PDIC_PLAIN) && !(number & PDIC_PARTS);
     return is_good ? (int)number : -1;
 }

@@ -70,7 +70,7 @@ grep marked dumped
 run glossary add --attribute=192 changed.dic marked three
 run glossary dump changed.dic >dumped
 grep marked dumped
-for attribute in 0x90 0x20 256 0x 80x ''; do run glossary add --attribute=$attribute changed.dic marked four; done
+for attribute in 0x90 0x20 256 0x 80x 0200x -128 ''; do run glossary add --attribute=$attribute changed.dic marked four; done
 
 note "a headword that begins with a sign of options"
 run glossary add changed.dic -- --help 'aide'
