@@ -9,11 +9,28 @@ static const struct {
     { "\xC2\xA0", " " },     /* no-break space */
     { "\xE2\x80\xAF", " " }, /* narrow no-break space */
     { "\xE3\x80\x80", " " }, /* ideographic space */
+    { "\xE2\x80\x80", " " }, /* spaces by their width, from one quad of en to the hair space */
+    { "\xE2\x80\x81", " " },
+    { "\xE2\x80\x82", " " },
+    { "\xE2\x80\x83", " " },
+    { "\xE2\x80\x84", " " },
+    { "\xE2\x80\x85", " " },
+    { "\xE2\x80\x86", " " },
+    { "\xE2\x80\x87", " " },
+    { "\xE2\x80\x88", " " },
+    { "\xE2\x80\x89", " " },
+    { "\xE2\x80\x8A", " " },
+    { "\xE2\x80\xA8", " " }, /* line separator */
+    { "\xE2\x80\xA9", " " }, /* paragraph separator */
+    { "\xE2\x81\x9F", " " }, /* mathematical space */
     { "\x81\x40", " " },     /* ideographic space of Shift JIS */
     { "\xC2\xAD", "" },      /* soft hyphen */
     { "\xE2\x80\x8B", "" },  /* zero-width space */
     { "\xE2\x80\x8C", "" },  /* zero-width non-joiner */
     { "\xE2\x80\x8D", "" },  /* zero-width joiner */
+    { "\xE2\x80\x8E", "" },  /* left-to-right mark */
+    { "\xE2\x80\x8F", "" },  /* right-to-left mark */
+    { "\xE2\x81\xA0", "" },  /* word joiner */
     { "\xEF\xBB\xBF", "" },  /* zero-width no-break space, also called byte order mark */
     { "\xE2\x80\x90", "-" }, /* hyphen */
     { "\xE2\x80\x91", "-" }, /* no-break hyphen */
@@ -106,6 +123,34 @@ bytes folded(bytes headword, uint8_t *to)
     }
     if (is_after_blank && end > to) end--;
     return (bytes){ to, (size_t)(end - to) };
+}
+
+/* Is a character one that nobody sees: a blank, a sign that takes no room, or a control character of UTF-8? */
+static int is_unseen(bytes character)
+{
+    for (size_t i = 0; i < SIGNS; i++)
+        if (compare_bytes(character, string_bytes(signs[i].sign)) == 0) return signs[i].form[0] == ' ' || !signs[i].form[0];
+    return character.len == 2 && character.at[0] == 0xC2 && character.at[1] >= 0x80 && character.at[1] < 0xA0;
+}
+
+int has_unseen_end(bytes headword)
+{
+    int as_utf8 = is_utf8(headword), is_first = 1;
+    bytes character = { headword.at, 0 };
+    while (headword.len > 0) {
+        character = (bytes){ headword.at, as_utf8 ? utf8_len(headword) : shift_jis_len(headword) };
+        headword = behind(headword, character.len);
+        if (is_first && is_unseen(character)) return 1;
+        is_first = 0;
+    }
+    return is_unseen(character);
+}
+
+size_t unseen_bytes(bytes headword, int is_last)
+{
+    for (size_t len = headword.len < LONGEST_SIGN ? headword.len : LONGEST_SIGN; len > 0; len--)
+        if (is_unseen((bytes){ is_last ? headword.at + headword.len - len : headword.at, len })) return len;
+    return 0;
 }
 
 int look_alike(bytes a, bytes b)

@@ -1,4 +1,4 @@
-/* alike.h - headwords that look alike on a page and differ in their bytes. */
+/* alike.h - headwords that look alike on a page and differ in their bytes, and what nobody sees of them. */
 #ifndef ALIKE_H
 #define ALIKE_H
 
@@ -15,6 +15,13 @@ enum { LONGEST_FOLDED = 2 * PDIC_MAX_HEADWORD };
 bytes folded(bytes headword, uint8_t *to);
 
 int look_alike(bytes a, bytes b);
+
+/* Is the first or the last character of a headword one that nobody sees: a blank, a sign that takes no room or a control
+ * character? */
+int has_unseen_end(bytes headword);
+
+/* How many bytes at the front, or at the end, are such a character in UTF-8 or Shift JIS, whichever the headword is; else 0. */
+size_t unseen_bytes(bytes headword, int is_last);
 
 /* Do look-alikes differ in nothing but capital and small letters? */
 int differ_in_case(bytes a, bytes b);

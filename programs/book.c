@@ -50,17 +50,26 @@ static void book_writable(book *b)
     if (!b->work) book_resize(b, b->size);
 }
 
-/* Says that a file is not read or written, and why. */
-static int failed(const char *path, const char *what)
+/* Says that a dictionary is refused, and why. */
+static int refuse(const char *path, const char *what, const char *why)
 {
-    fprintf(stderr, "%s: %s%s\n", shown_path(path), what, file_fault());
+    fprintf(stderr, "%s: %s%s\n", path, what, why);
     return STATUS_REFUSED;
+}
+
+/* A dictionary is a file with a name: standard input has no lock and no seal. */
+static int has_name(const char *path)
+{
+    return strcmp(path, "-") != 0;
 }
 
 int book_create(book *b, const char *path)
 {
+    static const char what[] = "not made: ";
     *b = (book){ .file = { .fd = -1 } };
-    if (hold_new_file(&b->file, path) != HELD) return failed(path, "not made: ");
+    if (!has_name(path)) return refuse(path, what, "it is no file");
+    if (is_sealed(path)) return refuse(path, what, "a seal of its name is there");
+    if (hold_new_file(&b->file, path) != HELD) return refuse(path, what, file_fault());
     book_resize(b, FIRST_SIZE);
     pdic_create(b->image, b->size, &b->len);
     return STATUS_DONE;
@@ -73,9 +82,8 @@ static int checked(book *b, const char *path)
     b->size = b->len;
     uint32_t number = book_check(b, &f);
     if (number == PDIC_DONE && test_seal(path, (bytes){ b->image, b->len }) != SEAL_BROKEN) return STATUS_DONE;
-    fprintf(stderr, "%s: ", shown_path(path));
-    if (number == PDIC_DONE) fprintf(stderr, "refused: not the bytes that were sealed\n");
-    else fprintf(stderr, "refused %" PRIu32 ": %s\n", number, pdic_strerror(number));
+    if (number == PDIC_DONE) refuse(path, "refused: ", "its seal is of other bytes, or cannot be read");
+    else fprintf(stderr, "%s: refused %" PRIu32 ": %s\n", path, number, pdic_strerror(number));
     book_free(b);
     return STATUS_REFUSED;
 }
@@ -83,31 +91,37 @@ static int checked(book *b, const char *path)
 int book_load(book *b, const char *path)
 {
     *b = (book){ .file = { .fd = -1 } };
-    if (read_file(path, PDIC_MAX_IMAGE, &b->image, &b->len) != 0) return failed(path, "");
+    if (!has_name(path)) return refuse(path, "", "it is no file");
+    if (read_file(path, PDIC_MAX_IMAGE, &b->image, &b->len) != 0) return refuse(path, "", file_fault());
     return checked(b, path);
 }
 
 int book_hold(book *b, const char *path, unsigned seconds)
 {
+    static const char what[] = "not changed: ";
     *b = (book){ .file = { .fd = -1 } };
+    if (!has_name(path)) return refuse(path, what, "it is no file");
     int held = hold_file(&b->file, path, seconds);
     if (held != HELD) {
-        failed(path, "not changed: ");
+        refuse(path, what, file_fault());
         return held == IN_USE ? STATUS_IN_USE : STATUS_REFUSED;
     }
-    if (is_sealed(path)) {
-        fprintf(stderr, "%s: not changed: it is sealed\n", path);
-        let_go(&b->file);
-        return STATUS_REFUSED;
-    }
-    if (read_held(&b->file, PDIC_MAX_IMAGE, &b->image, &b->len) == 0) return checked(b, path);
+    if (!is_sealed(path) && read_held(&b->file, PDIC_MAX_IMAGE, &b->image, &b->len) == 0) return checked(b, path);
     let_go(&b->file);
-    return failed(path, "");
+    return is_sealed(path) ? refuse(path, what, "it is sealed") : refuse(path, "", file_fault());
+}
+
+int book_load_to_change(book *b, const char *path)
+{
+    int status = book_load(b, path);
+    if (status != STATUS_DONE || !is_sealed(path)) return status;
+    book_free(b);
+    return refuse(path, "not changed: ", "it is sealed");
 }
 
 int book_save(const book *b, const char *path)
 {
-    return replace_held(&b->file, b->image, b->len) == 0 ? STATUS_DONE : failed(path, "not written: ");
+    return replace_held(&b->file, b->image, b->len) == 0 ? STATUS_DONE : refuse(path, "not written: ", file_fault());
 }
 
 void book_free(book *b)

@@ -35,6 +35,9 @@ int book_load(book *b, const char *path);
  * refused. */
 int book_hold(book *b, const char *path, unsigned seconds);
 
+/* Reads a file to try a change that is not written. */
+int book_load_to_change(book *b, const char *path);
+
 /* An empty dictionary for a file that is not there yet. */
 int book_create(book *b, const char *path);
 

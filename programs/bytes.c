@@ -49,6 +49,11 @@ int unescape(bytes written, uint8_t *to, size_t *len, size_t *fault)
     return 0;
 }
 
+int is_utf16(bytes content)
+{
+    return content.len >= 2 && (memcmp(content.at, "\xFF\xFE", 2) == 0 || memcmp(content.at, "\xFE\xFF", 2) == 0);
+}
+
 int is_control(uint8_t byte)
 {
     return byte < 32 || byte == 127;

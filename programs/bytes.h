@@ -24,6 +24,9 @@ uint8_t *append(uint8_t *to, bytes b);
  * behind it; then *fault is its place. A percent sign is never part of a longer character in Shift JIS or UTF-8. */
 int unescape(bytes written, uint8_t *to, size_t *len, size_t *fault);
 
+/* Does a file's content begin with the byte order mark of UTF-16, in either order? */
+int is_utf16(bytes content);
+
 /* Is it a control byte? */
 int is_control(uint8_t byte);
 

@@ -10,10 +10,14 @@
 #include <sys/stat.h>
 #include <time.h>
 #include <unistd.h>
+#include "progress.h"
 
-/* A file that is written beside another has its name between these, and six letters. */
-static const char before_name[] = ".", behind_name[] = ".unfinished-";
-enum { LETTERS = 6, PAUSE = 20 /* milliseconds between two attempts to hold a file */ };
+/* A file that is written beside another is called ".NAME.unfinished-", the writing program's number in ten digits, "-" and six
+ * letters. Of a long name only the front is taken. */
+static const char behind_name[] = ".unfinished-";
+enum { LONGEST_STEM = 200, DIGITS = 10, LETTERS = 6 };
+
+enum { PAUSE = 20 /* milliseconds between two attempts to hold a file */ };
 
 static char fault_words[160];
 
@@ -121,18 +125,29 @@ static char *folder_of(const char *path, const char **name)
 /* Removes a file of a program that ended before it was done: a living program holds the file that it writes. */
 static void remove_if_stale(const char *path)
 {
+    struct stat file;
     int fd = open(path, O_RDWR | O_NOFOLLOW | O_CLOEXEC | O_NONBLOCK);
     if (fd < 0) return;
-    if (flock(fd, LOCK_EX | LOCK_NB) == 0) unlink(path);
+    if (fstat(fd, &file) == 0 && S_ISREG(file.st_mode) && flock(fd, LOCK_EX | LOCK_NB) == 0) unlink(path);
     close(fd);
+}
+
+/* How much of a name is taken into the name of a file beside it. */
+static int stem_of(const char *name)
+{
+    size_t len = strlen(name);
+    return (int)(len < LONGEST_STEM ? len : LONGEST_STEM);
 }
 
 /* Is this the name of a file written beside one called `name`? */
 static int is_beside(const char *entry, const char *name)
 {
-    size_t dot = strlen(before_name), len = strlen(name), behind = strlen(behind_name);
-    return strlen(entry) == dot + len + behind + LETTERS && memcmp(entry, before_name, dot) == 0 &&
-           memcmp(entry + dot, name, len) == 0 && memcmp(entry + dot + len, behind_name, behind) == 0;
+    static const char digits[] = "0123456789", letters[] = "0123456789ABCDEFGHIJKLMNOPQRSTUVWXYZabcdefghijklmnopqrstuvwxyz";
+    size_t stem = (size_t)stem_of(name), behind = strlen(behind_name);
+    if (strlen(entry) != 1 + stem + behind + DIGITS + 1 + LETTERS) return 0;
+    const char *number = entry + 1 + stem + behind, *rest = number + DIGITS;
+    return entry[0] == '.' && memcmp(entry + 1, name, stem) == 0 && memcmp(number - behind, behind_name, behind) == 0 &&
+           strspn(number, digits) == DIGITS && rest[0] == '-' && strspn(rest + 1, letters) == LETTERS;
 }
 
 static void remove_stale(const char *path)
@@ -157,12 +172,10 @@ static char *name_beside(const char *path)
 {
     const char *name;
     char *folder = folder_of(path, &name);
-    char *beside = take_memory(NULL, strlen(path) + strlen(before_name) + strlen(behind_name) + LETTERS + 3);
-    strcpy(beside, folder);
-    strcat(beside, before_name);
-    strcat(beside, name);
-    strcat(beside, behind_name);
-    strcat(beside, "XXXXXX");
+    size_t size = strlen(folder) + LONGEST_STEM + sizeof behind_name + DIGITS + LETTERS + 3;
+    char *beside = take_memory(NULL, size);
+    snprintf(beside, size, "%s.%.*s%s%0*lu-XXXXXX", folder, stem_of(name), name, behind_name, DIGITS,
+             (unsigned long)getpid() % 10000000000u);
     free(folder);
     return beside;
 }
@@ -280,17 +293,19 @@ int replace_file(const char *path, const uint8_t *bytes, size_t len)
     return failed ? -1 : 0;
 }
 
-int is_same_file(const char *path, const char *other)
+int is_same_file(const char *input, const char *path)
 {
     struct stat a, b;
-    return stat(path, &a) == 0 && stat(other, &b) == 0 && a.st_dev == b.st_dev && a.st_ino == b.st_ino && S_ISREG(a.st_mode);
+    int is_there = strcmp(input, "-") == 0 ? fstat(STDIN_FILENO, &a) : stat(input, &a);
+    return is_there == 0 && stat(path, &b) == 0 && a.st_dev == b.st_dev && a.st_ino == b.st_ino && S_ISREG(a.st_mode);
 }
 
-static int64_t now(void)
+void open_standard_files(void)
 {
-    struct timespec t;
-    clock_gettime(CLOCK_MONOTONIC, &t);
-    return (int64_t)t.tv_sec * 1000 + t.tv_nsec / 1000000;
+    int fd;
+    do fd = open("/dev/null", O_RDWR);
+    while (fd >= 0 && fd <= STDERR_FILENO);
+    if (fd >= 0) close(fd);
 }
 
 /* Locks an open file, waiting until a time. Gives HELD, NOT_HELD or IN_USE. */
@@ -299,7 +314,7 @@ static int lock(int fd, const char *path, unsigned seconds, int64_t until, int *
     while (flock(fd, LOCK_EX | LOCK_NB) != 0) {
         if (errno == EINTR) continue;
         if (errno != EWOULDBLOCK) return system_fault();
-        if (now() >= until) {
+        if (milliseconds() >= until) {
             fault("another program is changing it");
             return IN_USE;
         }
@@ -318,7 +333,8 @@ static int open_held(const char *path)
     if (S_ISDIR(file.st_mode)) return fault(strerror(EISDIR));
     if (!S_ISREG(file.st_mode)) return fault("only a regular file can be changed");
     if (may_be_written(path, &file) != 0 || may_be_made(path) != 0) return -1;
-    if (geteuid() != 0 && geteuid() != file.st_uid) return fault("it is another user's, who could not stay its owner");
+    if (file.st_nlink > 1) return fault("it has a second name, a hard link, which would keep the old dictionary");
+    if (geteuid() != 0 && geteuid() != file.st_uid) return fault("it belongs to another user, and would not after a change");
     int fd = open(path, O_RDWR | O_CLOEXEC);
     return fd < 0 ? system_fault() : fd;
 }
@@ -332,7 +348,7 @@ static int is_same(int fd, const char *path)
 
 int hold_file(held_file *h, const char *path, unsigned seconds)
 {
-    int64_t until = now() + 1000 * (int64_t)seconds;
+    int64_t until = milliseconds() + 1000 * (int64_t)seconds;
     int is_told = 0;
     h->fd = -1;
     h->path = realpath(path, NULL);
@@ -367,6 +383,7 @@ int replace_held(const held_file *h, const uint8_t *bytes, size_t len)
 {
     struct stat old;
     if (h->fd < 0) return write_beside(h->path, NULL, 1, bytes, len);
+    if (!is_same(h->fd, h->path)) return fault("another file has come in its place");
     return fstat(h->fd, &old) == 0 ? write_beside(h->path, &old, 0, bytes, len) : system_fault();
 }
 

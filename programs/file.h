@@ -21,8 +21,12 @@ const char *shown_path(const char *path);
  * as it was. */
 int replace_file(const char *path, const uint8_t *bytes, size_t len);
 
-/* Do two paths lead to one regular file? */
-int is_same_file(const char *path, const char *other);
+/* Do an input, "-" for standard input, and a path lead to one regular file? */
+int is_same_file(const char *input, const char *path);
+
+/* Opens those of standard input, output and error that are closed, so that no file that is opened later takes their place and
+ * gets what is printed. */
+void open_standard_files(void);
 
 /* Writes to standard output, all of it. Gives 0 or -1. */
 int write_out(const uint8_t *bytes, size_t len);

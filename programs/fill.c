@@ -35,21 +35,22 @@ static const char help[] =
     "byte: %25 for a percent sign, %3C for <, %3E for >, %0A for a line feed. A\n"
     "single < or > stands for itself. Three or more together, >> outside a mark,\n"
     "<< in a mark, a mark with nothing in it, one that its line does not close and\n"
-    "any other percent sign are refused.\n"
+    "any other percent sign are refused, with line and column (counted in bytes).\n"
     "\n"
     "Options, before or between the arguments:\n"
     "  -q, --quiet   do not say what was filled\n"
     "  --unmarked    take a manual in which nothing is marked\n"
     "  --binary      take a manual that has zero bytes or begins as UTF-16\n"
+    "  --empty       take entries whose text is empty\n"
     "  --help        print this\n"
     "  --version     print the version\n"
     "  --            what follows is no option\n"
     "\n"
-    "Exit status: 0 filled, 1 terms are absent, 2 the dictionary, the manual or an\n"
-    "argument is refused.\n";
+    "Exit status: 0 filled, 1 terms are absent or have an empty text, 2 the\n"
+    "dictionary, the manual or an argument is refused.\n";
 
 typedef struct {
-    int is_quiet, takes_unmarked, takes_binary;
+    int is_quiet, takes_unmarked, takes_binary, takes_empty;
     const char *arguments[MOST_ARGUMENTS];
     int count; /* of arguments */
 } options;
@@ -71,13 +72,6 @@ static int read_manual(manual *m, const char *path)
     return failed;
 }
 
-/* Does the manual begin with the byte order mark of UTF-16, in either order? */
-static int is_utf16(const manual *m)
-{
-    const uint8_t *at = m->content;
-    return m->len >= 2 && ((at[0] == 0xFF && at[1] == 0xFE) || (at[0] == 0xFE && at[1] == 0xFF));
-}
-
 /* Where a byte of the manual stands. */
 static place place_of(const manual *m, const uint8_t *byte)
 {
@@ -92,10 +86,11 @@ static place place_of(const manual *m, const uint8_t *byte)
 /* Says what shows that the manual is no text of bytes, and gives -1; else gives 0. */
 static int refuse_binary(const manual *m)
 {
-    const uint8_t *evidence = is_utf16(m) ? m->content : memchr(m->content, 0, m->len);
+    int as_utf16 = is_utf16((bytes){ m->content, m->len });
+    const uint8_t *evidence = as_utf16 ? m->content : memchr(m->content, 0, m->len);
     if (!evidence) return 0;
     print_place(stderr, m->name, place_of(m, evidence));
-    fputs(is_utf16(m) ? "begins as UTF-16 does" : "a zero byte, as UTF-16 has them", stderr);
+    fputs(as_utf16 ? "begins as UTF-16 does" : "a zero byte, as UTF-16 has them", stderr);
     fputs("; --binary takes the manual as it is\n", stderr);
     return -1;
 }
@@ -162,8 +157,9 @@ static int write_filled(const manual *m, const char *path, int is_quiet)
 /* Refuses an output that is the dictionary or the manual: it would be lost. Gives 0 or -1. */
 static int test_output(const options *o)
 {
-    for (int i = 0; i < 2; i++) {
-        if (!o->arguments[2] || !is_same_file(o->arguments[i], o->arguments[2])) continue;
+    int is_file = o->arguments[2] && strcmp(o->arguments[2], "-") != 0;
+    for (int i = 0; is_file && i < 2; i++) {
+        if (!is_same_file(o->arguments[i], o->arguments[2])) continue;
         fprintf(stderr, "%s: not written: it is the %s\n", o->arguments[2], i == 0 ? "dictionary" : "manual");
         return -1;
     }
@@ -174,7 +170,7 @@ static int fill(const book *b, manual *m, const options *o)
 {
     if (test_output(o) != 0 || read_manual(m, o->arguments[1]) != 0 || find_marks(m, o) != 0) return STATUS_REFUSED;
     look_up_terms(b, &m->marks, &m->terms);
-    int status = report_terms(m->name, b, &m->marks, &m->terms);
+    int status = report_terms(m->name, b, &m->marks, &m->terms, o->takes_empty);
     return status == STATUS_DONE ? write_filled(m, o->arguments[2], o->is_quiet) : status;
 }
 
@@ -194,6 +190,7 @@ static int take_option(options *o, const char *option)
     if (strcmp(option, "-q") == 0 || strcmp(option, "--quiet") == 0) o->is_quiet = 1;
     else if (strcmp(option, "--unmarked") == 0) o->takes_unmarked = 1;
     else if (strcmp(option, "--binary") == 0) o->takes_binary = 1;
+    else if (strcmp(option, "--empty") == 0) o->takes_empty = 1;
     else {
         fprintf(stderr, "fill: no such option: %s; fill --help says which there are\n", option);
         return STATUS_REFUSED;
@@ -220,6 +217,7 @@ static int read_arguments(options *o, int argc, char **argv)
 int main(int argc, char **argv)
 {
     options o = { 0 };
+    open_standard_files();
     int status = read_arguments(&o, argc, argv);
     if (status >= 0) return status;
     book b;

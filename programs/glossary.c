@@ -7,6 +7,7 @@
 #define _POSIX_C_SOURCE 200809L
 #include <errno.h>
 #include <inttypes.h>
+#include <signal.h>
 #include <stdio.h>
 #include <stdlib.h>
 #include <string.h>
@@ -26,13 +27,12 @@ typedef struct {
     unsigned wait;
 } options;
 
-/* A command at work: the dictionary, its file, the same as messages show it, the arguments behind that, and the list that
- * they name or are. */
+/* A command at work: the dictionary, its file, the arguments behind that, and the list that they name or are. */
 typedef struct {
     book b;
-    const char *file, *path;
+    const char *path;
     char **args;
-    int count, is_new;
+    int count, is_new, is_saved;
     list l;
     options told;
 } task;
@@ -71,24 +71,35 @@ static int print_figures(task *t)
     return STATUS_DONE;
 }
 
-/* Writes the changed dictionary and says what it holds. */
+/* Writes the changed dictionary and says what it holds. From then on a reader of standard output that is gone does not end
+ * the program, which would tell of a failure. */
 static int save(task *t)
 {
+    signal(SIGPIPE, SIG_IGN);
     int status = book_save(&t->b, t->path);
-    return status == STATUS_DONE ? print_figures(t) : status;
+    t->is_saved = status == STATUS_DONE;
+    return t->is_saved ? print_figures(t) : status;
 }
 
-/* Says what a merging would do with an entry. */
-static void print_plan(const item *x, const entry *stored)
+/* Prints a text, and its attribute if that is to be seen. */
+static void print_text(bytes text, int attribute, int is_shown)
 {
+    print_quoted(stdout, text);
+    if (is_shown) printf(" (0x%02X)", (unsigned)attribute);
+}
+
+/* Says what a merging would do with an entry; attributes only where they differ. */
+static void print_plan(const item *x, int attribute, const entry *stored)
+{
+    int is_shown = stored && stored->attribute != attribute;
     fputs(stored ? "would replace " : "would add ", stdout);
     print_quoted(stdout, x->headword);
     fputs(": ", stdout);
     if (stored) {
-        print_quoted(stdout, text_of(stored));
+        print_text(text_of(stored), stored->attribute, is_shown);
         fputs(" by ", stdout);
     }
-    print_quoted(stdout, x->text);
+    print_text(x->text, attribute, is_shown);
     putchar('\n');
 }
 
@@ -105,9 +116,9 @@ static uint32_t put(task *t, const item *x, tally *n)
         n->same++;
         return PDIC_DONE;
     }
-    if (t->told.dry_run) print_plan(x, is_stored ? &stored : NULL);
-    else number = book_insert(&t->b, x->headword, (uint8_t)attribute, x->text);
-    if (number != PDIC_DONE && number != PDIC_ABSENT) return number;
+    number = book_insert(&t->b, x->headword, (uint8_t)attribute, x->text);
+    if (number != PDIC_DONE) return number;
+    if (t->told.dry_run) print_plan(x, attribute, is_stored ? &stored : NULL);
     if (is_stored) n->replaced++;
     else n->added++;
     return PDIC_DONE;
@@ -130,14 +141,21 @@ static int put_all(task *t, tally *n)
     return STATUS_DONE;
 }
 
+/* Writes the dictionary if an entry of it is new. */
+static int save_changes(task *t, const tally *n)
+{
+    return t->is_new || n->added + n->replaced > 0 ? save(t) : print_figures(t);
+}
+
 static int merge(task *t)
 {
     tally n = { 0 };
     int status = put_all(t, &n);
-    if (status == STATUS_DONE && !t->told.dry_run) status = save(t);
-    if (status == STATUS_DONE)
-        printf("%s: %zu added, %zu replaced, %zu as stored%s\n", t->l.path, n.added, n.replaced, n.same,
-               t->told.dry_run ? " (nothing is written)" : "");
+    if (status == STATUS_DONE && t->told.dry_run)
+        printf("%s: %zu would be added, %zu replaced, %zu are as stored; nothing is written\n", t->l.path, n.added, n.replaced, n.same);
+    if (status != STATUS_DONE || t->told.dry_run) return status;
+    status = save_changes(t, &n);
+    if (status == STATUS_DONE) printf("%s: %zu added, %zu replaced, %zu as stored\n", t->l.path, n.added, n.replaced, n.same);
     return status;
 }
 
@@ -153,7 +171,7 @@ static int add(task *t)
         return STATUS_REFUSED;
     }
     uint32_t number = put(t, &x, &n);
-    return number == PDIC_DONE ? save(t) : refused(t->path, x.headword, number);
+    return number == PDIC_DONE ? save_changes(t, &n) : refused(t->path, x.headword, number);
 }
 
 /* Does something with each headword of the list. Gives the gravest status. */
@@ -167,10 +185,22 @@ static int for_each(task *t, int (*act)(task *t, bytes headword))
     return status;
 }
 
+/* Says that a headword is absent because it stands among the arguments twice; gives 0 where it does not. */
+static int is_named_twice(const task *t, bytes headword)
+{
+    int count = 0;
+    for (size_t i = 0; i < t->l.count; i++) count += compare_bytes(t->l.items[i].headword, headword) == 0;
+    if (count < 2) return 0;
+    fprintf(stderr, "%s: ", t->path);
+    print_quoted(stderr, headword);
+    fputs(" is named twice\n", stderr);
+    return 1;
+}
+
 static int delete_one(task *t, bytes headword)
 {
     uint32_t number = book_delete(&t->b, headword);
-    if (number == PDIC_ABSENT) return absent(t, headword);
+    if (number == PDIC_ABSENT) return is_named_twice(t, headword) ? STATUS_REFUSED : absent(t, headword);
     return number == PDIC_DONE ? STATUS_DONE : refused(t->path, headword, number);
 }
 
@@ -227,7 +257,8 @@ static int print_entries(task *t, bytes from, bytes prefix, void (*print)(const 
 {
     size_t all = figures_of(&t->b).headwords;
     entry e;
-    uint32_t number = book_walk(&t->b, compare_bytes(from, prefix) < 0 ? prefix : from, 0, &e);
+    if (compare_bytes(from, prefix) < 0) from = prefix;
+    uint32_t number = book_walk(&t->b, from, 0, &e);
     for (size_t i = 0; number == PDIC_DONE && begins_with(&e, prefix); i++) {
         print(&e);
         if (!isatty(STDOUT_FILENO)) progress("entries listed", i, all);
@@ -256,11 +287,14 @@ static int dump(task *t)
 
 static int seal(task *t)
 {
-    if (t->path != t->file || write_seal(t->file, (bytes){ t->b.image, t->b.len }) != 0) {
-        fprintf(stderr, "%s: not sealed: %s\n", t->path, t->path != t->file ? "it is no file" : file_fault());
+    if (write_seal(t->path, (bytes){ t->b.image, t->b.len }) != 0) {
+        fprintf(stderr, "%s: not sealed: %s\n", t->path, file_fault());
         return STATUS_REFUSED;
     }
-    printf("%s: sealed\n", t->path);
+    char *path = seal_path(t->path), *slash = strrchr(path, '/');
+    t->is_saved = 1;
+    printf("%s: sealed in %s\n", t->path, slash ? slash + 1 : path);
+    free(path);
     return STATUS_DONE;
 }
 
@@ -281,11 +315,11 @@ static const command commands[] = {
     { "add", NULL, "FILE HEADWORD TEXT", "add an entry or replace it", 2, 2, WORDS, CHANGES, ATTRIBUTE, add },
     { "delete", NULL, "FILE HEADWORD..", "remove entries, all of them or none", 1, -1, HEADWORD_LIST, CHANGES, 0, delete },
     { "look", "find", "FILE HEADWORD..", "print an entry's text, or a list of several", 1, -1, HEADWORD_LIST, READS, 0, look },
-    { "list", NULL, "FILE [PREFIX]", "print the entries, or those that begin so", 0, 1, WORDS, READS, FROM, print_list },
+    { "list", NULL, "FILE [PREFIX]", "print the entries, or those that begin so, to read", 0, 1, WORDS, READS, FROM, print_list },
     { "dump", NULL, "FILE", "print all entries as a table for make and merge", 0, 0, WORDS, READS, 0, dump },
     { "check", NULL, "FILE", "print what the dictionary holds", 0, 0, WORDS, READS, 0, print_figures },
     { "optimise", NULL, "FILE", "give the free blocks up", 0, 0, WORDS, CHANGES, 0, optimise },
-    { "seal", NULL, "FILE", "write its digest to FILE.sha256", 0, 0, WORDS, READS, 0, seal },
+    { "seal", NULL, "FILE", "write its digest to FILE.sha256", 0, 0, WORDS, CHANGES, 0, seal },
 };
 enum { COMMANDS = sizeof commands / sizeof commands[0] };
 
@@ -318,7 +352,8 @@ static void print_help(const command *only)
          "is a table: a first line of column names, %headword, attribute, text, and %XX\n"
          "for a byte, such as %09 for a tab and %25 for a percent sign. dump prints such\n"
          "a table. - as LIST, or as the only HEADWORD, is standard input. -- ends the\n"
-         "options. find is another word for look.\n\n"
+         "options. find is another word for look. What list and look print of several\n"
+         "entries is to be read: control bytes are spaces.\n\n"
          "A sealed dictionary, with FILE.sha256 beside it, is read only while its bytes\n"
          "are those that were sealed, and is not changed. Remove FILE.sha256 to change it.\n\n"
          "Exit status: 0 done, 1 a headword is absent, 2 the file, the list or an\n"
@@ -402,18 +437,17 @@ static int read_arguments(const command *c, task *t)
 /* Opens the dictionary that is there, for a change or for reading. */
 static int open_book(const command *c, task *t)
 {
-    int is_held = c->use == CHANGES && !t->told.dry_run;
-    return is_held ? book_hold(&t->b, t->file, t->told.wait) : book_load(&t->b, t->file);
+    if (c->use == READS) return book_load(&t->b, t->path);
+    return t->told.dry_run ? book_load_to_change(&t->b, t->path) : book_hold(&t->b, t->path, t->told.wait);
 }
 
 /* Runs a command. A new file's place is looked at first, and a dictionary is held only when its list has been read. */
 static int run(const command *c, task *t)
 {
-    t->file = *t->args++;
+    t->path = *t->args++;
     t->count--;
-    t->path = shown_path(t->file);
     t->is_new = c->use == MAKES;
-    int status = t->is_new ? book_create(&t->b, t->file) : STATUS_DONE;
+    int status = t->is_new ? book_create(&t->b, t->path) : STATUS_DONE;
     if (status == STATUS_DONE) status = read_arguments(c, t);
     if (status == STATUS_DONE && !t->is_new) status = open_book(c, t);
     if (status == STATUS_DONE) status = c->run(t);
@@ -422,12 +456,12 @@ static int run(const command *c, task *t)
     return status;
 }
 
-/* Sees that standard output took all that was printed. */
-static int finish(int status)
+/* Sees that standard output took all that was printed. A file that is written stays so, whatever could be said of it. */
+static int finish(int status, int is_saved)
 {
     if (fflush(stdout) == 0 && !ferror(stdout)) return status;
-    fprintf(stderr, "standard output: %s\n", strerror(errno));
-    return STATUS_REFUSED;
+    fprintf(stderr, "standard output: %s%s\n", strerror(errno), is_saved ? "; the file is written" : "");
+    return is_saved ? status : STATUS_REFUSED;
 }
 
 /* Does a word ask for help, or for the version? Then it is answered. */
@@ -443,13 +477,15 @@ int main(int argc, char **argv)
 {
     char *bad;
     task t = { .b = { .file = { .fd = -1 } }, .told = { .attribute = -1, .wait = WAIT } };
+    open_standard_files();
     if (argc < 2) return usage("a command is missing", "");
-    if (is_question(argv[1], NULL)) return finish(STATUS_DONE);
+    if (is_question(argv[1], NULL)) return finish(STATUS_DONE, 0);
     const command *c = command_called(argv[1]);
     if (!c) return usage("no command is called ", argv[1]);
     for (int i = 2; i < argc && strcmp(argv[i], "--") != 0; i++)
-        if (is_question(argv[i], c)) return finish(STATUS_DONE);
-    if (read_words(c, argc - 2, argv + 2, &t, &bad) != 0) return usage("no such option, or no such value: ", bad);
+        if (is_question(argv[i], c)) return finish(STATUS_DONE, 0);
+    if (read_words(c, argc - 2, argv + 2, &t, &bad) != 0) return usage("no such option, or no such value (-- ends the options): ", bad);
     if (t.count < 1 + c->least || (c->most >= 0 && t.count > 1 + c->most)) return usage("the arguments are ", c->takes);
-    return finish(run(c, &t));
+    int status = run(c, &t);
+    return finish(status, t.is_saved);
 }

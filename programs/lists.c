@@ -1,6 +1,7 @@
 #include "lists.h"
 #include <stdlib.h>
 #include <string.h>
+#include "alike.h"
 
 enum { LONGEST_LIST = 1 << 30, MOST_COLUMNS = 3, MOST_TOLD = 20 };
 
@@ -70,21 +71,6 @@ static int tell_faults(reading *r)
     return -1;
 }
 
-/* The blanks that can stand unseen at a headword's end: space, no-break spaces, ideographic spaces (UTF-8 and Shift JIS),
- * and the mark that begins UTF-8 files. */
-static const char *const blanks[] = { " ", "\xC2\xA0", "\xE2\x80\xAF", "\xE3\x80\x80", "\x81\x40", "\xEF\xBB\xBF" };
-enum { BLANKS = sizeof blanks / sizeof blanks[0] };
-
-/* How many bytes the blank at the front, or at the end, takes; 0 where there is none. */
-static size_t blank_at(bytes b, int is_end)
-{
-    for (size_t i = 0; i < BLANKS; i++) {
-        size_t len = strlen(blanks[i]);
-        if (b.len >= len && memcmp(is_end ? b.at + b.len - len : b.at, blanks[i], len) == 0) return len;
-    }
-    return 0;
-}
-
 /* Is there a control byte? */
 static int has_control(bytes b)
 {
@@ -93,18 +79,15 @@ static int has_control(bytes b)
     return 0;
 }
 
-static const char blank_words[] = "begins or ends with a blank; a table can have it as %XX";
+static const char blank_words[] = "begins or ends with a blank or a sign that nobody sees; a table can have it as %XX";
 static const char control_words[] = "has a control byte, in it or in its text; a table can have it as %XX";
-
-static int has_blank_end(bytes headword)
-{
-    return blank_at(headword, 0) || blank_at(headword, 1);
-}
+static const char empty_words[] = "has no text; a table can have that";
 
 const char *unseen_in(bytes headword, bytes text)
 {
     if (has_control(headword) || has_control(text)) return control_words;
-    return has_blank_end(headword) ? blank_words : NULL;
+    if (has_unseen_end(headword)) return blank_words;
+    return text.len == 0 ? empty_words : NULL;
 }
 
 /* Cuts the next column off a line. */
@@ -183,8 +166,9 @@ static bytes column_bytes(reading *r, bytes written, size_t number)
 static void read_headword(reading *r, item *x, bytes written)
 {
     size_t faults = r->fault_count;
-    if (has_blank_end(written)) add_fault(r, (fault){ .line = x->line, .shown = written, .words = blank_words });
-    x->headword = column_bytes(r, written, x->line);
+    x->headword = written;
+    if (has_unseen_end(written)) add_fault(r, (fault){ .line = x->line, .shown = written, .words = blank_words });
+    else x->headword = column_bytes(r, written, x->line);
     if (r->fault_count > faults) return;
     if (x->headword.len == 0 || x->headword.len > PDIC_MAX_HEADWORD || memchr(x->headword.at, 0, x->headword.len))
         add_fault(r, (fault){ .line = x->line, .shown = x->headword, .number = PDIC_BAD_HEADWORD });
@@ -192,6 +176,7 @@ static void read_headword(reading *r, item *x, bytes written)
 
 static void read_text(reading *r, item *x, bytes written)
 {
+    if (written.len == 0 && !r->is_table) add_fault(r, (fault){ .line = x->line, .shown = x->headword, .words = empty_words });
     x->text = column_bytes(r, written, x->line);
     if (x->text.len > PDIC_MAX_TEXT || (x->text.len && memchr(x->text.at, 0, x->text.len)))
         add_fault(r, (fault){ .line = x->line, .shown = x->headword, .number = PDIC_BAD_TEXT });
@@ -216,10 +201,11 @@ static void read_line(reading *r, bytes line, size_t number)
         return;
     }
     for (size_t i = 0; i < r->column_count; i++) {
-        if (has_control(columns[i])) {
-            add_fault(r, (fault){ .line = number, .shown = columns[0], .words = control_words });
-            return;
-        }
+        if (!has_control(columns[i])) continue;
+        add_fault(r, (fault){ .line = number, .shown = columns[0], .words = control_words });
+        return;
+    }
+    for (size_t i = 0; i < r->column_count; i++) {
         if (r->columns[i] == HEADWORD) read_headword(r, &x, columns[i]);
         else if (r->columns[i] == TEXT) read_text(r, &x, columns[i]);
         else read_number(r, &x, columns[i]);
@@ -229,10 +215,11 @@ static void read_line(reading *r, bytes line, size_t number)
     l->items[l->count++] = x;
 }
 
-/* Reads all lines. */
+/* Reads all lines; the first that is not empty says whether the list is a table. */
 static void read_lines(reading *r, bytes content)
 {
     const uint8_t *at = content.at, *end = at + content.len;
+    int is_first = 1;
     plain_columns(r);
     for (size_t number = 1; at < end; number++) {
         const uint8_t *stop = memchr(at, '\n', (size_t)(end - at)), *next = stop ? stop + 1 : end;
@@ -240,12 +227,13 @@ static void read_lines(reading *r, bytes content)
         if (line.len > 0 && line.at[line.len - 1] == '\r') line.len--;
         at = next;
         if (line.len == 0) continue;
-        r->is_table |= number == 1 && line.len >= 9 && memcmp(line.at, "%headword", 9) == 0;
-        if (number == 1 && r->is_table) {
+        r->is_table |= is_first && line.len >= 9 && memcmp(line.at, "%headword", 9) == 0;
+        if (is_first && r->is_table) {
             if (read_columns(r, line, number) != 0) return;
         } else {
             read_line(r, line, number);
         }
+        is_first = 0;
     }
 }
 
@@ -284,7 +272,7 @@ int read_list(list *l, const char *path, wanted what)
     }
     reading r = { .l = l, .what = what };
     bytes content = { l->content, l->len };
-    if (content.len >= 2 && (memcmp(content.at, "\xFF\xFE", 2) == 0 || memcmp(content.at, "\xFE\xFF", 2) == 0)) {
+    if (is_utf16(content)) {
         add_fault(&r, (fault){ .line = 1, .words = "UTF-16; a list has the bytes that the dictionary is to have" });
     } else {
         size_t mark = content.len >= 3 && memcmp(content.at, "\xEF\xBB\xBF", 3) == 0 ? 3 : 0;
@@ -320,7 +308,7 @@ static void print_column(FILE *out, bytes b, size_t first, size_t last)
 void print_row(FILE *out, const entry *e)
 {
     bytes headword = headword_of(e);
-    print_column(out, headword, blank_at(headword, 0), blank_at(headword, 1));
+    print_column(out, headword, unseen_bytes(headword, 0), unseen_bytes(headword, 1));
     fprintf(out, "\t0x%02X\t", (unsigned)e->attribute);
     print_column(out, text_of(e), 0, 0);
     putc('\n', out);

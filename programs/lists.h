@@ -3,8 +3,8 @@
  * A plain list has one entry on each line, headword and text with one tab between. A table begins with a line that names
  * its columns, "%headword", "attribute", "text", with tabs between; in it %XX, a percent sign and two hexadecimal digits,
  * stands for a byte, so that it can hold every entry. Lines end in LF or CR LF, empty ones are passed over, and so is a
- * UTF-8 mark at the front. Nothing is stored that nobody sees: a headword with a blank at one of its ends, a control byte,
- * or a headword that stands there twice is a fault, unless a table has these bytes as %XX. */
+ * UTF-8 mark at the front. Nothing is stored that nobody sees: a headword with a blank at one of its ends, a control byte or
+ * an entry without a text is a fault, unless a table has it. So is a headword that stands there twice. */
 #ifndef LISTS_H
 #define LISTS_H
 
@@ -34,8 +34,8 @@ int read_list(list *l, const char *path, wanted what);
 
 void free_list(list *l);
 
-/* What of an entry that stands plainly would be stored though nobody sees it, in words, or NULL: a control byte, or a blank
- * at one of the headword's ends. */
+/* What of an entry that stands plainly would be stored though nobody sees it, in words, or NULL: a control byte, a blank or
+ * the like at one of the headword's ends, no text. */
 const char *unseen_in(bytes headword, bytes text);
 
 /* An attribute as a number, 0x and hexadecimal digits or decimal; -1 where it is none that an entry may have. */

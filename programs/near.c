@@ -143,7 +143,7 @@ void print_absent(FILE *out, const book *b, bytes absent)
     if (o.count > 0) print_alike(out, &o, absent);
     else {
         offer_near(b, &o, absent);
-        fputs(o.count ? "near it: " : "nothing comes after it", out);
+        fputs(o.count ? "near it: " : "nothing is near it", out);
         print_offers(out, &o, print_quoted);
     }
     putc('\n', out);

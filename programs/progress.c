@@ -1,6 +1,5 @@
 #define _POSIX_C_SOURCE 200809L
 #include "progress.h"
-#include <stdint.h>
 #include <stdio.h>
 #include <time.h>
 #include <unistd.h>
@@ -8,7 +7,7 @@
 static int shown;           /* there is a line */
 static int64_t next_time;   /* of the next line, in milliseconds; 0 before the first call */
 
-static int64_t now(void)
+int64_t milliseconds(void)
 {
     struct timespec t;
     clock_gettime(CLOCK_MONOTONIC, &t);
@@ -18,7 +17,7 @@ static int64_t now(void)
 void progress(const char *what, size_t done, size_t all)
 {
     if (!isatty(STDERR_FILENO)) return;
-    int64_t time = now();
+    int64_t time = milliseconds();
     if (next_time == 0) next_time = time + 300;
     if (time < next_time) return;
     fprintf(stderr, "\r%s: %zu of %zu", what, done, all);

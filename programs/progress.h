@@ -3,6 +3,10 @@
 #define PROGRESS_H
 
 #include <stddef.h>
+#include <stdint.h>
+
+/* A clock that never goes back, in milliseconds. */
+int64_t milliseconds(void);
 
 /* Shows "WHAT: DONE of ALL" on standard error, if that is a terminal: from the third tenth of a second on, ten
  * times a second at most. */

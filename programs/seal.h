@@ -8,6 +8,9 @@
 
 enum { NOT_SEALED, SEALED, SEAL_BROKEN };
 
+/* The name of a file's seal, where symbolic links lead; the caller frees it. */
+char *seal_path(const char *path);
+
 /* What the seal of a file says of its bytes. One that cannot be read is broken. */
 int test_seal(const char *path, bytes b);
 

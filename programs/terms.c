@@ -59,20 +59,36 @@ void look_up_terms(const book *b, mark_list *marks, term_list *found)
     free(sorted);
 }
 
-int report_terms(const char *name, const book *b, const mark_list *marks, const term_list *terms)
+/* Has a term nothing to put in? */
+static int is_without(const term *t, int takes_empty)
+{
+    return t->number != PDIC_DONE || (t->text_len == 0 && !takes_empty);
+}
+
+/* Says why a term has nothing to put in. */
+static void print_why(const book *b, const term *t)
+{
+    if (t->number == PDIC_ABSENT) print_absent(stderr, b, t->first->headword);
+    else if (t->number != PDIC_DONE) print_refused(stderr, t->first->headword, t->number);
+    else {
+        print_quoted(stderr, t->first->headword);
+        fputs(" has an empty text; --empty takes it\n", stderr);
+    }
+}
+
+int report_terms(const char *name, const book *b, const mark_list *marks, const term_list *terms, int takes_empty)
 {
     size_t without = 0;
     int status = STATUS_DONE;
     for (size_t i = 0; i < marks->count; i++) {
         const mark *m = &marks->all[i];
         const term *t = m->sign ? NULL : &terms->all[m->term];
-        if (!t || t->number == PDIC_DONE || t->first != m) continue;
-        if (t->number != PDIC_ABSENT) status = STATUS_REFUSED;
+        if (!t || t->first != m || !is_without(t, takes_empty)) continue;
+        if (t->number != PDIC_ABSENT && t->number != PDIC_DONE) status = STATUS_REFUSED;
         else if (status == STATUS_DONE) status = STATUS_ABSENT;
         if (without++ >= MOST_TOLD) continue;
         print_place(stderr, name, m->where);
-        if (t->number == PDIC_ABSENT) print_absent(stderr, b, m->headword);
-        else print_refused(stderr, m->headword, t->number);
+        print_why(b, t);
     }
     if (without > MOST_TOLD) {
         fprintf(stderr, "%s: and ", name);

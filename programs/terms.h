@@ -22,9 +22,10 @@ typedef struct {
 /* Looks the headwords of the marks up, each once, and gives every mark its term. */
 void look_up_terms(const book *b, mark_list *marks, term_list *found);
 
-/* Says of the terms that have no text why not: of the first hundred in the manual, then how many more there are. Gives the
- * program's status: done where all have a text, else absent, or refused where one is refused. */
-int report_terms(const char *name, const book *b, const mark_list *marks, const term_list *terms);
+/* Says of the terms that have no text, or an empty one unless that is taken, why not: of the first hundred in the manual, then
+ * how many more there are. Gives the program's status: done where all have a text, else absent, or refused where one is
+ * refused. */
+int report_terms(const char *name, const book *b, const mark_list *marks, const term_list *terms, int takes_empty);
 
 /* What a mark is replaced by. */
 bytes text_of_mark(const mark *m, const term_list *terms);

@@ -8,9 +8,11 @@ import re
 import subprocess
 import sys
 
-BLANKS = (b' ', b'\xc2\xa0', b'\xe2\x80\xaf', b'\xe3\x80\x80', b'\x81\x40', b'\xef\xbb\xbf')
-PIECES = [b'a', b'valve', b' ', b'%', b'%41', b'%20', b'%00', b'\t', b'\t', b'\r', b'\x01', b'\xc2\xa0', b'\x95\x5c', b'\xe9', b'<', b'\\']
-PLAIN = [b'a', b'b', b'valve', b'c d', b'%41', b'\xe9', b'\x95\x5c', b'<<', b'7', b'-']
+# what nobody sees at a headword's end: by Unicode's general categories separators, formats and controls, as far as the program knows them
+UNSEEN = ' \u00a0\u00ad\u2028\u2029\u202f\u205f\u2060\u3000\ufeff' + ''.join(map(chr, [*range(0x80, 0xa0), *range(0x2000, 0x2010)]))
+PIECES = [b'a', b'valve', b' ', b'%', b'%41', b'%20', b'%00', b'\t', b'\t', b'\r', b'\x01', b'\xc2\xa0', b'\x95\x5c', b'\xe9', b'<', b'\\',
+          b'\x81\x40', b'\xc3\x81@', b'\x82\x81@', b'\xe2\x80\x89', b'\xe2\x80\x8b', b'\xc2\x85', b'\xe3\x80\x80']
+PLAIN = [b'a', b'b', b'valve', b'c d', b'%41', b'\xe9', b'\x95\x5c', b'<<', b'7', b'-', b'\xc3\x81@', b'\x82\x81@', b'\xe2\x80\x89m']
 
 
 def glossary(*arguments, text=b''):
@@ -74,6 +76,16 @@ def round_trip(rng):
     return len(rows)
 
 
+def ends(headword):
+    """The first and the last character of a headword: of UTF-8 if it is that, else of Shift JIS."""
+    try:
+        characters = headword.decode()
+    except UnicodeDecodeError:
+        characters = re.findall(rb'[\x81-\x9f\xe0-\xfc][\x40-\x7e\x80-\xff]|.', headword, re.S)
+        return ['\u3000' if c == b'\x81\x40' else c.decode('latin-1') if c < b'\x80' else 'x' for c in (characters[0], characters[-1])]
+    return [characters[0], characters[-1]]
+
+
 def faulty_lines(content):
     """the lines of a plain list that break a rule"""
     faults, seen = set(), {}
@@ -86,7 +98,7 @@ def faulty_lines(content):
             faults.add(number)
             continue
         headword, text = columns
-        if not 1 <= len(headword) <= 248 or len(text) > 3000 or headword.startswith(BLANKS) or headword.endswith(BLANKS):
+        if not 1 <= len(headword) <= 248 or not 1 <= len(text) <= 3000 or any(end in UNSEEN for end in ends(headword)):
             faults.add(number)
         if headword in seen and headword:
             faults.add(number)

@@ -59,7 +59,7 @@ def model(manual):
     if fault or not marks:
         return 2, b'', fault, None
     terms = {inside: headword(inside) for _, inside in marks if inside not in SIGNS}
-    missing = [place for place, inside in marks if inside in terms and terms[inside] not in ENTRIES]
+    missing = [place for place, inside in marks if inside in terms and not ENTRIES.get(terms[inside])]
     if missing:
         return 2 if any(b'\0' in word or len(word) > 248 for word in terms.values()) else 1, b'', missing[0], None
     out = re.sub(MARK, lambda mark: SIGNS.get(mark[1]) or ENTRIES[headword(mark[1])], manual)
@@ -83,11 +83,9 @@ def manual_of(seed, k):
 
 
 def make_dictionary(glossary):
-    with open('none.tsv', 'w'):
-        pass
-    subprocess.run([glossary, 'make', 'terms.dic', 'none.tsv'], stdout=subprocess.DEVNULL, check=True)
-    for word, text in ENTRIES.items():
-        subprocess.run([glossary, 'add', 'terms.dic', word, text], stdout=subprocess.DEVNULL, check=True)
+    rows = [b'\t'.join(''.join(f'%{byte:02X}' for byte in part).encode() for part in entry) for entry in ENTRIES.items()]
+    table = b'\n'.join([b'%headword\ttext', *rows])
+    subprocess.run([glossary, 'make', 'terms.dic', '-'], input=table, stdout=subprocess.DEVNULL, check=True)
 
 
 def main():

@@ -42,6 +42,26 @@ chmod 444 out.txt
 run fill mode.dic short.txt out.txt
 cat out.txt
 
+note "a second name would keep the old dictionary"
+ln kept/real.dic second.dic
+run glossary add kept/real.dic horn2 avertisseur
+rm second.dic
+
+note "standard output and error are closed, or nobody reads what they say"
+cp kept/real.dic closed.dic
+cp kept/real.dic whole.dic
+$wrapper "$programs/glossary" delete closed.dic nosuch 2>&- || echo "[$?]"
+$wrapper "$programs/glossary" add closed.dic ' x' y >&- 2>&- <&- || echo "[$?]"
+cmp closed.dic whole.dic
+full glossary add closed.dic horn2 avertisseur
+run glossary look closed.dic horn2
+$wrapper "$programs/glossary" delete closed.dic horn2 2>said.txt | :
+run glossary look closed.dic horn2
+long=$(letters 250 n)
+run glossary make "$long" machinery.tsv | cut -c 240-
+run glossary add "$long" x y | cut -c 240-
+rm "$long" closed.dic whole.dic
+
 note "FIFOs, a device that never ends, and folders"
 mkfifo pipe
 timeout 20 cat pipe >from-pipe.txt &
@@ -57,6 +77,10 @@ run glossary add . a b
 run fill kept/real.dic manual.txt kept
 run fill kept/real.dic manual.txt no/folder.txt
 run glossary check - <kept/real.dic
+run glossary add - a b <kept/real.dic
+run glossary make - machinery.tsv
+run fill - manual.txt <kept/real.dic
+[ ! -e ./- ]
 
 note "another program changes the dictionary"
 cp kept/real.dic shared.dic
@@ -69,12 +93,13 @@ wait
 run glossary add --wait=0 shared.dic horn2 avertisseur
 for wait in x -1 1s 86401 ''; do run glossary add --wait=$wait shared.dic a b; done
 
-note "files that a program left when it was ended are removed, those of a living one are not"
-: >.shared.dic.unfinished-Ab3dEf
-: >.shared.dic.unfinished-living
-: >.shared.dic.unfinished-toolong
-: >.other.dic.unfinished-Ab3dEf
-flock .shared.dic.unfinished-living sleep 3 &
+note "files that a program left when it was ended are removed, those of a living one and of a user are not"
+: >.shared.dic.unfinished-0000012345-Ab3dEf
+: >.shared.dic.unfinished-0000012345-living
+: >.shared.dic.unfinished-0000012345-toolong
+: >.shared.dic.unfinished-backup
+: >.other.dic.unfinished-0000012345-Ab3dEf
+flock .shared.dic.unfinished-0000012345-living sleep 3 &
 sleep 0.5
 run glossary add shared.dic horn3 avertisseur
 names
@@ -94,6 +119,7 @@ run glossary add sealed.dic horn2 avertisseur
 run glossary delete link-to-sealed.dic horn
 run glossary merge --dry-run sealed.dic machinery.tsv
 run glossary seal sealed.dic
+run glossary make sealed.dic machinery.tsv
 cp sealed.dic whole.dic
 printf X | dd of=sealed.dic bs=1 seek=531 conv=notrunc 2>said.txt
 cmp sealed.dic whole.dic | sed 's/.*differ/differ/'
@@ -105,6 +131,18 @@ cp whole.dic sealed.dic
 printf 'no digest' >sealed.dic.sha256
 run glossary check sealed.dic
 rm sealed.dic.sha256
+mkfifo sealed.dic.sha256
+run glossary check sealed.dic
+rm sealed.dic.sha256
+run glossary seal link-to-sealed.dic
+rm sealed.dic.sha256
+cp sealed.dic 'a\b.dic'
+run glossary seal 'a\b.dic'
+sha256sum -c 'a\b.dic.sha256'
+sha256sum 'a\b.dic' >sum.txt
+cmp sum.txt 'a\b.dic.sha256'
+run glossary check 'a\b.dic'
+printf x >made.dic.sha256
+run glossary make made.dic machinery.tsv
 run glossary add sealed.dic horn2 avertisseur
-run glossary seal - <sealed.dic
 run glossary seal missing.dic

@@ -16,6 +16,7 @@ full fill machinery.dic manual.txt
 full fill --help
 ln manual.txt other-name.txt
 for output in manual.txt ./machinery.dic other-name.txt; do run fill machinery.dic manual.txt $output; done
+run fill machinery.dic - manual.txt <manual.txt
 
 note "standard input and output"
 sed -n 11p manual.txt >line.txt
@@ -128,6 +129,11 @@ try_bytes '<<x>>\nabc\0000\n' --binary
 try '\0377\0376<\0000<\0000x\0000>\0000>\0000' --binary
 try_bytes '\0377\0376<\0000<\0000x\0000>\0000>\0000' --binary --unmarked
 try_bytes '\0377' --unmarked
+
+note "a text that is empty"
+stored nothing ''
+try 'a <<nothing>> <<x>> <<nothing>>\n'
+try 'a <<nothing>> <<x>>\n' --empty
 
 note "nothing is marked"
 try 'a < b\n'

@@ -24,6 +24,7 @@ run glossary list machinery.dic valve
 run glossary list machinery.dic --from=washer
 run glossary list machinery.dic --from='valve, c' valve
 run glossary list machinery.dic zzz
+run glossary list machinery.dic "$(letters 249 w)"
 run glossary list machinery.dic >listed
 tail -n +2 listed | cmp - machinery.tsv
 
@@ -39,16 +40,20 @@ run glossary delete changed.dic 'wear plate'
 run glossary delete changed.dic 'wear plate'
 run glossary check changed.dic
 run glossary optimise changed.dic
-printf 'coolant\tantigel\r\n\r\nadaptor\tadaptateur\n\nclutch\tembrayage\nflat\t' >more.tsv
+printf 'coolant\tantigel\r\n\r\nadaptor\tadaptateur\n\nclutch\tembrayage\nflat\tplat' >more.tsv
 cp changed.dic before.dic
 run glossary merge --dry-run changed.dic more.tsv
 cmp changed.dic before.dic
 run glossary merge changed.dic more.tsv
+before=$(stat -c '%i %Y' changed.dic)
 run glossary merge changed.dic more.tsv
+run glossary add changed.dic clutch embrayage
+[ "$(stat -c '%i %Y' changed.dic)" = "$before" ] || echo "written though nothing changed"
 run glossary look changed.dic coolant
 run glossary look changed.dic flat
 run glossary delete changed.dic adaptor absent flat also-absent
 run glossary look changed.dic adaptor
+run glossary delete changed.dic adaptor adaptor
 run glossary delete changed.dic adaptor flat
 run glossary delete changed.dic adaptor flat
 printf 'clutch\ncoolant\n' >unwanted.txt
@@ -57,12 +62,19 @@ run glossary delete changed.dic - <unwanted.txt
 note "what nobody sees is not stored"
 for headword in 'pump ' ' pump' "pump$(printf '\302\240')" "pump$(printf '\r')" "pu	mp"; do run glossary add changed.dic "$headword" pompe; done
 run glossary add changed.dic pump "pompe$(printf '\r')"
+run glossary add changed.dic pump ''
+run glossary add changed.dic "pump$(printf '\342\200\213')" pompe
+run glossary add changed.dic "$(printf '\302\205')pump" pompe
+run glossary add changed.dic "$(printf '\303\201@')" 'ends in no blank'
+run glossary add changed.dic "$(printf '\202\201@')" 'in Shift JIS neither'
 
 note "an entry's attribute is kept unless another is told"
 run glossary add --attribute=0xA3 changed.dic marked one
 run glossary add changed.dic marked two
 run glossary dump changed.dic >dumped
 grep marked dumped
+printf '%%headword\tattribute\ttext\nmarked\t0x80\ttwo\n' >marked.tsv
+run glossary merge --dry-run changed.dic marked.tsv
 printf 'marked\tthree\n' >marked.tsv
 run glossary merge changed.dic marked.tsv
 run glossary dump changed.dic >dumped

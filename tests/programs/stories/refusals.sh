@@ -22,5 +22,7 @@ done
 damaged reading 140 '\020'
 run glossary look reading.dic coolant
 run glossary delete reading.dic coolant
+printf 'x\ty\n' >one.tsv
+run glossary merge --dry-run reading.dic one.tsv
 run glossary optimise reading.dic
 
