@@ -6,7 +6,7 @@ includedir = $(PREFIX)/include
 mandir = $(PREFIX)/share/man
 
 engine = target/staticlib/libpdic.a
-library = target/lib/libpdic.a
+library = target/lib/libpdic.a target/lib/$(shared)
 programs = target/programs/fill target/programs/glossary
 proved = crates.txt $(shell find crates -name '*.rt' -o -name '*.antt')
 sources = include/pdic.h $(wildcard lib/* programs/*)
@@ -38,7 +38,7 @@ $(engine): $(proved)
 target/bin/list: $(engine)
 	@tools/engine.sh list
 
-$(library): $(engine) $(sources)
+$(library) &: $(engine) $(sources)
 	@lib/build.sh target/lib
 
 $(programs) &: $(engine) $(sources)
@@ -58,13 +58,13 @@ install: all
 	install $(programs) "$(DESTDIR)$(bindir)"
 	install target/bin/list "$(DESTDIR)$(bindir)/pdic-list"
 	install -m 644 include/pdic.h "$(DESTDIR)$(includedir)"
-	install -m 644 $(library) target/lib/$(shared) "$(DESTDIR)$(libdir)"
+	install -m 644 $(library) "$(DESTDIR)$(libdir)"
 	ln -sf $(shared) "$(DESTDIR)$(libdir)/libpdic.so"
 	lib/pc.sh "$(PREFIX)" "$(libdir)" "$(includedir)" | install -m 644 /dev/stdin "$(DESTDIR)$(libdir)/pkgconfig/pdic.pc"
 	install -m 644 $(addprefix man/,$(man1)) "$(DESTDIR)$(mandir)/man1"
 	install -m 644 man/pdic.3 "$(DESTDIR)$(mandir)/man3"
 	install -m 644 man/pdic.5 "$(DESTDIR)$(mandir)/man5"
-	@[ -n "$(DESTDIR)" ] || echo 'Type ldconfig as root, so that programs find the shared library.'
+	@[ -n "$(DESTDIR)" ] || echo 'Programs find the shared library after ldconfig (as root); below another PREFIX by LD_LIBRARY_PATH=$(libdir).'
 
 uninstall:
 	rm -f $(addprefix "$(DESTDIR)$(bindir)"/,$(notdir $(programs)) pdic-list) "$(DESTDIR)$(includedir)"/pdic.h \

@@ -18,6 +18,7 @@ The library is the one that the variable PDIC_LIBRARY names, else the installed 
 from __future__ import annotations
 
 import ctypes
+import hashlib
 import os
 from typing import Iterator, NamedTuple, Optional
 
@@ -63,6 +64,13 @@ class PdicError(Exception):
         self.number = number
         self.meaning = _library.pdic_strerror(number).decode('ascii')
         super().__init__(f'refused {number}: {self.meaning}')
+
+    def __reduce__(self):
+        return PdicError, (self.number,)
+
+
+class SealError(Exception):
+    """A file that is not the one that `glossary seal` sealed."""
 
 
 class Entry(NamedTuple):
@@ -144,9 +152,16 @@ class Dictionary:
 
     @classmethod
     def open(cls, path: str | os.PathLike, most: int = MAX_IMAGE) -> Dictionary:
-        """The dictionary of a file, read whole. The file is only read, now and later."""
+        """The dictionary of a file, read whole. The file is only read, now and later. One that `glossary seal` sealed must have the
+        bytes that were sealed."""
         with open(path, 'rb') as file:
-            return cls.from_bytes(file.read(MAX_IMAGE + 1), most)
+            image = file.read(MAX_IMAGE + 1)
+        seal = os.path.realpath(path) + '.sha256'
+        if os.path.lexists(seal):
+            with open(seal, 'rb') as file:
+                if file.read(66).lstrip(b'\\').split(b' ')[0] != hashlib.sha256(image).hexdigest().encode():
+                    raise SealError(f'{os.fspath(path)}: not the bytes that were sealed')
+        return cls.from_bytes(image, most)
 
     def __bytes__(self) -> bytes:
         """The image."""

@@ -1,6 +1,8 @@
 #!/usr/bin/env python3
 """Tests of pdic.py: examples of the paper (docs/papers/01-scope.md), refusals, walks, and the constants of include/pdic.h."""
+import hashlib
 import os
+import pickle
 import re
 import tempfile
 import unittest
@@ -111,6 +113,26 @@ class Walks(unittest.TestCase):
         for entry in self.dictionary:
             self.assertTrue(self.dictionary.delete(entry.headword))
         self.assertEqual(self.dictionary.check().headwords, 0)
+
+    def test_sealed(self):
+        with tempfile.TemporaryDirectory() as folder:
+            path, link = os.path.join(folder, 'sealed.dic'), os.path.join(folder, 'link.dic')
+            image = bytes(self.dictionary)
+            with open(path, 'wb') as file:
+                file.write(image)
+            os.symlink('sealed.dic', link)
+            for digest, is_whole in (hashlib.sha256(image).hexdigest(), True), (hashlib.sha256(b'').hexdigest(), False), ('', False):
+                with open(path + '.sha256', 'w') as file:
+                    file.write(f'{digest}  sealed.dic\n')
+                for name in path, link:
+                    if is_whole:
+                        self.assertEqual(bytes(pdic.Dictionary.open(name)), image)
+                    else:
+                        self.assertRaises(pdic.SealError, pdic.Dictionary.open, name)
+
+    def test_pickled(self):
+        refusal = pickle.loads(pickle.dumps(pdic.PdicError(pdic.FULL)))
+        self.assertEqual((refusal.number, refusal.meaning), (pdic.FULL, pdic.PdicError(pdic.FULL).meaning))
 
     def test_file(self):
         with tempfile.TemporaryDirectory() as folder:
