@@ -174,8 +174,7 @@ static char *name_beside(const char *path)
     char *folder = folder_of(path, &name);
     size_t size = strlen(folder) + LONGEST_STEM + sizeof behind_name + DIGITS + LETTERS + 3;
     char *beside = take_memory(NULL, size);
-    snprintf(beside, size, "%s.%.*s%s%0*lu-XXXXXX", folder, stem_of(name), name, behind_name, DIGITS,
-             (unsigned long)getpid() % 10000000000u);
+    snprintf(beside, size, "%s.%.*s%s%0*ld-XXXXXX", folder, stem_of(name), name, behind_name, DIGITS, (long)getpid());
     free(folder);
     return beside;
 }
