@@ -8,7 +8,7 @@ work=$1/wrong
 mkdir "$work"
 count=0
 
-# made NAME FILE EDIT [FLAG..]: builds the programs with a sed edit of one file
+# made NAME FILE EDIT [FLAG..]: builds the programs with a sed edit of one file, and goes to a folder for its runs
 made() {
     name=$1 file=$2 edit=$3
     shift 3
@@ -16,32 +16,41 @@ made() {
     cp "$root"/programs/* "$work/$name/programs"
     ln -s "$root/include" "$root/lib" "$work/$name"
     sed -i "$edit" "$work/$name/programs/$file"
-    if cmp -s "$work/$name/programs/$file" "$root/programs/$file"; then
-        echo "wrong program $name: the edit changes nothing"
-        exit 1
-    fi
-    PDIC_LIB=${PDIC_LIB:-$root/target/staticlib} "$work/$name/programs/build.sh" "$work/$name" "$@" -w
-    count=$((count + 1))
+    ! cmp -s "$work/$name/programs/$file" "$root/programs/$file" || missed "the edit changes nothing"
+    PDIC_LIB=${PDIC_LIB:-$root/target/staticlib} "$work/$name/programs/build.sh" "$work/$name" "$@" -O0 -w || missed "it is not built"
     cd "$work/$name/run"
 }
-unnoticed() {
-    echo "wrong program $name: not noticed"
-    exit 1
+missed() {
+    echo "wrong program $name: $1" >>"$work/missed"
+    exit
 }
-# in_story STORY NAME FILE EDIT [FLAG..]: its runs must differ from the stored ones
-in_story() {
+told_otherwise() {
     story=$1
     shift
     made "$@"
     "$here/story.sh" "$story" "$work/$name" >"$work/$name.txt" 2>&1 || true
-    ! cmp -s "$work/$name.txt" "$here/stories/$story.txt" || unnoticed
+    ! cmp -s "$work/$name.txt" "$here/stories/$story.txt" || missed "not noticed"
 }
-# in_test TEST NAME FILE EDIT [FLAG..]: the test, with its first arguments if it has such, must fail
-in_test() {
+failed_in_test() {
     test=$1
     shift
     made "$@"
-    ! "$here"/$test "$work/$name" >"$work/$name.txt" 2>&1 || unnoticed
+    ! "$here"/$test "$work/$name" >"$work/$name.txt" 2>&1 || missed "not noticed"
+}
+# Two wrong programs are tried at a time.
+pace() {
+    count=$((count + 1))
+    [ $((count % 2)) -eq 0 ] && wait || true
+}
+# in_story STORY NAME FILE EDIT [FLAG..]: its runs must differ from the stored ones
+in_story() {
+    told_otherwise "$@" &
+    pace
+}
+# in_test TEST NAME FILE EDIT [FLAG..]: the test, with its first arguments if it has such, must fail
+in_test() {
+    failed_in_test "$@" &
+    pace
 }
 sanitized='-fsanitize=address,undefined -fno-sanitize-recover=all'
 
@@ -101,4 +110,6 @@ in_test 'exchange.py 1 10' attribute-not-dumped lists.c 's/(unsigned)e->attribut
 in_story glossary attribute-lost glossary.c 's/is_stored ? stored.attribute : PDIC_PLAIN/PDIC_PLAIN/'
 in_story glossary some-deleted glossary.c 's/return status == STATUS_DONE ? save(t) : status;/return save(t), status;/'
 in_story glossary dry-run-writes glossary.c 's/return o->dry_run = 1, 0;/return 0;/'
+wait
+[ ! -e "$work/missed" ] || { cat "$work/missed"; exit 1; }
 echo "$count wrong programs noticed"

@@ -1,4 +1,14 @@
 # the files themselves: links, rights, files that are no files, another program at work, files left over
+# hold FILE, release: another program holds the file
+hold() {
+    flock -o "$1" sleep 30 >said.txt 2>&1 &
+    holder=$!
+    while flock -n "$1" true; do sleep 0.05; done
+}
+release() {
+    kill $holder
+    wait $holder || true
+}
 names() { ls -A | grep -v '^machinery\.tsv$\|^manual\.txt$\|^draft\.txt$\|^said\.txt$' | tr '\n' ' '; echo; }
 
 note "what a symbolic link leads to is replaced"
@@ -84,12 +94,11 @@ run fill - manual.txt <kept/real.dic
 
 note "another program changes the dictionary"
 cp kept/real.dic shared.dic
-flock shared.dic sleep 3 &
-sleep 0.5
+hold shared.dic
 run glossary add --wait=1 shared.dic horn2 avertisseur
 run glossary look shared.dic horn
 run glossary merge --dry-run shared.dic machinery.tsv
-wait
+release
 run glossary add --wait=0 shared.dic horn2 avertisseur
 for wait in x -1 1s 86401 ''; do run glossary add --wait=$wait shared.dic a b; done
 
@@ -99,11 +108,10 @@ note "files that a program left when it was ended are removed, those of a living
 : >.shared.dic.unfinished-0000012345-toolong
 : >.shared.dic.unfinished-backup
 : >.other.dic.unfinished-0000012345-Ab3dEf
-flock .shared.dic.unfinished-0000012345-living sleep 3 &
-sleep 0.5
+hold .shared.dic.unfinished-0000012345-living
 run glossary add shared.dic horn3 avertisseur
 names
-wait
+release
 run glossary delete shared.dic horn3
 names
 
