@@ -96,7 +96,7 @@ in_story files output-link-replaced file.c 's/char \*real = realpath(path, NULL)
 in_story files mode-lost file.c 's/return fchmod(fd, .*/return 0;/'
 in_story files read-only-replaced file.c 's/if ((file->st_mode \& 0222) == 0) return fault("it may only be read");//'
 in_story files fifo-replaced file.c 's/if (!S_ISREG(old.st_mode)) return write_straight(path, bytes, len);//'
-in_story files living-file-removed file.c 's/if (flock(fd, LOCK_EX | LOCK_NB) == 0) unlink(path);/unlink(path);/'
+in_story files living-file-removed file.c 's/ \&\& flock(fd, LOCK_EX | LOCK_NB) == 0) unlink/) unlink/'
 in_story files waits-not file.c 's/if (milliseconds() >= until) {/if (1) {/'
 in_story files seal-not-tested book.c 's/ \&\& test_seal(.*) != SEAL_BROKEN)/)/'
 in_story files sealed-changed book.c 's/if (!is_sealed(path) \&\& read_held/if (read_held/'

@@ -7,7 +7,7 @@ hold() {
 }
 release() {
     kill $holder
-    wait $holder || true
+    { wait $holder || true; } 2>said.txt
 }
 names() { ls -A | grep -v '^machinery\.tsv$\|^manual\.txt$\|^draft\.txt$\|^said\.txt$' | tr '\n' ' '; echo; }
 
@@ -60,8 +60,8 @@ rm second.dic
 note "standard output and error are closed, or nobody reads what they say"
 cp kept/real.dic closed.dic
 cp kept/real.dic whole.dic
-$wrapper "$programs/glossary" delete closed.dic nosuch 2>&- || echo "[$?]"
-$wrapper "$programs/glossary" add closed.dic ' x' y >&- 2>&- <&- || echo "[$?]"
+"$programs/glossary" delete closed.dic nosuch 2>&- || echo "[$?]"
+"$programs/glossary" add closed.dic ' x' y >&- 2>&- <&- || echo "[$?]"
 cmp closed.dic whole.dic
 full glossary add closed.dic horn2 avertisseur
 run glossary look closed.dic horn2
