@@ -3,3 +3,4 @@ pub mod ReadyLaws
 pub mod CodeLaws
 pub mod AreasLaws
 pub mod FinishLaws
+pub mod KeptLaws

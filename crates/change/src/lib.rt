@@ -1,10 +1,11 @@
 // A change of one run: the plan, which decides row 15 and writes nothing, then the writing.
 ghost use mathlib.Core.Path.{_≡_};
 ghost use mathlib.Core.Bool.{true, false};
-ghost use mathlib.Core.List.{_++_, map};
+ghost use mathlib.Core.List.{[], _++_, map};
 ghost use Prim.Native.Nat.{_+_, _-_, _*_, _%_, _≤_};
 ghost use lib.ListN.{length, take, drop, replicate};
 ghost use Rattle.spec.specs.Outcome.{ok};
+ghost use Rattle.spec.specs.Bytes.{write};
 ghost use Rattle.spec.specs.Header.{format4};
 ghost use Rattle.spec.specs.Entry.{headword-ok};
 ghost use Rattle.spec.specs.Run.{run-size};
@@ -18,6 +19,7 @@ ghost use Rattle.chain.specs.Numbers.{numbers};
 ghost use Rattle.inspect.specs.Overview.{AcceptedImage};
 ghost use Rattle.change.specs.Ready.{growth, planned, parts-of, Displaced, Ready, Roomy, Areas, Sealed, Written, Changed};
 ghost use Rattle.change.specs.Drafted.{PlannedEnd, Drafted, Begun};
+ghost use Rattle.change.specs.Kept.{fitted, Saved};
 use target::Target;
 
 // The numbers of a change: the blocks of the old index and of the old data area, by how many blocks the index grows, the end of
@@ -84,6 +86,74 @@ fn write_areas(
     let b = newruns::write_parts(image, start, a, run, h, body, fresh, free, v.g, v.end);
     let c = elements::copy_elements(image, b, index, t.end, t.after, numbers, v.g);
     byteops::fill_zero(image, c, start + 256 * v.g - c);
+}
+
+// Copies to the working slice what a change overwrites and reads afterwards where the index does not grow: the entries of the run
+// concerned, then the index behind its element. Answers how many bytes the entries take.
+fn save_old(work: &mut [u8], image: &[u8], v: Outline, t: Target) -> usize
+    requires { ⌜ (v .n ≤ 32767) × (v .d ≤ 65536) × (256 + 256 * v .n + 256 * v .d ≤ length (now image)) × (length (now image) ≤ length (now work)) ⌝ }
+    requires { ⌜ (t .block + t .size ≤ v .d) × (t .end ≤ 256 * v .n) ⌝ }
+    ensures { λ r. ⌜ Saved (now (image .entry)) v t r (now (work .exit)) ⌝ }
+    ensures { λ r. ⌜ (r + (256 * v .n - t .end) ≤ length (now (work .entry))) × (length (now (work .exit)) ≡ length (now (work .entry))) ⌝ }
+{
+    let start = 256 + 256 * v.n;
+    let from = target::entries_start(t.block, t.size);
+    let size = 256 * (t.block + t.size) - from;
+    byteops::copy(work, 0, image, start + from, size);
+    byteops::copy(work, size, image, 256 + t.end, 256 * v.n - t.end);
+    size
+}
+
+// Writes saved bytes from `at` on, as far as there is room up to `end`, then zeros.
+fn put_rest(image: &mut [u8], at: usize, end: usize, saved: &[u8])
+    requires { ⌜ (at ≤ end) × (end ≤ length (now image)) ⌝ }
+    ensures { λ _. ⌜ now (image .exit) ≡ write at (fitted (end - at) (now (saved .entry))) (now (image .entry)) ⌝ }
+    ensures { λ _. ⌜ length (now (image .exit)) ≡ length (now (image .entry)) ⌝ }
+{
+    let room = end - at;
+    let n = saved.len();
+    if room < n {
+        byteops::copy(image, at, saved, 0, room);
+        return;
+    }
+    byteops::copy(image, at, saved, 0, n);
+    byteops::fill_zero(image, at + n, room - n);
+}
+
+// Writes index and blocks of the changed image over the old one where the index does not grow.
+fn write_kept(
+    image: &mut [u8],
+    work: &mut [u8],
+    v: Outline,
+    free: &mut [u64],
+    t: Target,
+    h: &[u8],
+    body: &[u8],
+    fresh: bool,
+)
+    requires { ⌜ Ready (take (256 + 256 * v .n + 256 * v .d) (now image)) v [] (marks (now free)) t (now h) (now body) fresh ⌝ }
+    requires { ⌜ Roomy (now image) (take (256 + 256 * v .n + 256 * v .d) (now image)) v (marks (now free)) t (now h) (now body) fresh ⌝ }
+    requires { ⌜ (v .g ≡ 0) × (length (now image) ≤ length (now work)) ⌝ }
+    ensures { λ _. ⌜ Areas (now (image .entry)) (now (image .exit)) (take (256 + 256 * v .n + 256 * v .d) (now (image .entry))) v (now (h .entry)) (now (body .entry)) fresh ⌝ }
+    ensures { λ _. ⌜ marks (now (free .exit)) ≡ spread (v .g) (v .end) (marks (now (free .entry))) (map run-size (parts-of (take (256 + 256 * v .n + 256 * v .d) (now (image .entry))) (v .n) t (now (h .entry)) (now (body .entry)) fresh)) .free ⌝ }
+    ensures { λ _. ⌜ (length (now (image .exit)) ≡ length (now (image .entry))) × (length (now (work .exit)) ≡ length (now (work .entry))) × (length (now (free .exit)) ≡ length (now (free .entry))) ⌝ }
+{
+    let start = 256 + 256 * v.n;
+    let rest = 256 * v.n - t.end;
+    let size = save_old(work, image, v, t);
+    let b = newruns::write_parts(
+        image,
+        start,
+        256 + t.at,
+        &work[..size],
+        h,
+        body,
+        fresh,
+        free,
+        v.g,
+        v.end,
+    );
+    put_rest(image, b, start, &work[size..size + rest]);
 }
 
 // Writes the free list behind the first `front` bytes, and the header; the blocks end at `last`.
@@ -163,7 +233,7 @@ fn plan_end(
     )
 }
 
-// The end of a change whose growth is planned: row 15, then the writing. The new length, or 0.
+// The end of a change by which the index grows, as planned: row 15, then the writing. The new length, or 0.
 fn finish(
     image: &mut [u8],
     len: usize,
@@ -203,6 +273,37 @@ fn finish(
         fresh,
     );
     size
+}
+
+// The end of a change by which the index does not grow: row 15, then the writing. The new length, or 0.
+fn keep(
+    image: &mut [u8],
+    len: usize,
+    work: &mut [u8],
+    v: Outline,
+    free: &mut [u64],
+    t: Target,
+    h: &[u8],
+    body: &[u8],
+    fresh: bool,
+) -> usize
+    requires { ⌜ Ready (take len (now image)) v [] (marks (now free)) t (now h) (now body) fresh ⌝ }
+    requires { ⌜ (v .g ≡ 0) × (len ≤ length (now image)) × (length (now image) ≤ length (now work)) × (length (now free) ≡ 2560) ⌝ }
+    ensures { λ r. ⌜ Changed (now (image .entry)) len (now (h .entry)) (now (body .entry)) fresh r (now (image .exit)) ⌝ }
+    ensures { λ r. ⌜ (length (now (image .exit)) ≡ length (now (image .entry))) × (length (now (work .exit)) ≡ length (now (work .entry))) ⌝ }
+{
+    let last = plan_end(&image[..len], v, free, t, h, body, fresh);
+    if 65536 + v.g < last {
+        return 0;
+    }
+    let front = 256 + 256 * v.n;
+    let new_len = front + 256 * last;
+    if image.len() < new_len {
+        return 0;
+    }
+    write_kept(image, work, v, free, t, h, body, fresh);
+    write_rest(image, front, free, v, last);
+    new_len
 }
 
 // Plans where the runs go that the index displaces when it grows by g blocks over the data area: those of the elements before
@@ -342,7 +443,6 @@ pub fn change(
     if 0 < p.g {
         return grow(image, len, work, n, d, p, free, h, body, fresh, words);
     }
-    let none = [0u32; 1];
     let v = Outline {
         n: n,
         d: d,
@@ -352,5 +452,5 @@ pub fn change(
         elements: p.elements,
         blocks: p.blocks,
     };
-    finish(image, len, work, v, &none, free, p.target, h, body, fresh)
+    keep(image, len, work, v, free, p.target, h, body, fresh)
 }

@@ -265,7 +265,7 @@ element-stands index at small p h =
     ∙ sym (append-assoc (to-little-endian 2 (from-little-endian (bytes-at at 2 index))) (element-headword index at) (0 ∷ []))
 
 -- all of them do, one behind the other
-elements-stand : (index : List ℕ) (at n : ℕ) → ((k : ℕ) → getD index k 0 < 256) → Inside index at n → bytes-at at (elements-end index at n - at) index ≡ elements-bytes format4 (elements-at index at n)
+pub elements-stand : (index : List ℕ) (at n : ℕ) → ((k : ℕ) → getD index k 0 < 256) → Inside index at n → bytes-at at (elements-end index at n - at) index ≡ elements-bytes format4 (elements-at index at n)
 unfolding elements-end elements-at elements-bytes bytes-at
 elements-stand index at zero small i = let e : at - at ≡ 0 = omega arith in rw e
 elements-stand index at (suc n) small (p, h, i) =
@@ -276,20 +276,3 @@ elements-stand index at (suc n) small (p, h, i) =
     ap (λ (k : ℕ). bytes-at at k index) m
     ∙ bytes-at-split index at (e - at) (elements-end index e n - e)
     ∙ ap₂ (λ (x y : List ℕ). x ++ y) (element-stands index at small p h) (ap (λ (k : ℕ). bytes-at k (elements-end index e n - e) index) q ∙ elements-stand index e n small i)
-
--- elements end behind their start, by the answer
-pub behind-end : (index : List ℕ) (from n r : ℕ) → r ≡ elements-end index from n → from ≤ r
-behind-end index from n r e = omega (arith, ends-behind index from n)
-
--- what copy_kept copies
-pub kept-size : (index : List ℕ) (from n r : ℕ) → Inside index from n → r ≡ elements-end index from n → r - from ≡ length (elements-bytes format4 (elements-at index from n))
-kept-size index from n r i e = omega (arith, elements-length index from n i)
-
--- and what it leaves
-pub kept-written : (dst dst′ index : List ℕ) (at from n r : ℕ) → ((k : ℕ) → getD index k 0 < 256) → Inside index from n → r ≡ elements-end index from n
-    → dst′ ≡ write at (bytes-at from (r - from) index) dst → dst′ ≡ write at (elements-bytes format4 (elements-at index from n)) dst
-kept-written dst dst′ index at from n r small i e h = h ∙ rw e (ap (λ (x : List ℕ). write at x dst) (elements-stand index from n small i))
-
--- an index that does not grow: the elements are as they are
-pub kept-renewed : (dst dst′ index T : List ℕ) (at from n g : ℕ) → g ≡ 0 → dst′ ≡ write at (elements-bytes format4 (elements-at index from n)) dst → dst′ ≡ write at (elements-bytes format4 (map (renewed T g) (elements-at index from n))) dst
-kept-renewed dst dst′ index T at from n g z h = h ∙ rw (z, renewed-none-all T (elements-at index from n))

@@ -71,19 +71,6 @@ pub fn number_after(numbers: &[u32], g: usize, b: usize) -> usize
     b - g
 }
 
-// Stores the n elements from `from` on of an index at `at`, as they are, and answers where they end.
-fn copy_kept(dst: &mut [u8], at: usize, index: &[u8], from: usize, n: usize) -> usize
-    requires { ⌜ Inside (now index) from n ⌝ }
-    requires { ⌜ at + length (elements-bytes format4 (elements-at (now index) from n)) ≤ length (now dst) ⌝ }
-    ensures { λ r. ⌜ now (dst .exit) ≡ write at (elements-bytes format4 (elements-at (now (index .entry)) from n)) (now (dst .entry)) ⌝ }
-    ensures { λ r. ⌜ r ≡ at + length (elements-bytes format4 (elements-at (now (index .entry)) from n)) ⌝ }
-    ensures { λ r. ⌜ length (now (dst .exit)) ≡ length (now (dst .entry)) ⌝ }
-{
-    let size = end_from(index, from, n) - from;
-    byteops::copy(dst, at, index, from, size);
-    at + size
-}
-
 // Stores the n elements from `from` on of an index at `at`, with their numbers renewed, and answers where they end.
 pub fn copy_elements(
     dst: &mut [u8],
@@ -101,9 +88,6 @@ pub fn copy_elements(
     ensures { λ r. ⌜ r ≡ at + length (elements-bytes format4 (elements-at (now (index .entry)) from n)) ⌝ }
     ensures { λ r. ⌜ length (now (dst .exit)) ≡ length (now (dst .entry)) ⌝ }
 {
-    if g == 0 {
-        return copy_kept(dst, at, index, from, n);
-    }
     let mut out = at;
     let mut pos = from;
     let mut left = n;

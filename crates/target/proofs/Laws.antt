@@ -10,7 +10,7 @@ use lib.ListN.{length, drop, length-map}
 use lib.Seq.{drop-drop}
 use lib.Dec.{eqb}
 use borrow.Author.Needs.{needs}
-use borrow.Author.Tests.{eq-eqb, ne-eqb}
+use borrow.Author.Tests.{eq-eqb, ne-eqb, eqb-false}
 use Rattle.spec.specs.Outcome.{ok}
 use Rattle.spec.specs.Lists as Lists
 use Rattle.spec.specs.Lists.{split-last}
@@ -62,6 +62,15 @@ start-least b size = go (eqb size 0)
     go : (t : Bool) → 256 * b ≤ (elim t [ true ↦ 256 * b | false ↦ 256 * b + 2 ])
     go true = omega arith
     go false = omega arith
+
+-- nor behind its end
+pub start-most : (b size : ℕ) → entries-start b size ≤ 256 * (b + size)
+unfolding entries-start
+start-most b size = go (eqb size 0) refl
+  where
+    go : (t : Bool) → eqb size 0 ≡ t → (elim t [ true ↦ 256 * b | false ↦ 256 * b + 2 ]) ≤ 256 * (b + size)
+    go true e = omega arith
+    go false e = let z = eqb-false size 0 e in omega (arith, z)
 
 -- every need of entries_start
 pub ruleset start-laws = (start-none, start-some, needs)
@@ -209,6 +218,8 @@ module _ (index area h : List ℕ) (D n : ℕ) (none : n ≡ 0) where
         after = refl;
         before-inside = omega arith;
         after-inside = omega arith;
+        at-is = refl;
+        end-is = refl;
         run = inl (record { none = refl; before = refl; after = refl; entries = refl; size = refl; block = refl });
         bytes = refl;
       }
@@ -251,20 +262,21 @@ module _ (index h : List ℕ) (n : ℕ) (some-elements : n ≡ 0 → ⊥) (all-i
   behind-inside : (end : ℕ) → end ≡ element-end index (c .at) → Inside index (end + 1) (c .left - 1)
   behind-inside end e = rw e (inside-next index (c .at) (c .left) (inside-parts .1) some-left)
 
+  -- it stands behind the bytes of those before it
+  start-bytes : c .at ≡ length (elements-bytes format4 (elements-at index 0 (n - c .left)))
+  start-bytes = omega (arith, here .start, elements-length index 0 (n - c .left) (inside-parts .0))
+
+  -- behind it stand the bytes of the others, up to the end of all
+  rest-bytes : (end : ℕ) → end ≡ element-end index (c .at) → elements-end index 0 n ≡ end + 1 + length (elements-bytes format4 (elements-at index (end + 1) (c .left - 1)))
+  rest-bytes end e =
+      let a : elements-end index 0 n ≡ elements-end index (c .at) (c .left) = ap (elements-end index 0) sum ∙ ends-split index 0 (n - c .left) (c .left) ∙ ap (λ (a : ℕ). elements-end index a (c .left)) (sym (here .start)) in
+      let b : elements-end index (end + 1) (c .left - 1) ≡ elements-end index 0 n = end-turn index (c .at) (c .left) end (elements-end index 0 n) (sym a) e some-left in
+      omega (arith, b, elements-length index (end + 1) (c .left - 1) (behind-inside end e))
+
   -- the bytes of all elements: of those before it, its own, of those behind it
   bytes-parts : (end : ℕ) → end ≡ element-end index (c .at)
       → elements-end index 0 n ≡ length (elements-bytes format4 (elements-at index 0 (n - c .left))) + (end + 1 - c .at) + length (elements-bytes format4 (elements-at index (end + 1) (c .left - 1)))
-  bytes-parts end e =
-      let a : elements-end index 0 n ≡ elements-end index (c .at) (c .left) = ap (elements-end index 0) sum ∙ ends-split index 0 (n - c .left) (c .left) ∙ ap (λ (a : ℕ). elements-end index a (c .left)) (sym (here .start)) in
-      let b : elements-end index (end + 1) (c .left - 1) ≡ elements-end index 0 n = end-turn index (c .at) (c .left) end (elements-end index 0 n) (sym a) e some-left in
-      omega (
-        arith,
-        b,
-        elements-length index 0 (n - c .left) (inside-parts .0),
-        elements-length index (end + 1) (c .left - 1) (behind-inside end e),
-        here .start,
-        element-end-past index (c .at),
-      )
+  bytes-parts end e = omega (arith, start-bytes, rest-bytes end e, element-end-past index (c .at))
 
   -- behind it stands none, or one whose headword is above the given one
   stops : (c .left ≡ 1) ⊎ (below-of 0 h (element-headword index (element-end index (c .at) + 1)) ≡ true)
@@ -317,6 +329,8 @@ module _ (index h : List ℕ) (n : ℕ) (some-elements : n ≡ 0 → ⊥) (all-i
           after = rw (t, ends) (sym (d .after-is));
           before-inside = inside-parts .0;
           after-inside = behind-inside end ends;
+          at-is = start-bytes;
+          end-is = rest-bytes end ends;
           run = inr (record { run = d .run; among = rw t (d .split); block = own .0; size = own .1; some-blocks = own .2; fuel = suc (length (d .run .bytes)); read = rw t entries });
           bytes = bytes-parts end ends;
         }

@@ -55,6 +55,8 @@ pub record TargetTold (index area : List ℕ) (n : ℕ) (h : List ℕ) (rs : Lis
   pub after : elements-at index (t .end) (t .after) ≡ map element-of (target-run format4 h rs .after)
   pub before-inside : Inside index 0 (t .before)
   pub after-inside : Inside index (t .end) (t .after)
+  pub at-is : t .at ≡ length (elements-bytes format4 (elements-at index 0 (t .before)))
+  pub end-is : elements-end index 0 n ≡ t .end + length (elements-bytes format4 (elements-at index (t .end) (t .after)))
   pub run : NoRun area rs (target-run format4 h rs) t ⊎ OneRun area rs (target-run format4 h rs) t
   pub bytes : elements-end index 0 n ≡ length (elements-bytes format4 (elements-at index 0 (t .before))) + (t .end - t .at) + length (elements-bytes format4 (elements-at index (t .end) (t .after)))
 

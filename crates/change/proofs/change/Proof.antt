@@ -1,5 +1,6 @@
 -- `change` meets its contract.
 use mathlib.Core.Path.{refl, sym}
+use mathlib.Core.List.{[]}
 use native.Mathlib.Omega.{arith}
 use lib.Seq.{length-take-le}
 use Rattle.change.proofs.FinishLaws.{accepted-few, change-index, front-blocks, begins, still-ready}
@@ -47,14 +48,27 @@ same-length-4 c = search needs
 returns-2 : tie.Need-returns-2
 returns-2 c = search needs
 
-slice-aggregate-finish : tie.Need-slice-aggregate-finish
-slice-aggregate-finish c = search needs
+keep-requires : tie.Need-keep-requires
+keep-requires c κs =
+    let p = start .pre in
+    let b = begins (start .args .image .now) (start .args .len) (start .args .n) (start .args .d) (start .args .h .now) (start .args .body .now) (start .args .fresh) (start .args .words) (measured .measure-change .result)
+    _ _ (p .0) (p .1 .0 .0) (p .1 .0 .1) (measured .measure-change .ensures .0) (p .1 .1 .0) (p .1 .1 .1 .1) (freed .mark-range .ensures) (few .if1 .left) (p .1 .1 .1 .0 .0) (p .1 .1 .1 .0 .1) in
+    (still-ready _ _ _ _ _ _ _ _ _ b [] (omega (arith, kept .if2 .left)), (refl, p .1 .0 .0, p .1 .0 .2, search needs))
+  where
+    kept : tie.Else2
+    kept = search
 
-finish-requires : tie.Need-finish-requires
-finish-requires c κs =
-    let p = c .before .before .before .before .before .before .before .before .before .before .before .before .before .before .before .before .before .before .before .pre in
-    let b = begins (c .before .before .before .before .before .before .before .before .before .before .before .before .before .before .before .before .before .before .before .args .image .now) (c .before .before .before .before .before .before .before .before .before .before .before .before .before .before .before .before .before .before .before .args .len) (c .before .before .before .before .before .before .before .before .before .before .before .before .before .before .before .before .before .before .before .args .n) (c .before .before .before .before .before .before .before .before .before .before .before .before .before .before .before .before .before .before .before .args .d) (c .before .before .before .before .before .before .before .before .before .before .before .before .before .before .before .before .before .before .before .args .h .now) (c .before .before .before .before .before .before .before .before .before .before .before .before .before .before .before .before .before .before .before .args .body .now) (c .before .before .before .before .before .before .before .before .before .before .before .before .before .before .before .before .before .before .before .args .fresh) (c .before .before .before .before .before .before .before .before .before .before .before .before .before .before .before .before .before .before .before .args .words) (c .before .before .before .before .before .before .before .before .before .before .before .before .measure-change .result) _ _ (p .0) (p .1 .0 .0) (p .1 .0 .1) (c .before .before .before .before .before .before .before .before .before .before .before .before .measure-change .ensures .0) (p .1 .1 .0) (p .1 .1 .1 .1) (c .before .before .before .before .before .before .before .before .mark-range .ensures) (c .before .before .before .before .before .before .before .before .before .before .if1 .left) (p .1 .1 .1 .0 .0) (p .1 .1 .1 .0 .1) in
-    (still-ready _ _ _ _ _ _ _ _ _ b _ (omega (arith, c .before .before .before .before .if2 .left)), (p .1 .0 .0, p .1 .0 .2, search needs))
+    freed : tie.After-mark-range
+    freed = search kept
+
+    few : tie.Else1
+    few = search freed
+
+    measured : tie.After-measure-change
+    measured = search few
+
+    start : tie.Start
+    start = search measured
 
 same-length-5 : tie.Need-same-length-5
 same-length-5 c = search needs
@@ -84,8 +98,7 @@ change-spec =
     same-length-3
     same-length-4
     returns-2
-    slice-aggregate-finish
-    finish-requires
+    keep-requires
     same-length-5
     same-length-6
     same-length-7

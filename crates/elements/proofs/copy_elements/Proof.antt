@@ -4,7 +4,7 @@ use mathlib.Core.Path.{_≡_}
 use lib.ListN.{length}
 use Rattle.spec.specs.Bytes.{write}
 use Rattle.index.specs.Elements.{elements-at, Inside}
-use Rattle.elements.proofs.Laws.{kept-renewed, renewed-bytes, room, copy-laws}
+use Rattle.elements.proofs.Laws.{renewed-bytes, room, copy-laws}
 use borrow.Author.Needs.{needs}
 use Rattle.elements.proofs.copy_elements.Statement.{statement}
 use Rattle.elements.proofs.copy_elements.Tie as tie
@@ -60,17 +60,8 @@ loop-again c = (search copy-laws, search copy-laws, search copy-laws, search cop
 same-length : tie.Need-same-length Inv-loop μ-loop
 same-length c = search copy-laws
 
-copy-kept-requires : tie.Need-copy-kept-requires Inv-loop μ-loop
-copy-kept-requires c κs = search needs
-
 returns : tie.Need-returns Inv-loop μ-loop
-returns c = (search kept-renewed, (search needs, search needs))
-
-same-length-2 : tie.Need-same-length-2 Inv-loop μ-loop
-same-length-2 c = search copy-laws
-
-returns-2 : tie.Need-returns-2 Inv-loop μ-loop
-returns-2 c = search copy-laws
+returns c = search copy-laws
 
 pub copy-elements-spec : {M : Type 1} → statement M
 copy-elements-spec =
@@ -78,9 +69,6 @@ copy-elements-spec =
     (tie.spec
     Inv-loop
     μ-loop
-    copy-kept-requires
-    same-length
-    returns
     loop-holds
     element-end-requires
     read-u16-requires
@@ -94,5 +82,5 @@ copy-elements-spec =
     sub-left
     loop-less
     loop-again
-    same-length-2
-    returns-2)
+    same-length
+    returns)

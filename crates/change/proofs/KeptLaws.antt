@@ -1,0 +1,389 @@
+-- A change by which the index does not grow: what is saved, and that the writing gives the plan's index and blocks.
+use Prim.Native.Nat.{ℕ, zero, suc, _+_, _-_, _*_, _≤_, _<_}
+use mathlib.Core.Path.{_≡_, refl, sym, ap, ap₂, subst, _∙_}
+use mathlib.Core.Logic.{_⊎_, inl, inr}
+use mathlib.Core.Bool.{Bool, true}
+use mathlib.Core.List.{List, [], _∷_, _++_, map, append-assoc}
+use native.Mathlib.Omega.{arith}
+use lib.ListN.{length, take, drop, getD, length-drop, length-append, take-append-drop, replicate-append-replicate}
+use lib.Seq.{length-take-le, take-all, take-at, drop-at, take-take, take-append-le, take-append-add, drop-drop}
+use Rattle.marks.specs.Marks.{marks}
+use Rattle.marks.proofs.Laws.{drop-take}
+use Rattle.spec.specs.Bytes.{bytes-at, write, zeros}
+use Rattle.spec.specs.Outcome.{ok}
+use Rattle.spec.specs.Order.{IsOrder}
+use Rattle.spec.specs.Check as Check
+use Rattle.spec.specs.Check.{Frame, index-area}
+use Rattle.spec.specs.Header as Header
+use Rattle.spec.specs.Header.{layout4, format4, get}
+use Rattle.spec.specs.Entry.{Entry, headword-ok}
+use Rattle.spec.specs.Run.{run-size}
+use Rattle.spec.specs.Index.{Element, elements-bytes, index-from}
+use Rattle.spec.specs.Place.{cut, element-of}
+use Rattle.spec.specs.ImageForm.{StoredIndex}
+use Rattle.spec.proofs.BytesLaws.{length-zeros, Small, small-part, bytes-of}
+use Rattle.spec.proofs.PartLaws.{length-bytes-at, rest-at}
+use Rattle.spec.proofs.WriteLaws.{bytes-at-within, bytes-at-write, take-write, length-write, written-front, write-same, write-behind, written-behind}
+use Rattle.spec.proofs.StoredIndexLaws.{index-stored}
+use Rattle.index.specs.Elements.{element-end, elements-at, Inside}
+use Rattle.elements.specs.Renewed as Renewed
+use Rattle.elements.specs.Renewed.{elements-end, renewed}
+use Rattle.elements.proofs.Laws.{elements-length, elements-stand, renewed-none-all}
+use Rattle.inspect.specs.Overview.{AcceptedImage}
+use Rattle.inspect.proofs.Laws.{index-part, data-part, index-told}
+use Rattle.inspect.proofs.Accepted.{accepted-frame, accepted-inside}
+use Rattle.header.specs.Framed.{frame4}
+use Rattle.header.proofs.Laws.{index-slice}
+use Rattle.spec.proofs.OrderLaws.{order-of}
+use Rattle.spec.proofs.ReadLaws.{image-told}
+use Rattle.chain.specs.Numbers.{numbers}
+use Rattle.placing.specs.Spread.{Spread, spread}
+use Rattle.moves.specs.Moved.{starts, moved-written}
+use Rattle.target.specs.declared.Target.{Target}
+use Rattle.target.specs.Told.{entries-start}
+use Rattle.target.proofs.Laws.{start-least, start-most}
+use Rattle.parts.specs.Merge.{changed-entries}
+use Rattle.plan.specs.Written.{part-runs, parts-written}
+use Rattle.newruns.proofs.Laws.{lent-rest}
+use Rattle.change.specs.declared.Outline.{Outline}
+use Rattle.change.specs.Ready.{parts-of, Ready, Roomy, Areas, Sealed, Written}
+use Rattle.change.specs.Drafted.{PlannedEnd}
+use Rattle.change.specs.Kept.{fitted, Saved}
+use Rattle.change.proofs.Laws.{run-cut, areas-done}
+use Rattle.change.proofs.AreasLaws.{parts-asks, index-end, rest-asks, all-written}
+use Rattle.change.proofs.FinishLaws.{marks-long, copy-ready, copy-roomy, copy-last}
+
+-- ---- bytes cut or filled
+-- zeros one behind the other
+zeros-join : (k j : ℕ) → zeros k ++ zeros j ≡ zeros (k + j)
+unfolding zeros
+zeros-join k j = replicate-append-replicate k j 0
+
+-- the first of them
+zeros-front : (k m : ℕ) → k ≤ m → take k (zeros m) ≡ zeros k
+zeros-front k m h =
+    let e : m ≡ k + (m - k) = omega arith in
+    ap (λ (x : ℕ). take k (zeros x)) e ∙ ap (take k) (sym (zeros-join k (m - k))) ∙ take-at (zeros k) (zeros (m - k)) k (length-zeros k)
+
+-- bytes in front of zeros, with room for them: they, then zeros
+pub fitted-zeros : (n : ℕ) (a : List ℕ) (z : ℕ) → length a ≤ n → fitted n (a ++ zeros z) ≡ a ++ zeros (n - length a)
+unfolding fitted
+fitted-zeros n a z h =
+    let k : ℕ = n - length a in
+    let e : n ≡ length a + k = omega arith in
+    ap (take n) (append-assoc a (zeros z) (zeros n) ∙ ap (λ (x : List ℕ). a ++ x) (zeros-join z n))
+    ∙ ap (λ (x : ℕ). take x (a ++ zeros (z + n))) e
+    ∙ take-append-add a (zeros (z + n)) k
+    ∙ ap (λ (x : List ℕ). a ++ x) (zeros-front k (z + n) (omega arith))
+
+-- ---- put_rest
+-- more bytes than there is room for
+pub put-cut : (d d₁ l : List ℕ) (at room n : ℕ) → d₁ ≡ write at (bytes-at 0 room l) d → n ≡ length l → room < n → d₁ ≡ write at (fitted room l) d
+unfolding fitted bytes-at
+put-cut d d₁ l at room n e k h = e ∙ ap (λ (x : List ℕ). write at x d) (sym (take-append-le room l (zeros room) (omega arith)))
+
+-- no more
+pub put-filled : (d d₁ d₂ l : List ℕ) (at room n : ℕ) → d₁ ≡ write at (bytes-at 0 n l) d → d₂ ≡ write (at + n) (zeros (room - n)) d₁
+    → n ≡ length l → n ≤ room → at ≤ length d → d₂ ≡ write at (fitted room l) d
+unfolding fitted bytes-at
+put-filled d d₁ d₂ l at room n e₁ e₂ k h q =
+    let a : bytes-at 0 n l ≡ l = take-all n l (omega arith) in
+    let b : d₁ ≡ write at l d = e₁ ∙ ap (λ (x : List ℕ). write at x d) a in
+    let r : room ≡ length l + (room - n) = omega arith in
+    let f : take room (l ++ zeros room) ≡ l ++ zeros (room - n)
+    = ap (λ (x : ℕ). take x (l ++ zeros room)) r ∙ take-append-add l (zeros room) (room - n) ∙ ap (λ (x : List ℕ). l ++ x) (zeros-front (room - n) room (omega arith)) in
+    written-behind d d₁ d₂ l (zeros (room - n)) at (at + n) q (omega arith) b e₂ ∙ ap (λ (x : List ℕ). write at x d) (sym f)
+
+-- ---- save_old
+-- both copies stand in the working slice
+pub saved : (s w w₁ w₂ : List ℕ) (v : Outline) (t : Target) (from size : ℕ)
+    → from ≡ entries-start (t .block) (t .size) → size ≡ 256 * (t .block + t .size) - from
+    → w₁ ≡ write 0 (bytes-at (256 + 256 * v .n + from) size s) w
+    → w₂ ≡ write size (bytes-at (256 + t .end) (256 * v .n - t .end) s) w₁
+    → 256 + 256 * v .n + from + size ≤ length s → t .end ≤ 256 * v .n → size + (256 * v .n - t .end) ≤ length w → Saved s v t size w₂
+saved s w w₁ w₂ v t from size ef es e₁ e₂ fits inside room =
+    let x : List ℕ = bytes-at (256 + 256 * v .n + from) size s in
+    let y : List ℕ = bytes-at (256 + t .end) (256 * v .n - t .end) s in
+    let lx : length x ≡ size = length-bytes-at s (256 + 256 * v .n + from) size fits in
+    let ly : length y ≡ 256 * v .n - t .end = length-bytes-at s (256 + t .end) (256 * v .n - t .end) (omega arith) in
+    let l₁ : length w₁ ≡ length w = ap length e₁ ∙ length-write 0 x w (omega (arith, lx)) in
+    let k : size + length y ≤ length w₁ = omega (arith, ly, l₁) in
+    let a : take size w₂ ≡ x = ap (take size) e₂ ∙ take-write size y w₁ k size (omega arith) ∙ ap (take size) e₁ ∙ written-front x w size lx in
+    let b : bytes-at size (256 * v .n - t .end) w₂ ≡ y = ap (bytes-at size (256 * v .n - t .end)) e₂ ∙ ap (λ (q : ℕ). bytes-at size q (write size y w₁)) (sym ly) ∙ bytes-at-write size y w₁ k in
+    (es ∙ ap (λ (q : ℕ). 256 * (t .block + t .size) - q) ef, a ∙ ap (λ (q : ℕ). bytes-at (256 + 256 * v .n + q) size s) ef, b)
+
+-- ---- the index
+-- a byte of a list of bytes
+small-get : (l : List ℕ) (k : ℕ) → Small l → getD l k 0 < 256
+small-get [] k p = omega arith
+small-get (x ∷ l) zero (p, ps) = p
+small-get (x ∷ l) (suc k) (p, ps) = small-get l k ps
+
+-- elements inside the index start inside it
+inside-at : (index : List ℕ) (at n : ℕ) → Inside index at n → at ≤ length index
+inside-at index at zero i = i
+inside-at index at (suc n) i = omega (arith, i .0)
+
+-- and end inside it
+ends-inside : (index : List ℕ) (at n : ℕ) → Inside index at n → elements-end index at n ≤ length index
+unfolding Renewed.elements-end
+ends-inside index at zero i = i
+ends-inside index at (suc n) i = ends-inside index (element-end index at + 1) n (i .2)
+
+-- bytes that stand in front of the end of a list that zeros fill
+zeros-behind : (index x y : List ℕ) (at m : ℕ) → index ≡ x ++ zeros m → length x ≡ at + length y → bytes-at at (length y) index ≡ y → drop at index ≡ y ++ zeros m
+unfolding bytes-at
+zeros-behind index x y at m e l b =
+    let d : drop (at + length y) index ≡ zeros m = ap (drop (at + length y)) e ∙ drop-at x (zeros m) (at + length y) l in
+    sym (take-append-drop (length y) (drop at index)) ∙ ap₂ (λ (u w : List ℕ). u ++ w) b (drop-drop (length y) at index ∙ d)
+
+-- the bytes of entries of a run in a slice of which an image is the front
+run-inside : (o s : List ℕ) (start from size : ℕ) → take (length o) s ≡ o → start + from + size ≤ length o
+    → bytes-at (start + from) size s ≡ take size (drop from (take (length o - start) (drop start o)))
+unfolding bytes-at
+run-inside o s start from size copy fits =
+    let a : drop start o ≡ take (length o - start) (drop start s) = ap (drop start) (sym copy) ∙ drop-take start (length o) s in
+    let b : take (length o - start) (drop start o) ≡ take (length o - start) (drop start s)
+    = ap (take (length o - start)) a ∙ take-take (length o - start) (length o - start) (drop start s) (omega arith) in
+    sym (ap (λ (x : List ℕ). take size (drop from x)) b
+    ∙ ap (take size) (drop-take from (length o - start) (drop start s))
+    ∙ take-take size (length o - start - from) (drop from (drop start s)) (omega arith)
+    ∙ ap (take size) (drop-drop from start s))
+
+-- the elements of an accepted image's index
+accepted-elements : (o : List ℕ) (n d : ℕ) → AcceptedImage o n d → index-from format4 n (get (layout4 .nindex2) o) (index-part o n) ≡ ok (elements-at (index-part o n) 0 (get (layout4 .nindex2) o))
+unfolding Check.image-from Header.format-of Header.format4
+accepted-elements o n d a =
+    let m = image-told format4 o (a .image) (a .is) in
+    let f : a .image .frame ≡ frame4 n d = accepted-frame o n d a in
+    let x : index-area (a .image .frame) o ≡ index-part o n = ap (λ (g : Frame). index-area g o) f ∙ index-slice o n d in
+    let e : index-from format4 n (get (layout4 .nindex2) o) (index-part o n) ≡ ok (m .elements)
+    = ap₂ (λ (k : ℕ) (l : List ℕ). index-from format4 k (get (layout4 .nindex2) o) l) (a .index-blocks) (sym x) ∙ m .index in
+    e ∙ ap ok (index-told (index-part o n) n (get (layout4 .nindex2) o) (m .elements) e .0)
+
+byte-order4 : IsOrder (format4 .below)
+unfolding Header.format4
+byte-order4 = order-of 0
+
+-- a part of a slice as code cuts it out
+rest-cut : (at n : ℕ) (w : List ℕ) → take (at + n - at) (drop at w) ≡ bytes-at at n w
+unfolding bytes-at
+rest-cut at n w = let e : at + n - at ≡ n = omega arith in ap (λ (x : ℕ). take x (drop at w)) e
+
+-- ---- write_kept
+module _ (o : List ℕ) (v : Outline) (T : List ℕ) (ws : List ℕ) (t : Target) (h body : List ℕ) (fresh : Bool) (r : Ready o v T (marks ws) t h body fresh)
+    (s : List ℕ) (q : Roomy s o v (marks ws) t h body fresh) (still : v .g ≡ 0) (small : (k : ℕ) → getD s k 0 < 256) where
+  abbrev start : ℕ
+  start = 256 + 256 * v .n
+
+  abbrev index : List ℕ
+  index = index-part o (v .n)
+
+  abbrev area : List ℕ
+  area = data-part o (v .n)
+
+  abbrev count : ℕ
+  count = get (layout4 .nindex2) o
+
+  -- the bytes of the elements before and after
+  abbrev B : List ℕ
+  B = elements-bytes format4 (elements-at index 0 (t .before))
+
+  abbrev A : List ℕ
+  A = elements-bytes format4 (elements-at index (t .end) (t .after))
+
+  -- the index in the slice
+  index-there : index ≡ bytes-at 256 (256 * v .n) s
+  unfolding bytes-at
+  index-there =
+      let k : 256 + 256 * v .n - 256 ≡ 256 * v .n = omega arith in
+      ap (λ (x : ℕ). take x (drop 256 o)) k
+      ∙ ap (λ (x : List ℕ). take (256 * v .n) (drop 256 x)) (sym (q .copy))
+      ∙ ap (take (256 * v .n)) (drop-take 256 (length o) s)
+      ∙ take-take (256 * v .n) (length o - 256) (drop 256 s) (omega (arith, r .whole))
+
+  index-long : length index ≡ 256 * v .n
+  index-long = ap length index-there ∙ length-bytes-at s 256 (256 * v .n) (omega (arith, r .whole, q .shorter))
+
+  -- its bytes are bytes
+  index-bytes : Small index
+  index-bytes = subst Small (sym index-there) (small-part s small (256 * v .n) 256)
+
+  -- the element of the run concerned ends inside the index
+  pub end-inside : t .end ≤ 256 * v .n
+  end-inside = omega (arith, inside-at index (t .end) (t .after) (r .told .after-inside), index-long)
+
+  -- and starts there
+  pub at-inside : t .at ≤ 256 * v .n
+  at-inside = omega (arith, r .told .at-is, elements-length index 0 (t .before) (r .told .before-inside), ends-inside index 0 (t .before) (r .told .before-inside), index-long)
+
+  -- nothing is moved
+  nothing-moved : s ≡ take start s ++ (moved-written area (v .d) T (starts 0 (v .g) T) (take (length s - start) (drop start s)) ++ drop (length s - start) (drop start s))
+  unfolding starts moved-written
+  nothing-moved = rw still (sym (ap (λ (x : List ℕ). take start s ++ x) (lent-rest start s (λ x. x)) ∙ take-append-drop start s))
+
+  -- no number is renewed
+  as-they-are : (es : List Element) → map (renewed T (v .g)) es ≡ es
+  as-they-are es = ap (λ (g : ℕ). map (renewed T g) es) still ∙ renewed-none-all T es
+
+  -- the elements before stand there
+  before-there : s ≡ write 256 (elements-bytes format4 (map (renewed T (v .g)) (elements-at index 0 (t .before)))) s
+  before-there =
+      let i : Inside index 0 (t .before) = r .told .before-inside in
+      let l : elements-end index 0 (t .before) ≡ 0 + length B = elements-length index 0 (t .before) i in
+      let k : elements-end index 0 (t .before) - 0 ≡ length B = omega arith in
+      let b : bytes-at 0 (length B) index ≡ B = ap (λ (x : ℕ). bytes-at 0 x index) (sym k) ∙ elements-stand index 0 (t .before) (λ x. small-get index x index-bytes) i in
+      let p : 0 + length B ≤ 256 * v .n = omega (arith, ends-inside index 0 (t .before) i, index-long) in
+      let c : bytes-at 256 (length B) s ≡ B = sym (ap (bytes-at 0 (length B)) index-there ∙ bytes-at-within 256 (256 * v .n) 0 (length B) s p) ∙ b in
+      sym (ap (λ (es : List Element). write 256 (elements-bytes format4 es) s) (as-they-are (elements-at index 0 (t .before))) ∙ write-same 256 B s c)
+
+  -- the index holds the elements in front of zeros
+  stored : StoredIndex format4 (elements-at index 0 count) index
+  stored =
+      let a : AcceptedImage o (v .n) (v .d) = record { image = r .image; is = r .is; index-blocks = r .index-blocks; data-blocks = r .data-blocks } in
+      let e : index-from format4 (v .n) count index ≡ ok (elements-at index 0 count) = accepted-elements o (v .n) (v .d) a in
+      index-stored format4 byte-order4 (v .n) count index (bytes-of index index-bytes) index-long (elements-at index 0 count) .0 e .stored
+
+  -- behind the element of the run concerned stand those after it, then zeros
+  rest-told : (z : ℕ) × (drop (t .end) index ≡ A ++ zeros z)
+  unfolding StoredIndex zeros elements-bytes
+  rest-told = go stored
+    where
+      all-inside : Inside index 0 count
+      all-inside = accepted-inside o (v .n) (v .d) (record { image = r .image; is = r .is; index-blocks = r .index-blocks; data-blocks = r .data-blocks }) count refl
+
+      total : length (elements-bytes format4 (elements-at index 0 count)) ≡ t .end + length A
+      total = omega (arith, elements-length index 0 count all-inside, r .told .end-is)
+
+      there : bytes-at (t .end) (length A) index ≡ A
+      there =
+          let k : elements-end index (t .end) (t .after) - t .end ≡ length A = omega (arith, elements-length index (t .end) (t .after) (r .told .after-inside)) in
+          ap (λ (x : ℕ). bytes-at (t .end) x index) (sym k) ∙ elements-stand index (t .end) (t .after) (λ x. small-get index x index-bytes) (r .told .after-inside)
+
+      go : ((index ≡ []) × (elements-at index 0 count ≡ [])) ⊎ ((n : ℕ) × (4 ≤ n) × (index ≡ elements-bytes format4 (elements-at index 0 count) ++ zeros n))
+          → (z : ℕ) × (drop (t .end) index ≡ A ++ zeros z)
+      go (inl (e, f)) =
+          let x : length (elements-bytes format4 (elements-at index 0 count)) ≡ 0 = ap (λ (l : List Element). length (elements-bytes format4 l)) f in
+          (0, zeros-behind index [] A (t .end) 0 e (omega (arith, total)) there)
+      go (inr (n, p, e)) = (n, zeros-behind index (elements-bytes format4 (elements-at index 0 count)) A (t .end) n e total there)
+
+  -- the parts of the plan
+  abbrev ps : List (List Entry)
+  ps = parts-of o (v .n) t h body fresh
+
+  -- parts placed on the marks
+  abbrev placed : List (List Entry) → Spread
+  placed cs = spread (v .g) (v .end) (marks ws) (map run-size cs)
+
+  -- the bytes that their elements take
+  abbrev room : List (List Entry) → ℕ
+  room cs = length (elements-bytes format4 (map element-of (part-runs (v .g) (placed cs .places) cs)))
+
+  -- and they written over a slice
+  abbrev written : List (List Entry) → List ℕ → List ℕ
+  written cs = parts-written start (v .g) (256 + t .at) (placed cs .places) cs
+
+  module _ (size : ℕ) (w : List ℕ) (sv : Saved s v t size w) where
+    -- the entries as they were saved
+    run-saved : take size w ≡ take (256 * (t .block + t .size) - entries-start (t .block) (t .size)) (drop (entries-start (t .block) (t .size)) area)
+    run-saved =
+        let f : ℕ = entries-start (t .block) (t .size) in
+        sv .1
+        ∙ run-inside o s start f size (q .copy) (omega (arith, sv .0, r .whole, r .inside, start-least (t .block) (t .size), start-most (t .block) (t .size)))
+        ∙ ap (λ (x : ℕ). take x (drop f area)) (sv .0)
+
+    -- the parts of the changed run
+    abbrev cs : List (List Entry)
+    cs = cut 1024 (changed-entries (take size w) h body fresh)
+
+    parts-same : cs ≡ ps
+    parts-same = ap (λ (x : List ℕ). cut 1024 (changed-entries x h body fresh)) (run-saved ∙ run-cut area (t .block) (t .size) (entries-start (t .block) (t .size)) refl)
+
+    -- where their elements start
+    at-there : 256 + t .at ≡ 256 + length B
+    at-there = omega (arith, r .told .at-is)
+
+    -- what writing the parts asks
+    pub kept-asks : (l : ℕ) → l ≡ length s
+        → ((headword-ok h ≡ true) × (length body ≤ 3001) × (length (take size w) ≤ 8388608))
+        × (((v .g ≤ v .end) × (2560 ≤ length ws))
+        × (((placed cs .end ≤ 98304) × (start + 256 * placed cs .end ≤ l))
+        × (256 + t .at + room cs ≤ l)))
+    kept-asks l e =
+        subst
+        (λ (x : List ℕ).
+        ((headword-ok h ≡ true) × (length body ≤ 3001) × (length x ≤ 8388608))
+        × (((v .g ≤ v .end) × (2560 ≤ length ws))
+        × (((placed (cut 1024 (changed-entries x h body fresh)) .end ≤ 98304) × (start + 256 * placed (cut 1024 (changed-entries x h body fresh)) .end ≤ l))
+        × (256 + t .at + room (cut 1024 (changed-entries x h body fresh)) ≤ l))))
+        (sym run-saved) (parts-asks o v T ws t h body fresh r s q l (entries-start (t .block) (t .size)) (256 + t .at) e refl at-there)
+
+    -- the marks then
+    pub kept-marks : (ms : List Bool) → ms ≡ placed cs .free → ms ≡ placed ps .free
+    kept-marks ms = subst (λ (x : List (List Entry)). ms ≡ placed x .free) parts-same
+
+    module _ (b : ℕ) (eb : b ≡ 256 + t .at + room cs) where
+      -- where the new elements end, by the plan's parts
+      new-end : b ≡ 256 + t .at + room ps
+      new-end = subst (λ (x : List (List Entry)). b ≡ 256 + t .at + room x) parts-same eb
+
+      -- with those after they end inside the index
+      all-end : (b + length A ≤ start + 256 * v .g) × (start + 256 * v .g ≤ length s)
+      all-end = index-end o v T ws t h body fresh r s q (256 + t .at) b (b + length A) at-there new-end refl
+
+      -- so the new ones do
+      pub new-inside : (b ≤ start) × (start ≤ length s)
+      new-inside = (omega (arith, all-end .0, still), omega (arith, all-end .1))
+
+      -- THE LAW of the writing where the index does not grow
+      pub kept-areas : (s₃ s₅ : List ℕ) → s₃ ≡ written cs s
+          → length s₃ ≡ length s → s₅ ≡ write b (fitted (start - b) (take (size + (256 * v .n - t .end) - size) (drop size w))) s₃ → Areas s s₅ o v h body fresh
+      kept-areas s₃ s₅ e₃ l₃ e₅ =
+          let z : ℕ = rest-told .0 in
+          let n : ℕ = 256 * v .n - t .end in
+          let rest : List ℕ = take (size + n - size) (drop size w) in
+          let d : rest ≡ A ++ zeros z
+          = rest-cut size n w ∙ sv .2 ∙ sym (bytes-at-within 256 (256 * v .n) (t .end) n s (omega (arith, end-inside)))
+          ∙ ap (bytes-at (t .end) n) (sym index-there) ∙ rest-at index (t .end) n (omega (arith, index-long)) ∙ rest-told .1 in
+          let f : fitted (start - b) rest ≡ A ++ zeros (start - b - length A) = ap (fitted (start - b)) d ∙ fitted-zeros (start - b) A z (omega (arith, all-end .0, still)) in
+          let k : start - b - length A ≡ start + 256 * v .g - (b + length A) = omega (arith, still) in
+          let g : s₅ ≡ write (b + length A) (zeros (start + 256 * v .g - (b + length A))) (write b A s₃)
+          = e₅ ∙ ap (λ (x : List ℕ). write b x s₃) f ∙ sym (write-behind s₃ A (zeros (start - b - length A)) b (omega (arith, all-end, l₃)))
+          ∙ ap (λ (x : ℕ). write (b + length A) (zeros x) (write b A s₃)) k in
+          let e₄ : write b A s₃ ≡ write b (elements-bytes format4 (map (renewed T (v .g)) (elements-at index (t .end) (t .after)))) s₃
+          = ap (λ (es : List Element). write b (elements-bytes format4 es) s₃) (sym (as-they-are (elements-at index (t .end) (t .after)))) in
+          let p : s₃ ≡ written ps s = subst (λ (x : List (List Entry)). s₃ ≡ written x s) parts-same e₃ in
+          areas-done o v T (marks ws) t h body fresh r s q s s s₃ (write b A s₃) s₅ (256 + t .at) b (b + length A) nothing-moved before-there at-there p new-end e₄ refl g
+
+-- ---- keep
+module _ (o : List ℕ) (v : Outline) (T : List ℕ) (ws : List ℕ) (t : Target) (h body : List ℕ) (fresh : Bool) (r : Ready o v T (marks ws) t h body fresh)
+    (s : List ℕ) (q : Roomy s o v (marks ws) t h body fresh) (still : v .g ≡ 0) (last : ℕ) (el : last ≡ spread (v .g) (v .end) (marks ws) (map run-size (parts-of o (v .n) t h body fresh)) .end) where
+  -- what writing the free list and the header asks
+  pub kept-rest : (l k : ℕ) → l ≡ length s → k ≡ length ws
+      → (256 ≤ l) × (256 + 256 * v .n ≤ l) × (v .g ≤ last) × (last ≤ 64 * k) × (256 * (last - v .g) ≤ l - (256 + 256 * v .n)) × (v .n + v .g ≤ 32_767)
+  kept-rest l k e ek =
+      let a = rest-asks o v T ws t h body fresh r s q l last e el k ek in
+      (a .0, omega (arith, a .1), a .2, a .3, omega (arith, a .4, still), a .5)
+
+  -- after both
+  pub kept-written : (s₅ s₇ : List ℕ) (ms : List Bool) → Areas s s₅ o v h body fresh → ms ≡ spread (v .g) (v .end) (marks ws) (map run-size (parts-of o (v .n) t h body fresh)) .free
+      → Sealed s₅ s₇ (256 + 256 * v .n) v (numbers 0 (take (last - v .g) (drop (v .g) ms))) → Written s s₇ o h body fresh
+  kept-written s₅ s₇ ms e₅ em e =
+      let f : 256 + 256 * v .n ≡ 256 + 256 * v .n + 256 * v .g = omega (arith, still) in
+      all-written o v T ws t h body fresh r s q s₅ s₇ ms last e₅ em el (subst (λ (x : ℕ). Sealed s₅ s₇ x v (numbers 0 (take (last - v .g) (drop (v .g) ms)))) f e)
+
+-- where there is room, the change is ready by the image as its blocks tell it
+pub kept-ready : (s : List ℕ) (L : ℕ) (v : Outline) (T ws : List ℕ) (t : Target) (h body : List ℕ) (fresh : Bool) → Ready (take L s) v T (marks ws) t h body fresh
+    → (last : ℕ) → PlannedEnd (take L s) v (marks ws) t h body fresh last → length ws ≡ 2560 → last ≤ 65_536 + v .g → 256 + 256 * v .n + 256 * last ≤ length s → L ≤ length s
+    → let o : List ℕ = take (256 + 256 * v .n + 256 * v .d) s in
+    Ready o v T (marks ws) t h body fresh × Roomy s o v (marks ws) t h body fresh
+    × (last ≡ spread (v .g) (v .end) (marks ws) (map run-size (parts-of o (v .n) t h body fresh)) .end) × (o ≡ take L s)
+kept-ready s L v T ws t h body fresh r last at long few room inside =
+    let o : List ℕ = take (256 + 256 * v .n + 256 * v .d) s in
+    let e : o ≡ take L s = ap (λ (x : ℕ). take x s) (r .whole ∙ length-take-le L s inside) in
+    let l : length (marks ws) ≡ 163_840 = marks-long ws long in (
+      copy-ready s L v T (marks ws) t h body fresh r last at l few room inside o e,
+      copy-roomy s L v T (marks ws) t h body fresh r last at l few room inside o e,
+      copy-last s L v T (marks ws) t h body fresh r last at l few room inside o e,
+      e,
+    )

@@ -1,0 +1,189 @@
+-- `keep` meets its contract.
+use mathlib.Core.Path.{refl, sym}
+use native.Mathlib.Omega.{arith}
+use lib.Seq.{length-take-le}
+use Rattle.change.proofs.Laws.{run-few}
+use Rattle.change.proofs.FinishLaws.{marks-long, end-behind, finish-blocks, finish-length, finish-done}
+use Rattle.change.proofs.KeptLaws.{kept-rest, kept-written, kept-ready}
+use borrow.Author.Needs.{needs}
+use Rattle.change.proofs.keep.Statement.{statement}
+use Rattle.change.proofs.keep.Tie as tie
+
+slice-reshare-prefix-plan-end : tie.Need-slice-reshare-prefix-plan-end
+slice-reshare-prefix-plan-end c = search needs
+
+slice-aggregate-plan-end : tie.Need-slice-aggregate-plan-end
+slice-aggregate-plan-end c = sym (length-take-le _ _ (start .pre .1 .1))
+  where
+    start : tie.Start
+    start = search
+
+plan-end-requires : tie.Need-plan-end-requires
+plan-end-requires c κs =
+    let r = start .pre .0 in
+    ((r .whole, r .inside, run-few _ _ _ _ _ _ _ _ r, r .few-blocks), ((end-behind _ _ _ _ _ _ _ _ r, r .end-few, r .few-index, start .pre .1 .3), (r .headword, r .body-short)))
+  where
+    start : tie.Start
+    start = search
+
+add-if1 : tie.Need-add-if1
+add-if1 c = search needs
+
+same-length : tie.Need-same-length
+same-length c = search needs
+
+same-length-2 : tie.Need-same-length-2
+same-length-2 c = search needs
+
+returns : tie.Need-returns
+returns c = (
+  finish-blocks (start .args .image .now) (start .args .len) _ _ _ _ _ _ _ (start .pre .0) _ (measured .plan-end .ensures .0) (marks-long _ (start .pre .1 .3)) (full .if1 .taken),
+  (refl, refl),
+)
+  where
+    full : tie.Then1
+    full = search
+
+    measured : tie.After-plan-end
+    measured = search full
+
+    start : tie.Start
+    start = search measured
+
+mul-front : tie.Need-mul-front
+mul-front c = search needs
+
+add-front : tie.Need-add-front
+add-front c = search needs
+
+mul-new-len : tie.Need-mul-new-len
+mul-new-len c = search needs
+
+add-new-len : tie.Need-add-new-len
+add-new-len c = search needs
+
+same-length-3 : tie.Need-same-length-3
+same-length-3 c = search needs
+
+same-length-4 : tie.Need-same-length-4
+same-length-4 c = search needs
+
+returns-2 : tie.Need-returns-2
+returns-2 c = (
+  finish-length (start .args .image .now) (start .args .len) _ _ _ _ _ _ _ (start .pre .0)
+      _ (measured .plan-end .ensures .0) (marks-long _ (start .pre .1 .3)) (few .if1 .left) (full .if2 .taken),
+  (refl, refl),
+)
+  where
+    full : tie.Then2
+    full = search
+
+    few : tie.Else1
+    few = search full
+
+    measured : tie.After-plan-end
+    measured = search few
+
+    start : tie.Start
+    start = search measured
+
+write-kept-requires : tie.Need-write-kept-requires
+write-kept-requires c κs =
+    let k = kept-ready (start .args .image .now) (start .args .len) _ _ _ _ _ _ _ (start .pre .0)
+    _ (measured .plan-end .ensures .0) (start .pre .1 .3) (few .if1 .left) (roomy .if2 .left) (start .pre .1 .1) in
+    (k .0, (k .1, (start .pre .1 .0, start .pre .1 .2)))
+  where
+    roomy : tie.Else2
+    roomy = search
+
+    few : tie.Else1
+    few = search roomy
+
+    measured : tie.After-plan-end
+    measured = search few
+
+    start : tie.Start
+    start = search measured
+
+write-rest-requires : tie.Need-write-rest-requires
+write-rest-requires c κs =
+    let k = kept-ready (start .args .image .now) (start .args .len) _ _ _ _ _ _ _ (start .pre .0)
+    _ (measured .plan-end .ensures .0) (start .pre .1 .3) (few .if1 .left) (roomy .if2 .left) (start .pre .1 .1) in
+    kept-rest _ _ _ _ _ _ _ _ (k .0) _ (k .1) (start .pre .1 .0) _ (k .2) _ _ (areas .write-kept .ensures .1 .1 .0) (areas .write-kept .ensures .1 .1 .2)
+  where
+    areas : tie.After-write-kept
+    areas = search
+
+    roomy : tie.Else2
+    roomy = search areas
+
+    few : tie.Else1
+    few = search roomy
+
+    measured : tie.After-plan-end
+    measured = search few
+
+    start : tie.Start
+    start = search measured
+
+same-length-5 : tie.Need-same-length-5
+same-length-5 c = search needs
+
+same-length-6 : tie.Need-same-length-6
+same-length-6 c = search needs
+
+same-length-7 : tie.Need-same-length-7
+same-length-7 c = search needs
+
+returns-3 : tie.Need-returns-3
+returns-3 c =
+    let k = kept-ready (start .args .image .now) (start .args .len) _ _ _ _ _ _ _ (start .pre .0)
+    _ (measured .plan-end .ensures .0) (start .pre .1 .3) (few .if1 .left) (roomy .if2 .left) (start .pre .1 .1) in
+    let w = kept-written _ _ _ _ _ _ _ _ (k .0) _ (k .1) (start .pre .1 .0) _ (k .2) _ _ _ (areas .write-kept .ensures .0) (areas .write-kept .ensures .1 .0) (sealed .write-rest .ensures .0) in (
+      finish-done (start .args .image .now) (start .args .len) _ _ _ _ _ _ _ (start .pre .0) _ (measured .plan-end .ensures .0) (marks-long _ (start .pre .1 .3))
+          (few .if1 .left) (roomy .if2 .left) (start .pre .1 .1) _ (k .3) _ w,
+      (omega (arith, sealed .write-rest .ensures .1, areas .write-kept .ensures .1 .1 .0), areas .write-kept .ensures .1 .1 .1),
+    )
+  where
+    sealed : tie.After-write-rest
+    sealed = search
+
+    areas : tie.After-write-kept
+    areas = search sealed
+
+    roomy : tie.Else2
+    roomy = search areas
+
+    few : tie.Else1
+    few = search roomy
+
+    measured : tie.After-plan-end
+    measured = search few
+
+    start : tie.Start
+    start = search measured
+
+pub keep-spec : {M : Type 1} → statement M
+keep-spec =
+    tie.close
+    (tie.spec
+    slice-reshare-prefix-plan-end
+    slice-aggregate-plan-end
+    plan-end-requires
+    add-if1
+    same-length
+    same-length-2
+    returns
+    mul-front
+    add-front
+    mul-new-len
+    add-new-len
+    same-length-3
+    same-length-4
+    returns-2
+    write-kept-requires
+    write-rest-requires
+    same-length-5
+    same-length-6
+    same-length-7
+    returns-3)

@@ -1,0 +1,85 @@
+-- `save_old` meets its contract.
+use mathlib.Core.Path.{refl}
+use native.Mathlib.Omega.{arith}
+use Rattle.change.proofs.KeptLaws.{saved}
+use borrow.Author.Needs.{needs}
+use Rattle.change.proofs.save_old.Statement.{statement}
+use Rattle.change.proofs.save_old.Tie as tie
+
+mul-start : tie.Need-mul-start
+mul-start c = search needs
+
+add-start : tie.Need-add-start
+add-start c = search needs
+
+entries-start-requires : tie.Need-entries-start-requires
+entries-start-requires c κs = search needs
+
+add-size : tie.Need-add-size
+add-size c = search needs
+
+mul-size : tie.Need-mul-size
+mul-size c = search needs
+
+sub-size : tie.Need-sub-size
+sub-size c = search needs
+
+add-copy : tie.Need-add-copy
+add-copy c = search needs
+
+copy-requires : tie.Need-copy-requires
+copy-requires c κs = search needs
+
+add-copy-2 : tie.Need-add-copy-2
+add-copy-2 c = search needs
+
+mul-copy : tie.Need-mul-copy
+mul-copy c = search needs
+
+sub-copy : tie.Need-sub-copy
+sub-copy c = search needs
+
+copy-requires-2 : tie.Need-copy-requires-2
+copy-requires-2 c κs = search needs
+
+same-length : tie.Need-same-length
+same-length c = search needs
+
+returns : tie.Need-returns
+returns c = (
+  saved (start .args .image .now) (start .args .work .now) (first .copy .last .0) _ (start .args .v) (start .args .t)
+      _ _ (found .entries-start .ensures .0) refl (first .copy .ensures .0) (second .copy2 .ensures .0)
+      (omega (arith, found .entries-start .ensures .1, start .pre .0, start .pre .1)) (start .pre .1 .1) (omega (arith, start .pre .0, start .pre .1)),
+  (omega (arith, found .entries-start .ensures .1, start .pre .0, start .pre .1), omega (arith, first .copy .ensures .1, second .copy2 .ensures .1)),
+)
+  where
+    second : tie.After-copy2
+    second = search
+
+    first : tie.After-copy
+    first = search second
+
+    found : tie.After-entries-start
+    found = search first
+
+    start : tie.Start
+    start = search found
+
+pub save-old-spec : {M : Type 1} → statement M
+save-old-spec =
+    tie.close
+    (tie.spec
+    mul-start
+    add-start
+    entries-start-requires
+    add-size
+    mul-size
+    sub-size
+    add-copy
+    copy-requires
+    add-copy-2
+    mul-copy
+    sub-copy
+    copy-requires-2
+    same-length
+    returns)
