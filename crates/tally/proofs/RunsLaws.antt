@@ -36,9 +36,9 @@ use Rattle.runs.proofs.Laws.{inside-short, step-less, told-broken, told-end, to
 use Rattle.runs.specs.declared.Step.{Step}
 use Rattle.index.specs.Elements as Elements
 use Rattle.index.specs.Elements.{element-end, element-at, elements-at, Inside}
-use Rattle.index.proofs.Laws.{here-end, here-next, inside-start, inside-next, elements-next, element-headword-length}
+use Rattle.index.proofs.Laws.{element-end-past, here-end, here-next, inside-start, inside-next, elements-next, element-headword-length}
 use Rattle.marks.specs.Marks.{with-range}
-use Rattle.tally.specs.Tally.{covered, tally, runs-answer, last-below, Sized, Started}
+use Rattle.tally.specs.Tally.{covered, tally, runs-answer, last-below, Sized, Started, Carried}
 use Rattle.tally.specs.declared.Runs.{Runs}
 
 -- a run of n blocks by the entries read so far and those that follow
@@ -375,6 +375,19 @@ module _ (F : Format) (index area : List ℕ) (n D : ℕ) (ms₀ : List Bool) (w
         opened : runs-from F D area (element-at index at ∷ elements-at index (element-end index at + 1) (left - 1)) ≡ others >>= λ rs. ok (r ∷ rs)
         opened = rw h
 
+-- no element is left
+pub carried-none : (index : List ℕ) (at left : ℕ) → left ≡ 0 → Carried index at left at
+carried-none index at left z = record { told = λ p. absurd (omega arith) }
+
+-- it is inside the index
+pub none-inside : (index : List ℕ) (at left : ℕ) → Inside index at left → left ≡ 0 → at ≤ length index
+none-inside index at zero i z = i
+none-inside index at (suc n) i z = absurd (omega arith)
+
+-- one is
+pub carried-some : (index : List ℕ) (at left end : ℕ) → end ≡ element-end index at → Carried index at left end
+carried-some index at left end e = record { told = λ p. e }
+
 -- there is no next element
 pub ends-none : (F : Format) (index last : List ℕ) (at left : ℕ) → left ≡ 0 → true ≡ last-below F last (next-headword (elements-at index at left))
 unfolding last-below CheckSpec.next-headword Elements.elements-at
@@ -382,15 +395,23 @@ ends-none F index last at left z = rw z
 
 module _ (index : List ℕ) (at left : ℕ) (some-left : left ≡ 0 → ⊥) where
   -- the next element's headword decides
-  pub ends-next : (last : List ℕ) (end : ℕ) (b : Bool) → end ≡ element-end index at → b ≡ below-of 0 last (take (end - (at + 2)) (drop (at + 2) index))
+  pub ends-next : (last : List ℕ) (end : ℕ) (b : Bool) → Carried index at left end → b ≡ below-of 0 last (take (end - (at + 2)) (drop (at + 2) index))
       → b ≡ last-below format4 last (next-headword (elements-at index at left))
   unfolding last-below CheckSpec.next-headword Elements.element-at Elements.element-headword BytesSpec.bytes-at Header.format4
-  ends-next last end b e h = rw (elements-next index at left (omega arith), ← e) h
+  ends-next last end b k h = let e : end ≡ element-end index at = k .told (omega arith) in rw (elements-next index at left (omega arith), ← e) h
 
 module _ (index : List ℕ) (at left : ℕ) (standing : Inside index at left) (some-left : left ≡ 0 → ⊥) where
   -- an element's number stands inside the index
   pub number-inside : at + 2 ≤ length index
   number-inside = inside-start index at left standing (omega arith)
+
+  -- its zero byte stands behind the number
+  pub zero-behind : (end : ℕ) → Carried index at left end → at + 2 ≤ end
+  zero-behind end k = omega (arith, k .told (omega arith), element-end-past index at)
+
+  -- and inside the index
+  pub zero-inside : (end : ℕ) → Carried index at left end → end < length index
+  zero-inside end k = here-end index at left end standing (k .told (omega arith)) (omega arith)
 
 -- the walk inside the run of an element, in the terms of the code
 pub record Underway (index area : List ℕ) (D words blocks at left b size : ℕ) (run : List ℕ) (end : ℕ) (word : List ℕ) (len pos count : ℕ) : Type 0 where
@@ -420,7 +441,10 @@ module _ (index area : List ℕ) (n D : ℕ) (ms₀ : List Bool) (words blocks a
     pub walk-seven : (ms′ : List Bool) → size ≡ 0 → runs-answer (Runs.Refused 7) ms′ ≡ tally 0 0 ms₀ (runs-from format4 D area (elements-at index 0 n))
     walk-seven ms′ z = walk-refused format4 index area n D ms₀ words blocks at left ms v some-left 7 ms′ (walk-unplaced format4 D area (element-at index at) (following index at left) size b number sized z)
 
-    module _ (some-blocks : size ≡ 0 → ⊥) (long : 256 * D ≡ length area) (end : ℕ) (e : end ≡ element-end index at) where
+    module _ (some-blocks : size ≡ 0 → ⊥) (long : 256 * D ≡ length area) (end : ℕ) (carried : Carried index at left end) where
+      e : end ≡ element-end index at
+      e = carried .told (omega arith)
+
       headword : element-at index at .headword ≡ take (end - (at + 2)) (drop (at + 2) index)
       unfolding Elements.element-at Elements.element-headword BytesSpec.bytes-at
       headword = rw e
@@ -511,4 +535,4 @@ module _ (index area : List ℕ) (D words blocks at left b size : ℕ) (run : Li
   pub walk-front : (word′ : List ℕ) → length word′ ≡ length word → len ≡ length (take len word′)
   walk-front word′ l = sym (length-take-le len word′ (omega (arith, u .reading .buffer, u .reading .short)))
 
-pub ruleset runs-laws = (walk-start, walk-done, walk-number, walk-seven, walk-eight, step-less, walk-broken, walk-high, walk-front, needs)
+pub ruleset runs-laws = (walk-start, walk-done, walk-number, zero-behind, zero-inside, walk-seven, walk-eight, step-less, walk-broken, walk-high, walk-front, needs)

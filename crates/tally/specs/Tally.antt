@@ -13,6 +13,7 @@ use Rattle.spec.specs.Run.{Run}
 use Rattle.spec.specs.Blocks.{run-blocks}
 use Rattle.spec.specs.Check.{all-entries, first-entry, run-from}
 use Rattle.marks.specs.Marks.{with-range}
+use Rattle.index.specs.Elements.{element-end}
 use Rattle.tally.specs.declared.Runs.{Runs}
 
 -- the marks with those of all blocks of runs set
@@ -52,6 +53,10 @@ abbrev pub Started : Format → List ℕ → List ℕ → List ℕ → ℕ → T
 Started F h run word x =
     (x ≡ 0 → first-entry F h (drop 2 run) ≡ refused 8)
     × (0 < x → (2 < x) × (take (length h) word ≡ h) × (body : List ℕ) × (first-entry F h (drop 2 run) ≡ ok (record { headword = h; body = body }, drop x run)))
+
+-- where the zero byte of the element at `at` is, the first of `left`, if there is one
+pub record Carried (index : List ℕ) (at left end : ℕ) : Type 0 where
+  pub told : 0 < left → end ≡ element-end index at
 
 -- names all definitions of this module: who unfolds it unfolds them
 unfoldable pub open-tally : Unit {0}

@@ -6,7 +6,7 @@ ghost use Rattle.spec.specs.Header.{format4};
 ghost use Rattle.spec.specs.Check.{runs-from, next-headword};
 ghost use Rattle.marks.specs.Marks.{marks};
 ghost use Rattle.index.specs.Elements.{elements-at, Inside};
-ghost use Rattle.tally.specs.Tally.{tally, runs-answer, last-below, Sized, Started};
+ghost use Rattle.tally.specs.Tally.{tally, runs-answer, last-below, Sized, Started, Carried};
 use byteops::read_u16;
 use index::element_end;
 use runs::Step;
@@ -61,15 +61,29 @@ fn first_entry(run: &[u8], headword: &[u8], word: &mut [u8]) -> usize
     }
 }
 
-// Whether a run that ends with the headword `last` ends below the next of `left` elements from `at` on, if there is one.
-fn ends_below(index: &[u8], at: usize, left: usize, last: &[u8]) -> bool
+// Where the zero byte of the element at `at` is, the first of `left`; `at` where none is left.
+fn end_of(index: &[u8], at: usize, left: usize) -> usize
     requires { ⌜ Inside (now index) at left ⌝ }
+    ensures { λ r. ⌜ Carried (now (index .entry)) at left r ⌝ }
+    ensures { λ r. ⌜ r ≤ length (now (index .entry)) ⌝ }
+{
+    if left == 0 {
+        return at;
+    }
+    element_end(index, at)
+}
+
+// Whether a run that ends with the headword `last` ends below the next of `left` elements from `at` on, if there is one; its zero
+// byte is at `end`.
+fn ends_below(index: &[u8], at: usize, end: usize, left: usize, last: &[u8]) -> bool
+    requires { ⌜ Inside (now index) at left ⌝ }
+    requires { ⌜ Carried (now index) at left end ⌝ }
+    requires { ⌜ end ≤ length (now index) ⌝ }
     ensures { λ r. ⌜ r ≡ last-below format4 (now (last .entry)) (next-headword (elements-at (now (index .entry)) at left)) ⌝ }
 {
     if left == 0 {
         return true;
     }
-    let end = element_end(index, at);
     scans::is_below(0, last, &index[at + 2..end])
 }
 
@@ -84,6 +98,8 @@ pub fn read_runs(index: &[u8], n: usize, area: &[u8], d: usize, used: &mut [u64]
     let mut blocks = 0;
     let mut at = 0;
     let mut left = n;
+    // where the zero byte of the element at `at` is
+    let mut end = end_of(index, 0, n);
     'walk: loop {
         if left == 0 {
             break 'walk Runs::Read {
@@ -97,7 +113,6 @@ pub fn read_runs(index: &[u8], n: usize, area: &[u8], d: usize, used: &mut [u64]
             break 'walk Runs::Refused(7);
         }
         let run = &area[256 * b..256 * b + 256 * size];
-        let end = element_end(index, at);
         let mut pos = first_entry(run, &index[at + 2..end], &mut word);
         if pos == 0 {
             break 'walk Runs::Refused(8);
@@ -124,13 +139,16 @@ pub fn read_runs(index: &[u8], n: usize, area: &[u8], d: usize, used: &mut [u64]
                 }
             }
         }
-        if !ends_below(index, end + 1, left - 1, &word[..len]) {
+        let next = end + 1;
+        let zero = end_of(index, next, left - 1);
+        if !ends_below(index, next, zero, left - 1, &word[..len]) {
             break 'walk Runs::Refused(8);
         }
         marks::mark_range(used, b, size);
         words += count;
         blocks += size;
-        at = end + 1;
+        at = next;
+        end = zero;
         left -= 1;
     }
 }

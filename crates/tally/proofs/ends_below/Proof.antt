@@ -1,4 +1,5 @@
-use Rattle.tally.proofs.RunsLaws.{ends-none, ends-next, number-inside}
+use native.Mathlib.Omega.{arith}
+use Rattle.tally.proofs.RunsLaws.{ends-none, ends-next, zero-behind}
 use borrow.Author.Needs.{needs}
 use Rattle.tally.proofs.ends_below.Statement.{statement}
 use Rattle.tally.proofs.ends_below.Tie as tie
@@ -6,20 +7,41 @@ use Rattle.tally.proofs.ends_below.Tie as tie
 returns : tie.Need-returns
 returns c = search ends-none
 
-element-end-requires : tie.Need-element-end-requires
-element-end-requires c κs = number-inside _ _ _ (c .before .before .before .pre) (c .if1 .left)
-
 add-is-below : tie.Need-add-is-below
-add-is-below c = search needs
+add-is-below c = omega (arith, zero-behind _ _ _ (start .pre .0) (tested .if1 .left) _ (start .pre .1 .0), start .pre .1 .1)
+  where
+    tested : tie.Else1
+    tested = search
+
+    start : tie.Start
+    start = search tested
 
 sub-is-below : tie.Need-sub-is-below
-sub-is-below c = search needs
+sub-is-below c = omega (arith, zero-behind _ _ _ (start .pre .0) (tested .if1 .left) _ (start .pre .1 .0), start .pre .1 .1)
+  where
+    tested : tie.Else1
+    tested = search
+
+    start : tie.Start
+    start = search tested
 
 part-is-below-start : tie.Need-part-is-below-start
-part-is-below-start c = search needs
+part-is-below-start c = omega (arith, zero-behind _ _ _ (start .pre .0) (tested .if1 .left) _ (start .pre .1 .0), start .pre .1 .1)
+  where
+    tested : tie.Else1
+    tested = search
+
+    start : tie.Start
+    start = search tested
 
 part-is-below-end : tie.Need-part-is-below-end
-part-is-below-end c = search needs
+part-is-below-end c = omega (arith, zero-behind _ _ _ (start .pre .0) (tested .if1 .left) _ (start .pre .1 .0), start .pre .1 .1)
+  where
+    tested : tie.Else1
+    tested = search
+
+    start : tie.Start
+    start = search tested
 
 is-below-requires : tie.Need-is-below-requires
 is-below-requires c κs = search needs
@@ -32,7 +54,6 @@ ends-below-spec =
     tie.close
     (tie.spec
     returns
-    element-end-requires
     add-is-below
     sub-is-below
     part-is-below-start

@@ -1,26 +1,32 @@
 use Prim.Native.Nat.{_+_, _-_, _*_, _≤_}
 use mathlib.Core.Path.{_≡_}
+use native.Mathlib.Omega.{arith}
 use lib.ListN.{length}
 use Rattle.spec.specs.Header.{format4}
 use Rattle.marks.specs.Marks.{marks}
-use Rattle.tally.proofs.RunsLaws.{Walking, Underway, walk-reading, walk-turn, walk-behind, walk-on, runs-laws}
+use Rattle.tally.specs.Tally.{Carried}
+use Rattle.tally.proofs.RunsLaws.{Walking, Underway, walk-reading, walk-turn, walk-behind, walk-on, zero-behind, zero-inside, runs-laws}
 use borrow.Author.Needs.{needs}
 use Rattle.tally.proofs.read_runs.Statement.{statement}
 use Rattle.tally.proofs.read_runs.Tie as tie
 
 abbrev Inv-loop : tie.InvT-loop
-Inv-loop index n area d used word₀ words blocks at left b size run end pos₀ len₀ count₀ word pos len count =
+Inv-loop index n area d used word₀ words blocks at left end b size run pos₀ len₀ count₀ word pos len count =
     (b + size ≤ 64 * length used) × Underway index area d words blocks at left b size run end word len pos count
 
 abbrev μ-loop : tie.MeasureT-loop
-μ-loop index n area d used word₀ words blocks at left b size run end pos₀ len₀ count₀ word pos len count =
+μ-loop index n area d used word₀ words blocks at left end b size run pos₀ len₀ count₀ word pos len count =
     length run - pos
 
 abbrev Inv-walk : tie.InvT-walk
-Inv-walk index n area d used₀ word₀ words₀ blocks₀ at₀ left₀ used word words blocks at left = (length word ≡ 256) × (length used ≡ length used₀) × Walking format4 index area n d (marks used₀) words blocks at left (marks used)
+Inv-walk index n area d used₀ word₀ words₀ blocks₀ at₀ left₀ end₀ used word words blocks at left end =
+    (length word ≡ 256) × (length used ≡ length used₀) × Walking format4 index area n d (marks used₀) words blocks at left (marks used) × Carried index at left end
 
 abbrev μ-walk : tie.MeasureT-walk
-μ-walk index n area d used₀ word₀ words₀ blocks₀ at₀ left₀ used word words blocks at left = left
+μ-walk index n area d used₀ word₀ words₀ blocks₀ at₀ left₀ end₀ used word words blocks at left end = left
+
+end-of-requires : tie.Need-end-of-requires Inv-loop μ-loop Inv-walk μ-walk
+end-of-requires c κs = search runs-laws
 
 walk-holds : tie.Need-walk-holds Inv-loop μ-loop Inv-walk μ-walk
 walk-holds c = search runs-laws
@@ -52,11 +58,14 @@ part-run-start c = search runs-laws
 part-run-end : tie.Need-part-run-end Inv-loop μ-loop Inv-walk μ-walk
 part-run-end c = search runs-laws
 
-element-end-requires : tie.Need-element-end-requires Inv-loop μ-loop Inv-walk μ-walk
-element-end-requires c κs = search runs-laws
-
 add-first-entry : tie.Need-add-first-entry Inv-loop μ-loop Inv-walk μ-walk
-add-first-entry c = search runs-laws
+add-first-entry c = omega (arith, zero-behind _ _ _ (walk .walk .inv .2 .standing) (some .if1 .left) _ (walk .walk .inv .3), zero-inside _ _ _ (walk .walk .inv .2 .standing) (some .if1 .left) _ (walk .walk .inv .3))
+  where
+    some : tie.Else1 Inv-loop μ-loop Inv-walk μ-walk
+    some = search
+
+    walk : tie.At-walk Inv-loop μ-loop Inv-walk μ-walk
+    walk = search some
 
 sub-first-entry : tie.Need-sub-first-entry Inv-loop μ-loop Inv-walk μ-walk
 sub-first-entry c = search runs-laws
@@ -65,7 +74,13 @@ part-first-entry-start : tie.Need-part-first-entry-start Inv-loop μ-loop Inv-wa
 part-first-entry-start c = search runs-laws
 
 part-first-entry-end : tie.Need-part-first-entry-end Inv-loop μ-loop Inv-walk μ-walk
-part-first-entry-end c = search runs-laws
+part-first-entry-end c = omega (arith, zero-behind _ _ _ (walk .walk .inv .2 .standing) (some .if1 .left) _ (walk .walk .inv .3), zero-inside _ _ _ (walk .walk .inv .2 .standing) (some .if1 .left) _ (walk .walk .inv .3))
+  where
+    some : tie.Else1 Inv-loop μ-loop Inv-walk μ-walk
+    some = search
+
+    walk : tie.At-walk Inv-loop μ-loop Inv-walk μ-walk
+    walk = search some
 
 slice-aggregate-first-entry : tie.Need-slice-aggregate-first-entry Inv-loop μ-loop Inv-walk μ-walk
 slice-aggregate-first-entry c = search runs-laws
@@ -74,13 +89,41 @@ first-entry-requires : tie.Need-first-entry-requires Inv-loop μ-loop Inv-walk �
 first-entry-requires c κs = search runs-laws
 
 add-len : tie.Need-add-len Inv-loop μ-loop Inv-walk μ-walk
-add-len c = search runs-laws
+add-len c = omega (arith, zero-behind _ _ _ (walk .walk .inv .2 .standing) (some .if1 .left) _ (walk .walk .inv .3), zero-inside _ _ _ (walk .walk .inv .2 .standing) (some .if1 .left) _ (walk .walk .inv .3))
+  where
+    some : tie.Else1 Inv-loop μ-loop Inv-walk μ-walk
+    some = search
+
+    walk : tie.At-walk Inv-loop μ-loop Inv-walk μ-walk
+    walk = search some
 
 sub-len : tie.Need-sub-len Inv-loop μ-loop Inv-walk μ-walk
 sub-len c = search runs-laws
 
 loop-holds : tie.Need-loop-holds Inv-loop μ-loop Inv-walk μ-walk
-loop-holds c = (search needs, search walk-reading)
+loop-holds c = (
+  search needs,
+  walk-reading _ _ _ _ _ _ _ _ _ _ (walk .walk .inv .2) (some .if1 .left) _ (number .read-u16 .ensures .0) _ (sized .run-size .ensures .0) (there .if2 .left) (search) _ (walk .walk .inv .3)
+      _ _ (first .first-entry .ensures .0) (search) (search) (search) (search),
+)
+  where
+    first : tie.After-first-entry Inv-loop μ-loop Inv-walk μ-walk
+    first = search
+
+    there : tie.Else2 Inv-loop μ-loop Inv-walk μ-walk
+    there = search first
+
+    sized : tie.After-run-size Inv-loop μ-loop Inv-walk μ-walk
+    sized = search there
+
+    number : tie.After-read-u16 Inv-loop μ-loop Inv-walk μ-walk
+    number = search sized
+
+    some : tie.Else1 Inv-loop μ-loop Inv-walk μ-walk
+    some = search number
+
+    walk : tie.At-walk Inv-loop μ-loop Inv-walk μ-walk
+    walk = search some
 
 slice-aggregate-read-entry : tie.Need-slice-aggregate-read-entry Inv-loop μ-loop Inv-walk μ-walk
 slice-aggregate-read-entry c = search runs-laws
@@ -106,8 +149,17 @@ loop-less c = search runs-laws
 loop-again : tie.Need-loop-again Inv-loop μ-loop Inv-walk μ-walk
 loop-again c = (search needs, search walk-turn)
 
-add-ends-below : tie.Need-add-ends-below Inv-loop μ-loop Inv-walk μ-walk
-add-ends-below c = search runs-laws
+add-next : tie.Need-add-next Inv-loop μ-loop Inv-walk μ-walk
+add-next c = search runs-laws
+
+sub-end-of : tie.Need-sub-end-of Inv-loop μ-loop Inv-walk μ-walk
+sub-end-of c = search runs-laws
+
+end-of-requires-2 : tie.Need-end-of-requires-2 Inv-loop μ-loop Inv-walk μ-walk
+end-of-requires-2 c κs = walk-behind _ _ _ _ _ _ _ _ _ _ _ _ _ _ _ (reading .loop .inv .1)
+  where
+    reading : tie.At-loop Inv-loop μ-loop Inv-walk μ-walk
+    reading = search
 
 sub-ends-below : tie.Need-sub-ends-below Inv-loop μ-loop Inv-walk μ-walk
 sub-ends-below c = search runs-laws
@@ -119,7 +171,13 @@ slice-aggregate-ends-below : tie.Need-slice-aggregate-ends-below Inv-loop μ-loo
 slice-aggregate-ends-below c = search runs-laws
 
 ends-below-requires : tie.Need-ends-below-requires Inv-loop μ-loop Inv-walk μ-walk
-ends-below-requires c κs = walk-behind _ _ _ _ _ _ _ _ _ _ _ _ _ _ _ (c .before .before .before .before .before .before .loop .inv .1)
+ends-below-requires c κs = (walk-behind _ _ _ _ _ _ _ _ _ _ _ _ _ _ _ (reading .loop .inv .1), (next .end-of2 .ensures .0, next .end-of2 .ensures .1))
+  where
+    next : tie.After-end-of2 Inv-loop μ-loop Inv-walk μ-walk
+    next = search
+
+    reading : tie.At-loop Inv-loop μ-loop Inv-walk μ-walk
+    reading = search next
 
 mark-range-requires : tie.Need-mark-range-requires Inv-loop μ-loop Inv-walk μ-walk
 mark-range-requires c κs = search runs-laws
@@ -130,9 +188,6 @@ add-words c = search runs-laws
 add-blocks : tie.Need-add-blocks Inv-loop μ-loop Inv-walk μ-walk
 add-blocks c = search runs-laws
 
-add-at : tie.Need-add-at Inv-loop μ-loop Inv-walk μ-walk
-add-at c = search runs-laws
-
 sub-left : tie.Need-sub-left Inv-loop μ-loop Inv-walk μ-walk
 sub-left c = search runs-laws
 
@@ -142,9 +197,25 @@ walk-less c = search runs-laws
 walk-again : tie.Need-walk-again Inv-loop μ-loop Inv-walk μ-walk
 walk-again c = (
   search needs,
-  search (c .before .before .before .before .before .before .before .before .before .before .before .before .before .before .before .before .before .before .before .before .before .before .before .before .walk .inv .1, needs),
-  walk-on _ _ _ _ _ _ _ _ _ _ _ _ _ _ _ (c .before .before .before .before .before .before .before .before .before .before .before .before .loop .inv .1) _ _ (c .before .before .before .before .before .before .before .before .before .before .read-entry .ensures .0) (search) (c .before .before .before .before .before .before .before .before .before .before .read-entry .ensures .1 .1 .1) _ (c .before .before .before .before .before .ends-below .ensures) _ _ _ (c .before .before .before .before .before .before .before .before .before .before .before .before .before .before .before .before .before .before .before .before .before .before .before .before .walk .inv .2) (search) _ (search),
+  search (walk .walk .inv .1, needs),
+  walk-on _ _ _ _ _ _ _ _ _ _ _ _ _ _ _ (reading .loop .inv .1) _ _ (step .read-entry .ensures .0) (search) (step .read-entry .ensures .1 .1 .1) _ (below .ends-below .ensures) _ _ _ (walk .walk .inv .2) (search) _ (search),
+  next .end-of2 .ensures .0,
 )
+  where
+    below : tie.After-ends-below Inv-loop μ-loop Inv-walk μ-walk
+    below = search
+
+    next : tie.After-end-of2 Inv-loop μ-loop Inv-walk μ-walk
+    next = search below
+
+    step : tie.After-read-entry Inv-loop μ-loop Inv-walk μ-walk
+    step = search next
+
+    reading : tie.At-loop Inv-loop μ-loop Inv-walk μ-walk
+    reading = search step
+
+    walk : tie.At-walk Inv-loop μ-loop Inv-walk μ-walk
+    walk = search reading
 
 same-length : tie.Need-same-length Inv-loop μ-loop Inv-walk μ-walk
 same-length c = search runs-laws
@@ -184,6 +255,7 @@ read-runs-spec =
     μ-loop
     Inv-walk
     μ-walk
+    end-of-requires
     walk-holds
     read-u16-requires
     run-size-requires
@@ -194,7 +266,6 @@ read-runs-spec =
     sub-run
     part-run-start
     part-run-end
-    element-end-requires
     add-first-entry
     sub-first-entry
     part-first-entry-start
@@ -212,7 +283,9 @@ read-runs-spec =
     add-count
     loop-less
     loop-again
-    add-ends-below
+    add-next
+    sub-end-of
+    end-of-requires-2
     sub-ends-below
     array-share-prefix-word
     slice-aggregate-ends-below
@@ -220,7 +293,6 @@ read-runs-spec =
     mark-range-requires
     add-words
     add-blocks
-    add-at
     sub-left
     walk-less
     walk-again
