@@ -2,9 +2,9 @@
 use Prim.Native.Nat.{ℕ, _+_, _-_, _*_, _%_, _^_, _<_, _≤_}
 use mathlib.Core.Path.{_≡_, refl, sym, ap, subst, _∙_}
 use mathlib.Core.Bool.{Bool, true, false, not}
-use mathlib.Core.List.{List, [], _++_, append-nil}
+use mathlib.Core.List.{List}
 use native.Mathlib.Omega.{arith}
-use lib.ListN.{length, getD, take, drop, drop-of-length-le}
+use lib.ListN.{length, getD, take}
 use lib.Seq.{length-take-le, take-length}
 use lib.Dec.{T, eqb}
 use lib.Pow.{areBytes}
@@ -30,7 +30,7 @@ use Rattle.spec.specs.Slices.{WorkZeroed}
 use Rattle.spec.specs.declared.LengthAnswer.{LengthAnswer}
 use Rattle.spec.specs.declared.DeleteAnswer.{DeleteAnswer}
 use Rattle.spec.proofs.ListsLaws.{and-left}
-use Rattle.spec.proofs.BytesLaws.{length-zeros, small-of, bytes-of, small-take, small-at, from-small, small-part}
+use Rattle.spec.proofs.BytesLaws.{small-of, bytes-of, small-take, small-at, from-small, small-part}
 use Rattle.spec.proofs.PartLaws.{length-bytes-at}
 use Rattle.spec.proofs.ReadLaws.{ImageTold, image-told}
 use Rattle.spec.proofs.SlicesLaws.{work-after-calls}
@@ -86,13 +86,6 @@ optimise-refuses s L work k e = (sym (rw e), sym (rw e))
 pub all-bytes : (s : List ℕ) → ((k : ℕ) → getD s k 0 < 256) → T (areBytes s)
 unfolding Bytes.bytes-at
 all-bytes s h = bytes-of s (rw (take-length s) at (small-part s h (length s) 0))
-
--- a slice filled with zeros
-pub zeros-filled : (work w w′ : List ℕ) → length w ≡ length work → w′ ≡ write 0 (zeros (length w)) w → w′ ≡ zeros (length work)
-unfolding Bytes.write
-zeros-filled work w w′ l e =
-    let d : drop (0 + length (zeros (length w))) w ≡ [] = drop-of-length-le w {i = (0 + length (zeros (length w)))} (omega (arith, length-zeros (length w))) in
-    e ∙ ap (λ (x : List ℕ). zeros (length w) ++ x) d ∙ append-nil (zeros (length w)) ∙ ap zeros l
 
 -- what the code has tested before it looks at the image
 abbrev pub Tested : List ℕ → ℕ → List ℕ → Type 0
@@ -194,13 +187,14 @@ module _ (s : List ℕ) (L : ℕ) (work : List ℕ) where
       unfolding RowsSpec.No
       zeroed-by r rows z = z .zeroed (λ e. rows .row-1 .0 e rule) (λ e. let l = rows .row-2 .0 e .1 in absurd (omega arith))
 
-      module _ (bytes : (k : ℕ) → getD s k 0 < 256) (w w′ : List ℕ) (long : length w ≡ length work) (filled : w′ ≡ write 0 (zeros (length w)) w) (s′ : List ℕ) where
+      module _ (bytes : (k : ℕ) → getD s k 0 < 256) (w w′ : List ℕ) (long : length w ≡ length work) (cleared : w′ ≡ zeros (length w)) (s′ : List ℕ) where
         -- an insertion by its answer and its image
         pub insert-whole : (h : List ℕ) (a : ℕ) (x : List ℕ) (r : LengthAnswer) → length-answer r ≡ insert s L work h a x .answer → s′ ≡ insert s L work h a x .image
             → record { answer = length-answer r; image = s′; work = w′ } ≡ insert s L work h a x
         insert-whole h a x r e f =
             let z : w′ ≡ insert s L work h a x .work =
-            zeros-filled work w w′ long filled ∙ sym (zeroed-by (insert s L work h a x) (first-numbers .insert-rows s L work h a x (all-bytes s bytes) .change-rows) (work-after-calls .insert-work s L work h a x)) in
+            cleared ∙ ap zeros long
+            ∙ sym (zeroed-by (insert s L work h a x) (first-numbers .insert-rows s L work h a x (all-bytes s bytes) .change-rows) (work-after-calls .insert-work s L work h a x)) in
             rw (e, f, z)
 
         -- a deletion by its answer and its image
@@ -208,14 +202,14 @@ module _ (s : List ℕ) (L : ℕ) (work : List ℕ) where
             → record { answer = delete-answer r; image = s′; work = w′ } ≡ delete s L work h
         delete-whole h r e f =
             let z : w′ ≡ delete s L work h .work =
-            zeros-filled work w w′ long filled ∙ sym (zeroed-by (delete s L work h) (first-numbers .delete-rows s L work h (all-bytes s bytes) .change-rows) (work-after-calls .delete-work s L work h)) in
+            cleared ∙ ap zeros long ∙ sym (zeroed-by (delete s L work h) (first-numbers .delete-rows s L work h (all-bytes s bytes) .change-rows) (work-after-calls .delete-work s L work h)) in
             rw (e, f, z)
 
         -- an optimising by its answer and its image
         pub optimise-whole : (r : LengthAnswer) → length-answer r ≡ optimise s L work .answer → s′ ≡ optimise s L work .image → record { answer = length-answer r; image = s′; work = w′ } ≡ optimise s L work
         optimise-whole r e f =
             let z : w′ ≡ optimise s L work .work =
-            zeros-filled work w w′ long filled ∙ sym (zeroed-by (optimise s L work) (first-numbers .optimise-rows s L work (all-bytes s bytes) .change-rows) (work-after-calls .optimise-work s L work)) in
+            cleared ∙ ap zeros long ∙ sym (zeroed-by (optimise s L work) (first-numbers .optimise-rows s L work (all-bytes s bytes) .change-rows) (work-after-calls .optimise-work s L work)) in
             rw (e, f, z)
 
   -- ---- what is left when rows 1 and 2 do not apply

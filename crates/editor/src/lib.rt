@@ -175,7 +175,7 @@ pub fn insert(
         return LengthAnswer::Refused(2);
     }
     let r = insert_tested(image, len, work, headword, attribute, text);
-    byteops::fill_zero(work, 0, work.len());
+    scans::clear(work);
     r
 }
 
@@ -261,7 +261,7 @@ pub fn delete(image: &mut [u8], len: usize, work: &mut [u8], headword: &[u8]) ->
         return DeleteAnswer::Refused(2);
     }
     let r = delete_tested(image, len, work, headword);
-    byteops::fill_zero(work, 0, work.len());
+    scans::clear(work);
     r
 }
 
@@ -297,6 +297,6 @@ pub fn optimise(image: &mut [u8], len: usize, work: &mut [u8]) -> LengthAnswer
         return LengthAnswer::Refused(2);
     }
     let r = optimise_tested(image, len, work);
-    byteops::fill_zero(work, 0, work.len());
+    scans::clear(work);
     r
 }

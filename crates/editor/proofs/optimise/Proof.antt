@@ -23,8 +23,8 @@ returns-2 c = search optimise-short
 optimise-tested-requires : tie.Need-optimise-tested-requires
 optimise-tested-requires c κs = now-tested (c .before .before .before .before .before .before .before .before .args .image .now) (c .before .before .before .before .before .before .before .before .args .len) (c .before .before .before .before .before .before .before .before .args .work .now) _ (c .before .before .before .before .slice-ok .ensures) (c .before .before .before .if1 .left) (c .before .before .if2 .left)
 
-fill-zero-requires : tie.Need-fill-zero-requires
-fill-zero-requires c κs = search needs
+clear-requires : tie.Need-clear-requires
+clear-requires c κs = search needs
 
 same-length-3 : tie.Need-same-length-3
 same-length-3 c = search needs
@@ -33,7 +33,15 @@ same-length-4 : tie.Need-same-length-4
 same-length-4 c = search needs
 
 returns-3 : tie.Need-returns-3
-returns-3 c = optimise-whole (c .before .before .before .before .before .before .before .before .before .before .before .before .before .before .before .before .before .args .image .now) (c .before .before .before .before .before .before .before .before .before .before .before .before .before .before .before .before .before .args .len) (c .before .before .before .before .before .before .before .before .before .before .before .before .before .before .before .before .before .args .work .now) _ (c .before .before .before .before .before .before .before .before .before .before .before .before .before .slice-ok .ensures) (c .before .before .before .before .before .before .before .before .before .before .before .before .if1 .left) (c .before .before .before .before .before .before .before .before .before .before .before .if2 .left) (λ k. omega (arith, c .before .before .before .before .before .before .before .before .before .before .before .before .before .before .before .before .slice-known .given k)) (c .before .before .before .before .before .before .before .before .optimise-tested .last .1 .1 .0) _ (c .before .before .before .before .before .before .before .before .optimise-tested .ensures .1 .1) (c .before .before .fill-zero .ensures .0) _ _ (c .before .before .before .before .before .before .before .before .optimise-tested .ensures .0) (c .before .before .before .before .before .before .before .before .optimise-tested .ensures .1 .0)
+returns-3 c =
+    let after = c .before .before .before .before .before .before .before .before in
+    let tests = after .before .before .before in
+    let first = tests .before .before .before .before .before in
+    let start = first .before in
+    let call = after .optimise-tested in
+    optimise-whole (start .args .image .now) (start .args .len) (start .args .work .now) _ (tests .before .before .slice-ok .ensures) (tests .before .if1 .left) (tests .if2 .left)
+    (λ k. omega (arith, first .slice-known .given k)) (call .last .1 .1 .0) _ (call .ensures .1 .1) (c .before .before .clear .ensures .0) _
+    _ (call .ensures .0) (call .ensures .1 .0)
 
 pub optimise-spec : {M : Type 1} → statement M
 optimise-spec =
@@ -45,7 +53,7 @@ optimise-spec =
     same-length-2
     returns-2
     optimise-tested-requires
-    fill-zero-requires
+    clear-requires
     same-length-3
     same-length-4
     returns-3)
