@@ -1,4 +1,5 @@
 pub mod MergeLaws
+pub mod MetLaws
 pub mod PartLaws
 pub mod MeasureLaws
 pub mod Laws

@@ -18,7 +18,7 @@ use Rattle.spec.specs.Run.{read-entry, entries-from}
 use Rattle.spec.specs.SortedList.{Sorted, has-headword, replace, remove}
 use Rattle.spec.proofs.ListsLaws.{All, all-map, clash, and-left, and-right, filter-yes, filter-no, filter-every, filter-nothing}
 use Rattle.spec.proofs.OutcomeLaws.{ok-not-refused, same-value, bind-ok}
-use Rattle.spec.proofs.OrderLaws.{one-way}
+use Rattle.spec.proofs.OrderLaws.{one-way, order-of}
 use Rattle.spec.proofs.ReadLaws.{entry-told, after-step, bytes-self}
 use Rattle.spec.proofs.SearchLaws.{other, other-way}
 use Rattle.scans.specs.declared.Comparison.{Comparison}
@@ -367,6 +367,26 @@ module _ (run word h body : List ℕ) (c : Cursor) where
       ⊎-elim (λ p. merge-below (below-of 0) (record { headword = h; body = body }) (c .fresh) _ _ p)
       (λ (p, f). rw f (merge-above (below-of 0) (record { headword = h; body = body }) _ _ p)) k
       )
+
+  -- what is ahead where nothing comes next: nothing
+  pub done-ahead : turn-of (below-of 0) h (c .fresh) (c .length) word ≡ Turn.Done → ahead run word c ≡ []
+  unfolding turn-of
+  done-ahead q = ahead-none run word c (by-done (eqb (c .length) 0) (c .fresh) (comparison (below-of 0) (take (c .length) word) h) q .0)
+
+  -- the old entry that is dropped has the headword
+  pub skip-same : turn-of (below-of 0) h (c .fresh) (c .length) word ≡ Turn.Skip → bytes-equal (take (c .length) word) h ≡ true
+  unfolding turn-of
+  skip-same q =
+      let (b, k) = by-skip (eqb (c .length) 0) (c .fresh) (comparison (below-of 0) (take (c .length) word) h) q in
+      rw (comparison-same (below-of 0) (take (c .length) word) h (order-of 0) k) (bytes-self h)
+
+  -- the one that is kept has another
+  pub old-other : turn-of (below-of 0) h (c .fresh) (c .length) word ≡ Turn.Old → bytes-equal (take (c .length) word) h ≡ false
+  unfolding turn-of
+  old-other q =
+      let (b, k) = by-old (eqb (c .length) 0) (c .fresh) (comparison (below-of 0) (take (c .length) word) h) q in
+      ⊎-elim (λ p. other (below-of 0) (order-of 0) (take (c .length) word) h (comparison-below (below-of 0) (take (c .length) word) h p))
+      (λ (p, f). other-way (below-of 0) (order-of 0) h (take (c .length) word) (comparison-above (below-of 0) (take (c .length) word) h p)) k
 
   -- the new entry
   pub todo-new : turn-of (below-of 0) h (c .fresh) (c .length) word ≡ Turn.New → todo run word h body c ≡ record { headword = h; body = body } ∷ todo run word h body (taken c)

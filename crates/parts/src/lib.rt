@@ -1,6 +1,6 @@
 // A run's entries with a change merged in, encoded part by part.
 ghost use mathlib.Core.Path.{_≡_};
-ghost use mathlib.Core.Bool.{true};
+ghost use mathlib.Core.Bool.{true, false};
 ghost use mathlib.Core.List.{List, [], _∷_, map};
 ghost use Prim.Native.Nat.{_+_, _≤_, _<_};
 ghost use lib.ListN.{length, take, drop};
@@ -10,7 +10,9 @@ ghost use Rattle.spec.specs.Header.{format4};
 ghost use Rattle.spec.specs.Entry.{Entry, headword-ok};
 ghost use Rattle.spec.specs.Run.{entries-bytes};
 ghost use Rattle.spec.specs.Place.{cut, new-run};
-ghost use Rattle.parts.specs.Merge.{entries-left, ahead, todo, changed-entries, turn-of, CursorOk};
+ghost use Rattle.spec.specs.SortedList.{lookup};
+ghost use Rattle.spec.specs.Claim.{is-there};
+ghost use Rattle.parts.specs.Merge.{entries-left, ahead, todo, changed-entries, turn-of, CursorOk, Met};
 ghost use Rattle.parts.specs.Part.{part-of, past-part, Appended, Measured};
 use encoder::entry_size;
 use runs::Step;
@@ -34,17 +36,21 @@ enum Turn {
     New,
 }
 
-// An encoded part: how many bytes its entries take, and where the merging stands behind it.
+// An encoded part: how many bytes its entries take, whether an old entry was dropped on the way, and where the merging stands
+// behind it.
 pub struct Part {
     pub used: usize,
+    pub found: bool,
     pub cursor: Cursor,
 }
 
-// The parts of a changed run: how many, the bytes of their index elements, and their blocks.
+// The parts of a changed run: how many, the bytes of their index elements, and their blocks; and whether the run has an entry
+// with the headword of the change.
 pub struct Sizes {
     pub parts: usize,
     pub bytes: usize,
     pub blocks: usize,
+    pub found: bool,
 }
 
 // Reads the run's own entry at `at`, after one whose headword is the first `n` bytes of `word`.
@@ -145,10 +151,13 @@ pub fn encode_part(
     ensures { λ r. ⌜ todo (now (run .entry)) (now (word .exit)) (now (h .entry)) (now (body .entry)) (r .cursor) ≡ past-part 1024 0 [] (todo (now (run .entry)) (now (word .entry)) (now (h .entry)) (now (body .entry)) start) ⌝ }
     ensures { λ r. ⌜ CursorOk (now (run .entry)) (now (word .exit)) (r .cursor) ⌝ }
     ensures { λ r. ⌜ (r .used ≤ 3253) × (length (now (part .exit)) ≡ length (now (part .entry))) × (length (now (word .exit)) ≡ length (now (word .entry))) ⌝ }
+    ensures { λ r. ⌜ Met (now (h .entry)) (ahead (now (run .entry)) (now (word .entry)) start) (r .found) (ahead (now (run .entry)) (now (word .exit)) (r .cursor)) ⌝ }
+    ensures { λ r. ⌜ (r .used ≡ 0 → ahead (now (run .entry)) (now (word .exit)) (r .cursor) ≡ []) ⌝ }
 {
     let mut last = [0u8; 256];
     let mut k = 0;
     let mut used = 0;
+    let mut found = false;
     let mut cur = start;
     loop {
         let n = cur.length;
@@ -160,10 +169,12 @@ pub fn encode_part(
             Turn::Done => {
                 return Part {
                     used: used,
+                    found: found,
                     cursor: cur,
                 };
             }
             Turn::Skip => {
+                found = true;
                 cur = advance(run, next, word, n, fresh);
             }
             Turn::Old => {
@@ -171,6 +182,7 @@ pub fn encode_part(
                 if u == 0 {
                     return Part {
                         used: used,
+                        found: found,
                         cursor: cur,
                     };
                 }
@@ -183,6 +195,7 @@ pub fn encode_part(
                 if u == 0 {
                     return Part {
                         used: used,
+                        found: found,
                         cursor: cur,
                     };
                 }
@@ -213,6 +226,7 @@ pub fn measure(run: &[u8], h: &[u8], body: &[u8], fresh: bool) -> Sizes
     requires { ⌜ (headword-ok (now h) ≡ true) × (length (now body) ≤ 3001) × (length (now run) ≤ 8388608) ⌝ }
     ensures { λ r. ⌜ Measured (map new-run (cut 1024 (changed-entries (now (run .entry)) (now (h .entry)) (now (body .entry)) fresh))) (r .parts) (r .bytes) (r .blocks) ⌝ }
     ensures { λ r. ⌜ (r .parts ≤ 8388609) × (r .bytes ≤ 2105540859) × (r .blocks ≤ 109051917) ⌝ }
+    ensures { λ r. ⌜ r .found ≡ is-there (lookup (now (h .entry)) (entries-left format4 [] (now (run .entry)))) ⌝ }
 {
     let mut word = [0u8; 256];
     let mut part = [0u8; 3328];
@@ -220,13 +234,16 @@ pub fn measure(run: &[u8], h: &[u8], body: &[u8], fresh: bool) -> Sizes
     let mut parts = 0;
     let mut bytes = 0;
     let mut blocks = 0;
+    let mut found = false;
     loop {
         let p = encode_part(run, cur, &mut word, h, body, &mut part);
+        found = found | p.found;
         if p.used == 0 {
             return Sizes {
                 parts: parts,
                 bytes: bytes,
                 blocks: blocks,
+                found: found,
             };
         }
         parts += 1;

@@ -56,7 +56,7 @@ returns : tie.Need-returns Inv-loop μ-loop
 returns c = (planned _ _ _ _ _ _ _ (c .before .before .before .before .before .before .before .loop .inv .9) _ (none-left _ _ (c .before .before .before .before .encode-part .ensures .1 .0) (c .if1 .taken)), (omega arith, omega arith, omega arith))
 
 run-blocks-requires : tie.Need-run-blocks-requires Inv-loop μ-loop
-run-blocks-requires c κs = c .before .before .before .before .encode-part .ensures .1 .1 .1 .1 .0
+run-blocks-requires c κs = c .before .before .before .before .encode-part .ensures .1 .1 .1 .1 .0 .0
 
 place-requires : tie.Need-place-requires Inv-loop μ-loop
 place-requires c κs = (omega arith, omega arith, omega arith)

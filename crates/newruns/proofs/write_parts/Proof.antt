@@ -29,7 +29,7 @@ abbrev μ-loop : tie.MeasureT-loop
 
 -- the part fits its slice
 part-filled : (c : tie.After-encode-part Inv-loop μ-loop) → c .encode-part .result .used ≤ length (c .encode-part .last .1 .1 .1 .1 .1 .0)
-part-filled c = omega (arith, c .encode-part .ensures .1 .1 .1 .1 .0, c .encode-part .ensures .1 .1 .1 .1 .1, c .before .before .before .loop .inv .1)
+part-filled c = omega (arith, c .encode-part .ensures .1 .1 .1 .1 .0 .0, c .encode-part .ensures .1 .1 .1 .1 .0 .1, c .before .before .before .loop .inv .1)
 
 -- its run fits the image
 run-fits : (c : tie.After-larger Inv-loop μ-loop) → c .before .before .before .before .before .before .before .before .before .before .before .before .before .before .before .before .before .before .before .before .before .before .args .start + 256 * c .before .before .before .place .result + 256 * c .before .before .before .before .before .run-blocks .result ≤ length (c .before .before .before .before .before .before .before .before .before .before .before .before .before .loop .image)
@@ -89,7 +89,7 @@ returns c =
     (written-image _ _ _ _ _ _ _ _ _ _ _ _ w none, (written-size _ _ _ _ _ _ _ _ _ _ _ _ w none, (written-free _ _ _ _ _ _ _ _ _ _ _ _ w none, (omega arith, omega arith))))
 
 run-blocks-requires : tie.Need-run-blocks-requires Inv-loop μ-loop
-run-blocks-requires c κs = c .before .before .before .before .encode-part .ensures .1 .1 .1 .1 .0
+run-blocks-requires c κs = c .before .before .before .before .encode-part .ensures .1 .1 .1 .1 .0 .0
 
 place-requires : tie.Need-place-requires Inv-loop μ-loop
 place-requires c κs = (omega arith, omega (arith, planning-under _ _ _ _ _ _ _ (c .before .before .before .before .before .before .before .before .before .loop .inv .10 .planning)), omega arith)
@@ -116,16 +116,16 @@ part-write-run-end : tie.Need-part-write-run-end Inv-loop μ-loop
 part-write-run-end c = omega (arith, run-starts c)
 
 array-share-prefix-part : tie.Need-array-share-prefix-part Inv-loop μ-loop
-array-share-prefix-part c = omega (arith, c .before .before .before .before .before .before .before .before .before .before .before .encode-part .ensures .1 .1 .1 .1 .0)
+array-share-prefix-part c = omega (arith, c .before .before .before .before .before .before .before .before .before .before .before .encode-part .ensures .1 .1 .1 .1 .0 .0)
 
 slice-aggregate-write-run : tie.Need-slice-aggregate-write-run Inv-loop μ-loop
 slice-aggregate-write-run c = first-bytes _ _ (part-filled (c .before .before .before .before .before .before .before .before .before .before .before .before))
 
 write-run-requires : tie.Need-write-run-requires Inv-loop μ-loop
-write-run-requires c κs = run-room _ _ _ _ _ (c .before .before .before .before .before .before .before .before .before .before .before .before .before .before .before .loop .image) (c .before .before .before .before .before .before .before .before .before .before .before .before .encode-part .ensures .1 .1 .1 .1 .0) (part-filled (c .before .before .before .before .before .before .before .before .before .before .before .before)) (c .before .before .before .before .before .before .before .run-blocks .ensures .0) refl (run-fits (c .before .before))
+write-run-requires c κs = run-room _ _ _ _ _ (c .before .before .before .before .before .before .before .before .before .before .before .before .before .before .before .loop .image) (c .before .before .before .before .before .before .before .before .before .before .before .before .encode-part .ensures .1 .1 .1 .1 .0 .0) (part-filled (c .before .before .before .before .before .before .before .before .before .before .before .before)) (c .before .before .before .before .before .before .before .run-blocks .ensures .0) refl (run-fits (c .before .before))
 
 slice-aggregate-head-end : tie.Need-slice-aggregate-head-end Inv-loop μ-loop
-slice-aggregate-head-end c = sym (c .before .before .before .before .before .before .before .before .before .before .before .before .before .before .before .before .encode-part .ensures .1 .1 .1 .1 .1 ∙ c .before .before .before .before .before .before .before .before .before .before .before .before .before .before .before .before .before .before .before .loop .inv .1)
+slice-aggregate-head-end c = sym (c .before .before .before .before .before .before .before .before .before .before .before .before .before .before .before .before .encode-part .ensures .1 .1 .1 .1 .0 .1 ∙ c .before .before .before .before .before .before .before .before .before .before .before .before .before .before .before .before .before .before .before .loop .inv .1)
 
 head-end-requires : tie.Need-head-end-requires Inv-loop μ-loop
 head-end-requires c κs = (omega (arith, used-some _ _ (c .before .before .before .before .before .before .before .before .before .before .before .before .before .before .before .before .encode-part .ensures .1 .0) (c .before .before .before .before .before .before .before .before .before .before .before .before .if1 .left)), part-filled (c .before .before .before .before .before .before .before .before .before .before .before .before .before .before .before .before))
@@ -150,8 +150,8 @@ loop-less c = fewer-left _ _ (c .before .before .before .before .before .before 
 
 loop-again : tie.Need-loop-again Inv-loop μ-loop
 loop-again c = (
-  c .before .before .before .before .before .before .before .before .before .before .before .before .before .before .before .before .before .before .before .before .before .before .before .before .encode-part .ensures .1 .1 .1 .1 .2 ∙ c .before .before .before .before .before .before .before .before .before .before .before .before .before .before .before .before .before .before .before .before .before .before .before .before .before .before .before .loop .inv .0,
-  c .before .before .before .before .before .before .before .before .before .before .before .before .before .before .before .before .before .before .before .before .before .before .before .before .encode-part .ensures .1 .1 .1 .1 .1 ∙ c .before .before .before .before .before .before .before .before .before .before .before .before .before .before .before .before .before .before .before .before .before .before .before .before .before .before .before .loop .inv .1,
+  c .before .before .before .before .before .before .before .before .before .before .before .before .before .before .before .before .before .before .before .before .before .before .before .before .encode-part .ensures .1 .1 .1 .1 .0 .2 ∙ c .before .before .before .before .before .before .before .before .before .before .before .before .before .before .before .before .before .before .before .before .before .before .before .before .before .before .before .loop .inv .0,
+  c .before .before .before .before .before .before .before .before .before .before .before .before .before .before .before .before .before .before .before .before .before .before .before .before .encode-part .ensures .1 .1 .1 .1 .0 .1 ∙ c .before .before .before .before .before .before .before .before .before .before .before .before .before .before .before .before .before .before .before .before .before .before .before .before .before .before .before .loop .inv .1,
   c .before .before .before .before .before .before .before .before .before .before .before .before .before .before .before .before .before .before .before .before .before .before .before .before .encode-part .ensures .1 .1 .1 .0,
   c .before .before .before .put-element .ensures .1 .1 ∙ run-kept (c .before .before .before .before .before .before .before .before .before .before .before) ∙ c .before .before .before .before .before .before .before .before .before .before .before .before .before .before .before .before .before .before .before .before .before .before .before .before .before .before .before .loop .inv .3,
   c .before .before .before .before .before .before .before .before .before .before .before .before .before .before .before .before .before .place .ensures .1 .1 .1 ∙ c .before .before .before .before .before .before .before .before .before .before .before .before .before .before .before .before .before .before .before .before .before .before .before .before .before .before .before .loop .inv .4,

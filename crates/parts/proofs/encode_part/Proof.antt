@@ -4,23 +4,25 @@ use mathlib.Core.Path.{_≡_, refl, _∙_}
 use native.Mathlib.Omega.{arith}
 use lib.ListN.{length, take}
 use Rattle.spec.proofs.RunLaws.{head-bounds}
-use Rattle.parts.specs.Merge.{todo, CursorOk}
+use Rattle.parts.specs.Merge.{ahead, todo, CursorOk, Met}
 use Rattle.parts.proofs.PartLaws.{Filling, filling-start}
 use Rattle.parts.proofs.Laws.{first-bytes, work, part-done, part-skips, part-full-old, part-keeps, part-full-new, part-enters, skip-less, old-less, new-less, old-length, word-few, body-few, cursor-taken}
+use Rattle.parts.proofs.MetLaws.{met-start, met-skip, met-old, met-new, met-done, full-some}
 use borrow.Author.Needs.{needs}
 use Rattle.parts.proofs.encode_part.Statement.{statement}
 use Rattle.parts.proofs.encode_part.Tie as tie
 
 abbrev Inv-loop : tie.InvT-loop
-Inv-loop run word₀ h body part₀ last₀ k₀ used₀ cur₀ word part last k used cur =
+Inv-loop run word₀ h body part₀ last₀ k₀ used₀ found₀ cur₀ word part last k used found cur =
     (k ≤ 248) × (used ≤ 3253) × (length last ≡ 256) × (length word ≡ length word₀) × (length part ≡ length part₀) × CursorOk run word cur
     × Filling (todo run word₀ h body cur₀) part₀ (todo run word h body cur) part (take k last) used
+    × Met h (ahead run word₀ cur₀) found (ahead run word cur)
 
 abbrev μ-loop : tie.MeasureT-loop
-μ-loop run word₀ h body part₀ last₀ k₀ used₀ cur₀ word part last k used cur = work run word cur
+μ-loop run word₀ h body part₀ last₀ k₀ used₀ found₀ cur₀ word part last k used found cur = work run word cur
 
 loop-holds : tie.Need-loop-holds Inv-loop μ-loop
-loop-holds c = (omega arith, omega arith, refl, refl, refl, c .before .before .before .before .before .pre .0, filling-start _ _)
+loop-holds c = (omega arith, omega arith, refl, refl, refl, c .before .before .before .before .before .pre .0, filling-start _ _, met-start _ _)
 
 next-turn-requires : tie.Need-next-turn-requires Inv-loop μ-loop
 next-turn-requires c κs = search needs
@@ -37,7 +39,8 @@ same-length-2 c = search needs
 returns : tie.Need-returns Inv-loop μ-loop
 returns c =
     let f = part-done _ _ _ _ _ _ _ _ _ _ _ (c .before .before .next-turn .ensures) (c .before .before .before .before .loop .inv .6) (c .enum-told .given .1) in
-    (f .whole, (f .size, (f .behind, (c .before .before .before .before .loop .inv .5, (c .before .before .before .before .loop .inv .1, c .before .before .before .before .loop .inv .4, c .before .before .before .before .loop .inv .3)))))
+    let l = c .before .before .before .before .loop .inv in
+    (f .whole, (f .size, (f .behind, (l .5, ((l .1, l .4, l .3), (l .7, λ z. met-done _ _ _ _ _ (c .before .before .next-turn .ensures) (c .enum-told .given .1)))))))
 
 enum-told-2 : tie.Need-enum-told-2 Inv-loop μ-loop
 enum-told-2 c = search needs
@@ -57,6 +60,8 @@ loop-again c = (
   c .before .before .before .before .before .before .before .before .loop .inv .4,
   c .before .before .advance .ensures .1 .1 .0,
   part-skips _ _ _ _ _ _ _ _ _ _ _ (c .before .before .before .before .before .before .next-turn .ensures) (c .before .before .before .before .before .before .before .before .loop .inv .6) _ _ (c .before .before .before .before .enum-told2 .given .1) (c .before .before .advance .ensures .0) (c .before .before .advance .ensures .1 .0),
+  met-skip _ _ _ _ _ (c .before .before .before .before .before .before .next-turn .ensures) _ _ (c .before .before .before .before .before .before .before .before .loop .inv .7) _ _
+      (c .before .before .advance .ensures .0) (c .before .before .before .before .enum-told2 .given .1),
 )
 
 enum-told-3 : tie.Need-enum-told-3 Inv-loop μ-loop
@@ -104,7 +109,9 @@ same-length-4 c = search needs
 returns-2 : tie.Need-returns-2 Inv-loop μ-loop
 returns-2 c =
     let f = part-full-old _ _ _ _ _ _ _ _ _ _ _ (c .before .before .before .before .before .before .before .before .before .before .before .next-turn .ensures) (c .before .before .before .before .before .before .before .before .before .before .before .before .before .loop .inv .6) _ _ _ (c .before .before .before .before .before .before .before .before .before .enum-told3 .given .1) (c .before .before .before .before .append .ensures .0) (c .if1 .taken) in
-    (f .whole, (f .size, (f .behind, (c .before .before .before .before .before .before .before .before .before .before .before .before .before .loop .inv .5, (c .before .before .before .before .before .before .before .before .before .before .before .before .before .loop .inv .1, c .before .before .before .before .append .ensures .1 .0 ∙ c .before .before .before .before .before .before .before .before .before .before .before .before .before .loop .inv .4, c .before .before .before .before .before .before .before .before .before .before .before .before .before .loop .inv .3)))))
+    let l = c .before .before .before .before .before .before .before .before .before .before .before .before .before .loop .inv in
+    let a = c .before .before .before .before .append .ensures in
+    (f .whole, (f .size, (f .behind, (l .5, ((l .1, a .1 .0 ∙ l .4, l .3), (l .7, λ z. absurd (full-some _ _ _ _ _ _ _ (a .0) (c .if1 .taken) z)))))))
 
 advance-requires-2 : tie.Need-advance-requires-2 Inv-loop μ-loop
 advance-requires-2 c κs = (c .before .before .before .before .before .before .before .before .before .before .before .before .before .before .loop .inv .5 .inside, (c .before .before .before .before .before .before .before .before .before .before .before .before .before .before .loop .inv .5 .room, c .before .before .before .before .before .before .before .before .before .before .before .before .before .before .loop .inv .5 .short, c .before .before .before .before .before .before .before .before .before .before .before .before .before .before .loop .inv .5 .clean))
@@ -121,6 +128,9 @@ loop-again-2 c = (
   c .before .before .before .before .before .before .before .before .append .ensures .1 .0 ∙ c .before .before .before .before .before .before .before .before .before .before .before .before .before .before .before .before .before .loop .inv .4,
   c .before .before .advance2 .ensures .1 .1 .0,
   part-keeps _ _ _ _ _ _ _ _ _ _ _ (c .before .before .before .before .before .before .before .before .before .before .before .before .before .before .before .next-turn .ensures) (c .before .before .before .before .before .before .before .before .before .before .before .before .before .before .before .before .before .loop .inv .6) _ _ _ _ _ (c .before .before .before .before .before .before .before .before .before .before .before .before .before .enum-told3 .given .1) (c .before .before .before .before .before .before .before .before .append .ensures .0) (c .before .before .before .before .if1 .left) (omega (arith, c .before .before .before .before .before .before .before .before .before .before .before .before .before .before .before .before .before .loop .inv .1, c .before .before .before .before .before .before .before .before .before .before .before .before .before .before .before .before .before .loop .inv .4, c .before .before .before .before .before .before .before .before .before .before .before .before .before .before .before .before .before .before .before .before .before .before .before .pre .1 .2)) (omega (arith, c .before .before .before .before .before .before .before .before .before .before .before .before .before .before .before .before .before .loop .inv .5 .short, c .before .before .before .before .before .before .before .before .before .before .before .before .before .before .before .before .before .loop .inv .5 .room)) (c .before .before .advance2 .ensures .0) (c .before .before .advance2 .ensures .1 .0),
+  met-old _ _ _ _ _ (c .before .before .before .before .before .before .before .before .before .before .before .before .before .before .before .next-turn .ensures) _ _
+      (c .before .before .before .before .before .before .before .before .before .before .before .before .before .before .before .before .before .loop .inv .7) _ _ (c .before .before .advance2 .ensures .0)
+      (c .before .before .before .before .before .before .before .before .before .before .before .before .before .enum-told3 .given .1),
 )
 
 enum-told-4 : tie.Need-enum-told-4 Inv-loop μ-loop
@@ -143,7 +153,9 @@ same-length-6 c = search needs
 returns-3 : tie.Need-returns-3 Inv-loop μ-loop
 returns-3 c =
     let f = part-full-new _ _ _ _ _ _ _ _ _ _ _ (c .before .before .before .before .before .before .before .before .before .next-turn .ensures) (c .before .before .before .before .before .before .before .before .before .before .before .loop .inv .6) _ _ _ (c .before .before .before .before .before .before .before .enum-told4 .given .1) (c .before .before .before .before .append2 .ensures .0) (c .if2 .taken) in
-    (f .whole, (f .size, (f .behind, (c .before .before .before .before .before .before .before .before .before .before .before .loop .inv .5, (c .before .before .before .before .before .before .before .before .before .before .before .loop .inv .1, c .before .before .before .before .append2 .ensures .1 .0 ∙ c .before .before .before .before .before .before .before .before .before .before .before .loop .inv .4, c .before .before .before .before .before .before .before .before .before .before .before .loop .inv .3)))))
+    let l = c .before .before .before .before .before .before .before .before .before .before .before .loop .inv in
+    let a = c .before .before .before .before .append2 .ensures in
+    (f .whole, (f .size, (f .behind, (l .5, ((l .1, a .1 .0 ∙ l .4, l .3), (l .7, λ z. absurd (full-some _ _ _ _ _ _ _ (a .0) (c .if2 .taken) z)))))))
 
 loop-less-3 : tie.Need-loop-less-3 Inv-loop μ-loop
 loop-less-3 c = new-less _ _ _ _ _ (c .before .before .before .before .before .before .before .before .before .next-turn .ensures) (c .before .before .before .before .before .before .before .enum-told4 .given .1)
@@ -157,6 +169,7 @@ loop-again-3 c = (
   c .before .before .before .before .append2 .ensures .1 .0 ∙ c .before .before .before .before .before .before .before .before .before .before .before .loop .inv .4,
   cursor-taken _ _ _ (c .before .before .before .before .before .before .before .before .before .before .before .loop .inv .5),
   part-enters _ _ _ _ _ _ _ _ _ _ _ (c .before .before .before .before .before .before .before .before .before .next-turn .ensures) (c .before .before .before .before .before .before .before .before .before .before .before .loop .inv .6) _ _ _ (c .before .before .before .before .before .before .before .enum-told4 .given .1) (c .before .before .before .before .append2 .ensures .0) (c .if2 .left) (omega (arith, c .before .before .before .before .before .before .before .before .before .before .before .loop .inv .1, c .before .before .before .before .before .before .before .before .before .before .before .loop .inv .4, c .before .before .before .before .before .before .before .before .before .before .before .before .before .before .before .before .before .pre .1 .2)),
+  met-new _ _ _ _ _ _ (c .before .before .before .before .before .before .before .before .before .before .before .loop .inv .7),
 )
 
 pub encode-part-spec : {M : Type 1} → statement M
