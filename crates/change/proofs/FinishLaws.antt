@@ -2,7 +2,7 @@
 use Prim.Native.Nat.{ℕ, _+_, _-_, _*_, _%_, _≤_, _<_}
 use mathlib.Core.Path.{_≡_, refl, sym, ap, subst, _∙_}
 use mathlib.Core.Bool.{Bool, true, false}
-use mathlib.Core.List.{List, _++_, map}
+use mathlib.Core.List.{List, [], _++_, map}
 use native.Mathlib.Omega.{arith}
 use lib.ListN.{length, take, drop, replicate, length-take}
 use lib.Seq.{length-take-le}
@@ -18,6 +18,8 @@ use Rattle.spec.specs.Check as Check
 use Rattle.spec.specs.Check.{Image, image-from, runs-from, all-entries}
 use Rattle.spec.specs.Place.{target-run, cut, new-run, grown, plan-full}
 use Rattle.spec.specs.Calls.{plan-length}
+use Rattle.spec.specs.SortedList.{lookup}
+use Rattle.spec.specs.Claim.{is-there}
 use Rattle.spec.proofs.OutcomeLaws.{same-value}
 use Rattle.spec.proofs.ReadLaws.{image-told}
 use Rattle.spec.proofs.PlanLaws.{SoundPlan}
@@ -35,13 +37,14 @@ use Rattle.target.specs.declared.Target.{Target}
 use Rattle.target.specs.Told.{NumbersWithin, entries-start, entries-part, TargetTold}
 use Rattle.target.proofs.Laws.{numbers-within, told-blocks}
 use Rattle.parts.specs.Part.{Measured}
-use Rattle.parts.specs.Merge.{changed-entries}
+use Rattle.parts.specs.Merge.{entries-left, changed-entries}
 use Rattle.plan.proofs.Grown.{Growing}
 use Rattle.change.specs.declared.Outline.{Outline}
 use Rattle.change.specs.declared.Draft.{Draft}
 use Rattle.change.specs.Ready.{growth, planned, parts-of, Displaced, Ready, Roomy, Written, Changed}
 use Rattle.change.specs.Drafted.{PlannedEnd, Drafted, Begun}
 use Rattle.change.proofs.Laws.{run-cut, blocks-full, length-full, not-full, new-length}
+use Rattle.change.proofs.FoundLaws.{whole-found}
 use Rattle.change.proofs.ReadyLaws.{blocks-counted, still, grows, grows-over, index-full, moved-full, ready}
 
 -- ---- plan_end
@@ -157,27 +160,32 @@ module _ (o : List ℕ) (n d : ℕ) (a : AcceptedImage o n d) (e : ℕ) (number 
     blocks-short b p = omega (arith, p, blocks-counted o n d a, told-blocks (index-part o n) (data-part o n) e h (a .image .runs) t told)
 
     -- so the change is measured
-    pub drafted : (body : List ℕ) (fresh : Bool) (from end b g parts bytes blocks : ℕ) → t .block + t .size ≤ d → from ≡ entries-start (t .block) (t .size)
+    pub drafted : (body : List ℕ) (fresh there : Bool) (from end b g parts bytes blocks : ℕ) → t .block + t .size ≤ d → from ≡ entries-start (t .block) (t .size)
         → Measured (map new-run (cut 1_024 (changed-entries (take (256 * (t .block + t .size) - from) (drop from (data-part o n))) h body fresh))) parts bytes blocks
         → end ≡ elements-end (index-part o n) 0 e → b ≡ get (layout4 .nblock2) o → g ≡ growth n (t .before + t .after + parts) (end - (t .end - t .at) + bytes)
-        → Drafted o n d h body fresh (record { target = t; g = g; elements = t .before + t .after + parts; blocks = b - t .size + blocks })
-    drafted body fresh from end b g parts bytes blocks p ef m ee eb eg =
+        → end ≤ 8_388_352 → bytes ≤ 2_105_540_859 → there ≡ is-there (lookup h (entries-left format4 [] (take (256 * (t .block + t .size) - from) (drop from (data-part o n)))))
+        → Drafted o n d h body fresh (record { n = n; d = d; target = t; found = there; g = g; elements = t .before + t .after + parts; blocks = b - t .size + blocks })
+    drafted body fresh there from end b g parts bytes blocks p ef m ee eb eg le lb ft =
         record {
+          accepted = a;
           told = λ i is. subst (λ (x : Image). TargetTold (index-part o n) (data-part o n) (get (layout4 .nindex2) o) h (x .runs) t) (same-value (a .image) i (sym (a .is) ∙ is)) (subst (λ (x : ℕ). TargetTold (index-part o n) (data-part o n) x h (a .image .runs) t) number told);
           inside = p;
+          found-is = λ i is. ft ∙ ap (λ (x : List ℕ). is-there (lookup h (entries-left format4 [] x))) (run-cut (data-part o n) (t .block) (t .size) from ef) ∙ whole-found o n d a e h t told i is;
           parts = parts;
           bytes = bytes;
           run-blocks = blocks;
           measured = subst (λ (x : List ℕ). Measured (map new-run (cut 1_024 (changed-entries x h body fresh))) parts bytes blocks) (run-cut (data-part o n) (t .block) (t .size) from ef) m;
           growth-is = eg ∙ ap (λ (x : ℕ). growth n (t .before + t .after + parts) (x - (t .end - t .at) + bytes)) (ee ∙ ap (elements-end (index-part o n) 0) number);
+          growth-few = omega (arith, eg, le, lb, growth-few n (t .before + t .after + parts) (end - (t .end - t .at) + bytes));
           elements-are = refl;
           blocks-are = ap (λ (x : ℕ). x - t .size + blocks) eb;
         }
 
 -- ---- change
 -- row 15: an index of too many blocks
-pub change-index : (s : List ℕ) (L n d : ℕ) (h body : List ℕ) (fresh : Bool) (p : Draft) → AcceptedImage (take L s) n d → Drafted (take L s) n d h body fresh p → 32_767 < n + p .g → Changed s L h body fresh 0 s
-change-index s L n d h body fresh p a k q i e =
+pub change-index : (s : List ℕ) (L n d : ℕ) (h body : List ℕ) (fresh : Bool) (p : Draft) → Drafted (take L s) n d h body fresh p → 32_767 < n + p .g → Changed s L h body fresh 0 s
+change-index s L n d h body fresh p k q i e =
+    let a : AcceptedImage (take L s) n d = k .accepted in
     let x : i ≡ a .image = same-value i (a .image) (sym e ∙ a .is) in
     let f : plan-full s (planned (a .image) h body fresh) ≡ true
     = index-full (take L s) n d a h (p .target) (k .told (a .image) (a .is)) body fresh (k .parts) (k .bytes) (k .run-blocks) (k .measured) s (p .g) (k .growth-is) q in
@@ -188,15 +196,15 @@ pub front-blocks : (s : List ℕ) (L : ℕ) → L ≤ length s → L % 256 ≡ 0
 front-blocks s L p q = ap (λ (x : ℕ). x % 256) (length-take-le L s p) ∙ q
 
 -- what a change begins with
-pub begins : (s : List ℕ) (L n d : ℕ) (h body : List ℕ) (fresh : Bool) (words : ℕ) (p : Draft) (free free′ : List Bool) → AcceptedImage (take L s) n d → L ≤ length s → L % 256 ≡ 0 → Drafted (take L s) n d h body fresh p
+pub begins : (s : List ℕ) (L n d : ℕ) (h body : List ℕ) (fresh : Bool) (words : ℕ) (p : Draft) (free free′ : List Bool) → L ≤ length s → L % 256 ≡ 0 → Drafted (take L s) n d h body fresh p
     → ((i : Image) → image-from (take L s) ≡ ok i → free ≡ free-marks (i .frame .data-blocks) (i .free-list) ++ replicate (163_840 - i .frame .data-blocks) false)
     → ((i : Image) → image-from (take L s) ≡ ok i → SoundPlan format4 (planned i h body fresh) × (words ≡ length (all-entries (planned i h body fresh .runs))))
     → free′ ≡ with-range (p .target .block) (p .target .size) true free
     → n + p .g ≤ 32_767 → headword-ok h ≡ true → length body ≤ 3_001
     → Begun (take L s) n d p free′ h body fresh words
-begins s L n d h body fresh words p free free′ a inside whole k marked sound e few headword short =
+begins s L n d h body fresh words p free free′ inside whole k marked sound e few headword short =
+    let a : AcceptedImage (take L s) n d = k .accepted in
     record {
-      accepted = a;
       whole = accepted-whole (take L s) n d a (front-blocks s L inside whole);
       drafted = k;
       few-index = few;
@@ -209,7 +217,7 @@ begins s L n d h body fresh words p free free′ a inside whole k marked sound e
 
 module _ (o : List ℕ) (n d : ℕ) (p : Draft) (ms : List Bool) (h body : List ℕ) (fresh : Bool) (words : ℕ) (b : Begun o n d p ms h body fresh words) where
   abbrev a : AcceptedImage o n d
-  a = b .accepted
+  a = b .drafted .accepted
 
   abbrev t : Target
   t = p .target

@@ -9,8 +9,10 @@ use Rattle.spec.specs.Header.{layout4, format4, get}
 use Rattle.spec.specs.Entry.{headword-ok}
 use Rattle.spec.specs.Run.{run-size}
 use Rattle.spec.specs.Blocks.{free-marks}
-use Rattle.spec.specs.Check.{Image, image-from, all-entries}
+use Rattle.spec.specs.Check.{Image, image-from, all-entries, entries-of}
+use Rattle.spec.specs.SortedList.{lookup}
 use Rattle.spec.specs.Place.{new-run}
+use Rattle.spec.specs.Claim.{is-there}
 use Rattle.spec.proofs.PlanLaws.{SoundPlan}
 use Rattle.marks.specs.Marks.{with-range}
 use Rattle.elements.specs.Renewed.{elements-end}
@@ -32,24 +34,26 @@ PlannedEnd o v ms t h body fresh r =
 
 -- the change in the old image o is measured
 pub record Drafted (o : List ℕ) (n d : ℕ) (h body : List ℕ) (fresh : Bool) (r : Draft) : Type 0 where
+  pub accepted : AcceptedImage o n d
   pub told : (i : Image) → image-from o ≡ ok i → TargetTold (index-part o n) (data-part o n) (get (layout4 .nindex2) o) h (i .runs) (r .target)
   pub inside : r .target .block + r .target .size ≤ d
+  pub found-is : (i : Image) → image-from o ≡ ok i → r .found ≡ is-there (lookup h (entries-of i))
   pub parts : ℕ
   pub bytes : ℕ
   pub run-blocks : ℕ
   pub measured : Measured (map new-run (parts-of o n (r .target) h body fresh)) parts bytes run-blocks
   pub growth-is : r .g ≡ growth n (r .target .before + r .target .after + parts) (elements-end (index-part o n) 0 (get (layout4 .nindex2) o) - (r .target .end - r .target .at) + bytes)
+  pub growth-few : r .g ≤ 4_294_967_296
   pub elements-are : r .elements ≡ r .target .before + r .target .after + parts
   pub blocks-are : r .blocks ≡ get (layout4 .nblock2) o - r .target .size + run-blocks
 
 -- it can begin: the blocks of the run concerned are marked free
 pub record Begun (o : List ℕ) (n d : ℕ) (r : Draft) (ms : List Bool) (h body : List ℕ) (fresh : Bool) (words : ℕ) : Type 0 where
-  pub accepted : AcceptedImage o n d
   pub whole : 256 + 256 * n + 256 * d ≡ length o
   pub drafted : Drafted o n d h body fresh r
   pub few-index : n + r .g ≤ 32_767
   pub headword : headword-ok h ≡ true
   pub body-short : length body ≤ 3_001
-  pub marked : ms ≡ with-range (r .target .block) (r .target .size) true (free-marks d (accepted .image .free-list) ++ replicate (163_840 - d) false)
-  pub sound : SoundPlan format4 (planned (accepted .image) h body fresh)
-  pub words-are : words ≡ length (all-entries (planned (accepted .image) h body fresh .runs))
+  pub marked : ms ≡ with-range (r .target .block) (r .target .size) true (free-marks d (drafted .accepted .image .free-list) ++ replicate (163_840 - d) false)
+  pub sound : SoundPlan format4 (planned (drafted .accepted .image) h body fresh)
+  pub words-are : words ≡ length (all-entries (planned (drafted .accepted .image) h body fresh .runs))

@@ -34,10 +34,13 @@ pub struct Outline {
     pub blocks: usize,
 }
 
-// What a change comes to: the run concerned, by how many blocks the index grows, and the index elements and blocks in runs of
-// the new image.
+// What a change comes to: the blocks of the old index and of the old data area, the run concerned, whether it has an entry with
+// the headword, by how many blocks the index grows, and the index elements and blocks in runs of the new image.
 pub struct Draft {
+    pub n: usize,
+    pub d: usize,
     pub target: Target,
+    pub found: bool,
     pub g: usize,
     pub elements: usize,
     pub blocks: usize,
@@ -331,11 +334,10 @@ fn displace(
 
 // Measures a change in an accepted image of n index blocks and d data blocks: the entry with the headword h goes, and a new one
 // with that body enters, if it is fresh.
-fn measure_change(old: &[u8], n: usize, d: usize, h: &[u8], body: &[u8], fresh: bool) -> Draft
+pub fn measure_change(old: &[u8], n: usize, d: usize, h: &[u8], body: &[u8], fresh: bool) -> Draft
     requires { ⌜ AcceptedImage (now old) n d ⌝ }
     requires { ⌜ (length (now old) % 256 ≡ 0) × (headword-ok (now h) ≡ true) × (length (now body) ≤ 3001) ⌝ }
-    ensures { λ r. ⌜ Drafted (now (old .entry)) n d (now (h .entry)) (now (body .entry)) fresh r ⌝ }
-    ensures { λ r. ⌜ (r .target .block + r .target .size ≤ 65536) × (r .g ≤ 4294967296) ⌝ }
+    ensures { λ r. ⌜ Drafted (now (old .entry)) (r .n) (r .d) (now (h .entry)) (now (body .entry)) fresh r ⌝ }
 {
     let start = 256 + 256 * n;
     let index = &old[256..start];
@@ -347,7 +349,10 @@ fn measure_change(old: &[u8], n: usize, d: usize, h: &[u8], body: &[u8], fresh: 
     let count = t.before + t.after + m.parts;
     let bytes = elements::elements_end(index, elements) - (t.end - t.at) + m.bytes;
     Draft {
+        n: n,
+        d: d,
         target: t,
+        found: m.found,
         g: growth(n, count, bytes),
         elements: count,
         blocks: header::nblock2(old) - t.size + m.blocks,
@@ -360,8 +365,6 @@ fn grow(
     image: &mut [u8],
     len: usize,
     work: &mut [u8],
-    n: usize,
-    d: usize,
     p: Draft,
     free: &mut [u64],
     h: &[u8],
@@ -369,18 +372,18 @@ fn grow(
     fresh: bool,
     words: usize,
 ) -> usize
-    requires { ⌜ Begun (take len (now image)) n d p (marks (now free)) (now h) (now body) fresh words ⌝ }
+    requires { ⌜ Begun (take len (now image)) (p .n) (p .d) p (marks (now free)) (now h) (now body) fresh words ⌝ }
     requires { ⌜ (1 ≤ p .g) × (len ≤ length (now image)) × (length (now image) ≤ length (now work)) × (length (now free) ≡ 2560) ⌝ }
     ensures { λ r. ⌜ Changed (now (image .entry)) len (now (h .entry)) (now (body .entry)) fresh r (now (image .exit)) ⌝ }
     ensures { λ r. ⌜ (length (now (image .exit)) ≡ length (now (image .entry))) × (length (now (work .exit)) ≡ length (now (work .entry))) ⌝ }
 {
-    let start = 256 + 256 * n;
+    let start = 256 + 256 * p.n;
     let old = &image[..len];
     let mut numbers = [0u32; 32768];
     let end = displace(
         &old[256..start],
         &old[start..],
-        d,
+        p.d,
         p.g,
         p.target,
         &mut numbers,
@@ -390,8 +393,8 @@ fn grow(
         return 0;
     }
     let v = Outline {
-        n: n,
-        d: d,
+        n: p.n,
+        d: p.d,
         g: p.g,
         end: end,
         words: words,
@@ -412,22 +415,20 @@ fn grow(
     )
 }
 
-// A change in an accepted image of n index blocks and d data blocks, whose free blocks are marked: the entry with the headword
-// h goes, and a new one with that body enters, if it is fresh; `words` entries are in the image then. The new length, or 0
-// where there is no room: row 15.
+// A change that is measured, in an image whose free blocks are marked: the entry with the headword h goes, and a new one with
+// that body enters, if it is fresh; `words` entries are in the image then. The new length, or 0 where there is no room: row 15.
 pub fn change(
     image: &mut [u8],
     len: usize,
     work: &mut [u8],
-    n: usize,
-    d: usize,
+    p: Draft,
     free: &mut [u64],
     h: &[u8],
     body: &[u8],
     fresh: bool,
     words: usize,
 ) -> usize
-    requires { ⌜ AcceptedImage (take len (now image)) n d ⌝ }
+    requires { ⌜ Drafted (take len (now image)) (p .n) (p .d) (now h) (now body) fresh p ⌝ }
     requires { ⌜ (len ≤ length (now image)) × (len % 256 ≡ 0) × (length (now image) ≤ length (now work)) × (length (now free) ≡ 2560) ⌝ }
     requires { ⌜ ((i : Image) → image-from (take len (now image)) ≡ ok i → marks (now free) ≡ free-marks (i .frame .data-blocks) (i .free-list) ++ replicate (163840 - i .frame .data-blocks) false) ⌝ }
     requires { ⌜ (headword-ok (now h) ≡ true) × (length (now body) ≤ 3001) ⌝ }
@@ -435,19 +436,18 @@ pub fn change(
     ensures { λ r. ⌜ Changed (now (image .entry)) len (now (h .entry)) (now (body .entry)) fresh r (now (image .exit)) ⌝ }
     ensures { λ r. ⌜ (length (now (image .exit)) ≡ length (now (image .entry))) × (length (now (work .exit)) ≡ length (now (work .entry))) ⌝ }
 {
-    let p = measure_change(&image[..len], n, d, h, body, fresh);
-    if 32767 < n + p.g {
+    if 32767 < p.n + p.g {
         return 0;
     }
     marks::mark_range(free, p.target.block, p.target.size);
     if 0 < p.g {
-        return grow(image, len, work, n, d, p, free, h, body, fresh, words);
+        return grow(image, len, work, p, free, h, body, fresh, words);
     }
     let v = Outline {
-        n: n,
-        d: d,
+        n: p.n,
+        d: p.d,
         g: 0,
-        end: d,
+        end: p.d,
         words: words,
         elements: p.elements,
         blocks: p.blocks,

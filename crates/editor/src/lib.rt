@@ -7,15 +7,12 @@ ghost use lib.ListN.{length, take, replicate};
 ghost use Rattle.spec.specs.Outcome.{ok};
 ghost use Rattle.spec.specs.Blocks.{free-marks};
 ghost use Rattle.spec.specs.Check.{Image, image-from, entries-of};
-ghost use Rattle.spec.specs.SortedList.{lookup};
 ghost use Rattle.spec.specs.Calls.{create, insert, delete, optimise};
 ghost use Rattle.spec.specs.Answers.{length-answer, delete-answer};
 ghost use Rattle.marks.specs.Marks.{marks};
 ghost use Rattle.inspect.specs.Overview.{AcceptedImage};
-ghost use Rattle.spec.specs.Claim.{is-there};
 ghost use Rattle.editor.specs.Entered.{words-after};
 use inspect::Inspected;
-use seek::Spot;
 use spec::DeleteAnswer;
 use spec::LengthAnswer;
 
@@ -28,33 +25,6 @@ pub fn create(image: &mut [u8]) -> LengthAnswer
     }
     header::write_empty(image);
     LengthAnswer::Done(256)
-}
-
-// Whether an accepted image of n index blocks and d data blocks has an entry with that headword.
-fn has_entry(image: &[u8], n: usize, d: usize, headword: &[u8]) -> bool
-    requires { ⌜ AcceptedImage (now image) n d ⌝ }
-    requires { ⌜ (256 ≤ length (now image)) × (length (now image) % 256 ≡ 0) × (256 + 256 * n ≤ length (now image)) ⌝ }
-    ensures { λ r. ⌜ ((i : Image) → image-from (now (image .entry)) ≡ ok i → r ≡ is-there (lookup (now (headword .entry)) (entries-of i))) ⌝ }
-{
-    let start = 256 + 256 * n;
-    let mut word = [0u8; 256];
-    let found = seek::seek(
-        &image[256..start],
-        header::nindex2(image),
-        &image[start..],
-        d,
-        false,
-        headword,
-        &mut word,
-    );
-    match found {
-        Spot::Absent => false,
-        Spot::At {
-            length,
-            zero: _,
-            next: _,
-        } => scans::is_equal(&word[..length], headword),
-    }
 }
 
 // How many entries there are after an insertion.
@@ -105,19 +75,10 @@ fn insert_in(
     let mut body = [0u8; 3001];
     byteops::write_u8(&mut body, 0, attribute);
     byteops::copy(&mut body, 1, text, 0, text.len());
-    let all = words_after(words, has_entry(&image[..len], n, d, headword));
-    let r = change::change(
-        image,
-        len,
-        work,
-        n,
-        d,
-        free,
-        headword,
-        &body[..1 + text.len()],
-        true,
-        all,
-    );
+    let new = &body[..1 + text.len()];
+    let p = change::measure_change(&image[..len], n, d, headword, new, true);
+    let all = words_after(words, p.found);
+    let r = change::change(image, len, work, p, free, headword, new, true, all);
     if r == 0 {
         return LengthAnswer::Refused(15);
     }
@@ -204,22 +165,12 @@ fn delete_in(
     if !runs::headword_ok(headword) {
         return DeleteAnswer::Refused(12);
     }
-    if !has_entry(&image[..len], n, d, headword) {
+    let none = [0u8; 1];
+    let p = change::measure_change(&image[..len], n, d, headword, &none, false);
+    if !p.found {
         return DeleteAnswer::Absent;
     }
-    let none = [0u8; 1];
-    let r = change::change(
-        image,
-        len,
-        work,
-        n,
-        d,
-        free,
-        headword,
-        &none,
-        false,
-        words - 1,
-    );
+    let r = change::change(image, len, work, p, free, headword, &none, false, words - 1);
     if r == 0 {
         return DeleteAnswer::Refused(15);
     }

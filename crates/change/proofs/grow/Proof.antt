@@ -19,7 +19,7 @@ slice-reshare-prefix-old : tie.Need-slice-reshare-prefix-old
 slice-reshare-prefix-old c = search needs
 
 slice-aggregate-old : tie.Need-slice-aggregate-old
-slice-aggregate-old c = sym (length-take-le _ _ (c .before .before .before .before .before .before .pre .1 .1))
+slice-aggregate-old c = sym (length-take-le _ _ (c .before .before .before .before .before .before .before .pre .1 .1))
 
 sub-displace : tie.Need-sub-displace
 sub-displace c = search needs
@@ -44,12 +44,14 @@ slice-aggregate-displace c = search needs
 
 displace-requires : tie.Need-displace-requires
 displace-requires c κs =
-    let b = c .before .before .before .before .before .before .before .before .before .before .pre .0 in
+    let p = c .before .before .before .before .before .before .before .before .before .before .before .pre in
+    let b = p .0 in
     let t = told-here _ _ _ _ _ _ _ _ _ b in
-    (t .before-inside, (t .after-inside, (area-long _ _ _ _ _ _ _ _ _ b, few _ _ _ _ _ _ _ _ _ b, omega (arith, b .few-index), length-replicate {A = ℕ} 32768 0, c .before .before .before .before .before .before .before .before .before .before .pre .1 .3)))
+    let l = length-replicate {A = ℕ} 32768 0 in
+    (t .before-inside, (t .after-inside, (area-long _ _ _ _ _ _ _ _ _ b, few _ _ _ _ _ _ _ _ _ b, omega (arith, b .few-index), l, p .1 .3)))
 
 add-if1 : tie.Need-add-if1
-add-if1 c = omega (arith, c .before .before .before .before .before .before .before .before .before .before .before .before .before .before .before .pre .0 .few-index)
+add-if1 c = omega (arith, c .before .before .before .before .before .before .before .before .before .before .before .before .before .before .before .before .pre .0 .few-index)
 
 same-length : tie.Need-same-length
 same-length c = search needs
@@ -58,16 +60,23 @@ same-length-2 : tie.Need-same-length-2
 same-length-2 c = search needs
 
 returns : tie.Need-returns
-returns c = (grow-full _ _ _ _ _ _ _ _ _ (c .before .before .before .before .before .before .before .before .before .before .before .before .before .before .before .before .pre .0) (c .before .before .before .before .before .before .before .before .before .before .before .before .before .before .before .before .pre .1 .0) _ _ _ (c .before .before .before .before .before .displace .ensures .0) (c .before .before .before .before .before .before .before .before .before .before .before .before .before .before .before .before .args .image .now) (c .before .before .before .before .before .before .before .before .before .before .before .before .before .before .before .before .args .len) refl (c .if1 .taken), (refl, refl))
+returns c =
+    let s = c .before .before .before .before .before .before .before .before .before .before .before .before .before .before .before .before .before in
+    let d = c .before .before .before .before .before .displace .ensures in
+    (grow-full _ _ _ _ _ _ _ _ _ (s .pre .0) (s .pre .1 .0) _ _ _ (d .0) (s .args .image .now) (s .args .len) refl (c .if1 .taken), (refl, refl))
 
 slice-aggregate-finish : tie.Need-slice-aggregate-finish
 slice-aggregate-finish c = search needs
 
 finish-requires : tie.Need-finish-requires
 finish-requires c κs =
-    let b = c .before .before .before .before .before .before .before .before .before .before .before .before .before .before .before .before .before .before .before .before .pre .0 in
-    let l = c .before .before .before .before .before .before .before .before .before .displace .ensures .1 .0 ∙ length-replicate {A = ℕ} 32768 0 in
-    (grow-ready _ _ _ _ _ _ _ _ _ b (c .before .before .before .before .before .before .before .before .before .before .before .before .before .before .before .before .before .before .before .before .pre .1 .0) _ _ _ (c .before .before .before .before .before .before .before .before .before .displace .ensures .0) (c .before .before .before .before .if1 .left) (omega (arith, l, b .few-index)), (c .before .before .before .before .before .before .before .before .before .before .before .before .before .before .before .before .before .before .before .before .pre .1 .1, c .before .before .before .before .before .before .before .before .before .before .before .before .before .before .before .before .before .before .before .before .pre .1 .2, c .before .before .before .before .before .before .before .before .before .displace .ensures .1 .1 ∙ c .before .before .before .before .before .before .before .before .before .before .before .before .before .before .before .before .before .before .before .before .pre .1 .3))
+    let p = c .before .before .before .before .before .before .before .before .before .before .before .before .before .before .before .before .before .before .before .before .before .pre in
+    let b = p .0 in
+    let d = c .before .before .before .before .before .before .before .before .before .displace .ensures in
+    let l = d .1 .0 ∙ length-replicate {A = ℕ} 32768 0 in (
+      grow-ready _ _ _ _ _ _ _ _ _ b (p .1 .0) _ _ _ (d .0) (c .before .before .before .before .if1 .left) (omega (arith, l, b .few-index)),
+      (p .1 .1, p .1 .2, d .1 .1 ∙ p .1 .3),
+    )
 
 same-length-3 : tie.Need-same-length-3
 same-length-3 c = search needs

@@ -3,7 +3,7 @@ use Prim.Native.Nat.{_+_, _-_}
 use native.Mathlib.Omega.{arith}
 use Rattle.inspect.proofs.Accepted.{accepted-index, accepted-blocks, accepted-area, accepted-inside}
 use Rattle.change.proofs.Laws.{run-short}
-use Rattle.change.proofs.FinishLaws.{index-short, numbers-few, element-short, blocks-short, growth-few, drafted}
+use Rattle.change.proofs.FinishLaws.{index-short, numbers-few, element-short, blocks-short, drafted}
 use borrow.Author.Needs.{needs}
 use Rattle.change.proofs.measure_change.Statement.{statement}
 use Rattle.change.proofs.measure_change.Tie as tie
@@ -66,7 +66,7 @@ add-count c = search needs
 
 add-count-2 : tie.Need-add-count-2
 add-count-2 c =
-    let m = c .before .before .measure .ensures .1 in
+    let m = c .before .before .measure .ensures .1 .0 in
     omega (arith, m .0, c .before .before .before .before .before .before .find-run .ensures .1 .4, c .before .before .before .before .before .before .before .nindex2 .ensures .1)
 
 elements-end-requires : tie.Need-elements-end-requires
@@ -80,13 +80,13 @@ sub-bytes-2 c = omega (arith, c .before .elements-end .ensures .0, element-short
 
 add-bytes : tie.Need-add-bytes
 add-bytes c =
-    let m = c .before .before .before .before .before .measure .ensures .1 in
+    let m = c .before .before .before .before .before .measure .ensures .1 .0 in
     let i = index-short (c .before .before .before .before .before .before .before .before .before .before .before .before .before .before .before .before .args .old .now) (c .before .before .before .before .before .before .before .before .before .before .before .before .before .before .before .before .args .n) (c .before .before .before .before .before .before .before .before .before .before .before .before .before .before .before .before .args .d) (c .before .before .before .before .before .before .before .before .before .before .before .before .before .before .before .before .pre .0) _ (c .before .before .elements-end .ensures .1) in
     omega (arith, m .1, i)
 
 growth-requires : tie.Need-growth-requires
 growth-requires c κs =
-    let m = c .before .before .before .before .before .measure .ensures .1 in
+    let m = c .before .before .before .before .before .measure .ensures .1 .0 in
     let i = index-short (c .before .before .before .before .before .before .before .before .before .before .before .before .before .before .before .before .args .old .now) (c .before .before .before .before .before .before .before .before .before .before .before .before .before .before .before .before .args .n) (c .before .before .before .before .before .before .before .before .before .before .before .before .before .before .before .before .args .d) (c .before .before .before .before .before .before .before .before .before .before .before .before .before .before .before .before .pre .0) _ (c .before .before .elements-end .ensures .1) in
     omega (arith, m .1, i)
 
@@ -98,14 +98,20 @@ sub-t16 c = blocks-short _ _ _ (c .before .before .before .before .before .befor
 
 add-t26 : tie.Need-add-t26
 add-t26 c =
-    let m = c .before .before .before .before .before .before .before .before .before .measure .ensures .1 in
+    let m = c .before .before .before .before .before .before .before .before .before .measure .ensures .1 .0 in
     omega (arith, m .2, c .before .before .nblock2 .ensures .1)
 
 returns : tie.Need-returns
 returns c =
-    let m = c .before .before .before .before .before .before .before .before .before .measure .ensures .1 in
-    let i = index-short (c .before .before .before .before .before .before .before .before .before .before .before .before .before .before .before .before .before .before .before .before .args .old .now) (c .before .before .before .before .before .before .before .before .before .before .before .before .before .before .before .before .before .before .before .before .args .n) (c .before .before .before .before .before .before .before .before .before .before .before .before .before .before .before .before .before .before .before .before .args .d) (c .before .before .before .before .before .before .before .before .before .before .before .before .before .before .before .before .before .before .before .before .pre .0) _ (c .before .before .before .before .before .before .elements-end .ensures .1) in
-    (drafted (c .before .before .before .before .before .before .before .before .before .before .before .before .before .before .before .before .before .before .before .before .args .old .now) (c .before .before .before .before .before .before .before .before .before .before .before .before .before .before .before .before .before .before .before .before .args .n) (c .before .before .before .before .before .before .before .before .before .before .before .before .before .before .before .before .before .before .before .before .args .d) (c .before .before .before .before .before .before .before .before .before .before .before .before .before .before .before .before .before .before .before .before .pre .0) _ (c .before .before .before .before .before .before .before .before .before .before .before .before .before .before .nindex2 .ensures .0) (c .before .before .before .before .before .before .before .before .before .before .before .before .before .before .before .before .before .before .before .before .args .h .now) (c .before .before .before .before .before .before .before .before .before .before .before .before .before .find-run .result) (c .before .before .before .before .before .before .before .before .before .before .before .before .before .find-run .ensures .0) (c .before .before .before .before .before .before .before .before .before .before .before .before .before .before .before .before .before .before .before .before .args .body .now) (c .before .before .before .before .before .before .before .before .before .before .before .before .before .before .before .before .before .before .before .before .args .fresh) _ _ _ _ _ _ _ (c .before .before .before .before .before .before .before .before .before .before .before .before .before .find-run .ensures .1 .0) (c .before .before .before .before .before .before .before .before .before .before .before .before .entries-start .ensures .0) (c .before .before .before .before .before .before .before .before .before .measure .ensures .0) (c .before .before .before .before .before .before .elements-end .ensures .0) (c .before .before .nblock2 .ensures .0) (c .before .before .before .growth .ensures), (omega (arith, c .before .before .before .before .before .before .before .before .before .before .before .before .before .find-run .ensures .1 .0, accepted-blocks _ _ _ (c .before .before .before .before .before .before .before .before .before .before .before .before .before .before .before .before .before .before .before .before .pre .0)), omega (arith, m .1, i, c .before .before .before .growth .ensures, growth-few (c .before .before .before .before .before .before .before .before .before .before .before .before .before .before .before .before .before .before .before .before .args .n) (c .before .before .before .before .before .before .before .before .before .before .before .before .before .find-run .result .before + c .before .before .before .before .before .before .before .before .before .before .before .before .before .find-run .result .after + c .before .before .before .before .before .before .before .before .before .measure .result .parts) (c .before .before .before .before .before .before .elements-end .result - (c .before .before .before .before .before .before .before .before .before .before .before .before .before .find-run .result .end - c .before .before .before .before .before .before .before .before .before .before .before .before .before .find-run .result .at) + c .before .before .before .before .before .before .before .before .before .measure .result .bytes))))
+    let a = c .before .before .before .before .before .before .before .before .before .before .before .before .before .before .before .before .before .before .before .before .args in
+    let k = c .before .before .before .before .before .before .before .before .before .before .before .before .before .before .before .before .before .before .before .before .pre .0 in
+    let n = c .before .before .before .before .before .before .before .before .before .before .before .before .before .before .nindex2 .ensures .0 in
+    let f = c .before .before .before .before .before .before .before .before .before .before .before .before .before .find-run in
+    let s = c .before .before .before .before .before .before .before .before .before .before .before .before .entries-start .ensures .0 in
+    let m = c .before .before .before .before .before .before .before .before .before .measure .ensures in
+    let e = c .before .before .before .before .before .before .elements-end .ensures in
+    drafted (a .old .now) (a .n) (a .d) k _ n (a .h .now) (f .result) (f .ensures .0) (a .body .now) (a .fresh) _ _ _ _ _ _ _ _ (f .ensures .1 .0) s (m .0) (e .0)
+    (c .before .before .nblock2 .ensures .0) (c .before .before .before .growth .ensures) (index-short (a .old .now) (a .n) (a .d) k _ (e .1)) (m .1 .0 .1) (m .1 .1)
 
 pub measure-change-spec : {M : Type 1} → statement M
 measure-change-spec =

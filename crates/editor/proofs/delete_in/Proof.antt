@@ -1,9 +1,9 @@
 -- `delete_in` meets its contract.
-use mathlib.Core.Path.{refl}
-use Rattle.inspect.proofs.Accepted.{accepted-index}
+use mathlib.Core.Path.{_≡_, refl}
+use mathlib.Core.Bool.{true}
+use Rattle.spec.specs.Entry.{headword-ok}
 use Rattle.parts.proofs.Laws.{first-bytes}
 use Rattle.change.proofs.FinishLaws.{front-blocks}
-use Rattle.inspect.proofs.Accepted.{front-header}
 use Rattle.editor.proofs.Changes.{head-good, delete-some, delete-ready, delete-eleven, delete-twelve, delete-absent, delete-fifteen, delete-done}
 use borrow.Author.Needs.{needs}
 use Rattle.editor.proofs.delete_in.Statement.{statement}
@@ -31,31 +31,57 @@ returns-2 c =
     let r = delete-twelve (c .before .before .before .before .before .before .before .before .before .args .image .now) (c .before .before .before .before .before .before .before .before .before .args .len) (c .before .before .before .before .before .before .before .before .before .args .work .now) (c .before .before .before .before .before .before .before .before .before .pre .1 .0 .0) (c .before .before .before .before .before .before .before .before .before .pre .1 .0 .1) (c .before .before .before .before .before .before .before .before .before .pre .1 .0 .2) (c .before .before .before .before .before .before .before .before .before .pre .1 .0 .3) _ _ (c .before .before .before .before .before .before .before .before .before .pre .0) _ (c .before .before .before .writable .ensures) (c .before .before .before .before .before .before .before .before .before .args .headword .now) (c .before .before .if1 .left) _ (c .before .headword-ok .ensures) (c .if2 .taken) in
     (r .0, (r .1, refl))
 
-slice-reshare-prefix-has-entry : tie.Need-slice-reshare-prefix-has-entry
-slice-reshare-prefix-has-entry c = search needs
+slice-reshare-prefix-measure-change : tie.Need-slice-reshare-prefix-measure-change
+slice-reshare-prefix-measure-change c = search needs
 
-slice-aggregate-has-entry : tie.Need-slice-aggregate-has-entry
-slice-aggregate-has-entry c = search first-bytes
+slice-aggregate-measure-change : tie.Need-slice-aggregate-measure-change
+slice-aggregate-measure-change c = search first-bytes
 
-has-entry-requires : tie.Need-has-entry-requires
-has-entry-requires c κs = (c .before .before .before .before .before .before .before .before .before .before .pre .0, (front-header _ _ (c .before .before .before .before .before .before .before .before .before .before .pre .1 .0 .2) (c .before .before .before .before .before .before .before .before .before .before .pre .1 .0 .0), front-blocks _ _ (c .before .before .before .before .before .before .before .before .before .before .pre .1 .0 .2) (c .before .before .before .before .before .before .before .before .before .before .pre .1 .0 .1), accepted-index _ _ _ (c .before .before .before .before .before .before .before .before .before .before .pre .0)))
+slice-aggregate-measure-change-2 : tie.Need-slice-aggregate-measure-change-2
+slice-aggregate-measure-change-2 c = search needs
+
+-- where the headword passed its test, from the start of the call on
+abbrev start : tie.Else2 → tie.Start
+start c = c .before .before .before .before .before .before .before .before .before
+
+-- it is a headword
+good : (c : tie.Else2) → headword-ok (start c .args .headword .now) ≡ true
+good c = head-good (start c .args .headword .now) _ (c .before .headword-ok .ensures) (c .if2 .left)
+
+measure-change-requires : tie.Need-measure-change-requires
+measure-change-requires c κs =
+    let p = start (c .before .before) .pre in
+    (p .0, (front-blocks _ _ (p .1 .0 .2) (p .1 .0 .1), good (c .before .before), search needs))
 
 same-length-3 : tie.Need-same-length-3
 same-length-3 c = search needs
 
 returns-3 : tie.Need-returns-3
 returns-3 c =
-    let r = delete-absent (c .before .before .before .before .before .before .before .before .before .before .before .before .args .image .now) (c .before .before .before .before .before .before .before .before .before .before .before .before .args .len) (c .before .before .before .before .before .before .before .before .before .before .before .before .args .work .now) (c .before .before .before .before .before .before .before .before .before .before .before .before .pre .1 .0 .0) (c .before .before .before .before .before .before .before .before .before .before .before .before .pre .1 .0 .1) (c .before .before .before .before .before .before .before .before .before .before .before .before .pre .1 .0 .2) (c .before .before .before .before .before .before .before .before .before .before .before .before .pre .1 .0 .3) _ _ (c .before .before .before .before .before .before .before .before .before .before .before .before .pre .0) _ (c .before .before .before .before .before .before .writable .ensures) (c .before .before .before .before .before .before .before .before .before .before .before .before .args .headword .now) (c .before .before .before .before .before .if1 .left) _ (c .before .before .before .before .headword-ok .ensures) (c .before .before .before .if2 .left) _ (c .before .has-entry .ensures) (c .if3 .taken) in
+    let e = c .before .before .before .before .before in
+    let s = start e in
+    let p = s .pre in
+    let k = c .before .before .measure-change .ensures in
+    let r = delete-absent (s .args .image .now) (s .args .len) (s .args .work .now) (p .1 .0 .0) (p .1 .0 .1) (p .1 .0 .2) (p .1 .0 .3) _ _ (p .0)
+    _ (e .before .before .before .writable .ensures) (s .args .headword .now) (e .before .before .if1 .left) _ (e .before .headword-ok .ensures) (e .if2 .left)
+    _ (k .found-is) (c .if3 .taken) in
     (r .0, (r .1, refl))
 
 slice-aggregate-change : tie.Need-slice-aggregate-change
 slice-aggregate-change c = search needs
 
 sub-change : tie.Need-sub-change
-sub-change c = delete-some _ _ _ (c .before .before .before .before .before .before .before .before .before .before .before .before .before .before .before .before .pre .1 .1 .1) _ (c .before .before .before .before .before .has-entry .ensures) (c .before .before .before .before .if3 .left) _ _ (c .before .before .before .before .before .before .before .before .before .before .before .before .before .before .before .before .pre .0)
+sub-change c =
+    let p = start (c .before .before .before .before .before .before .before .before .before) .pre in
+    delete-some _ _ _ (p .1 .1 .1) _ (c .before .before .before .before .before .before .measure-change .ensures .found-is) (c .before .before .before .before .if3 .left) _ _ (p .0)
 
 change-requires : tie.Need-change-requires
-change-requires c κs = (c .before .before .before .before .before .before .before .before .before .before .before .before .before .before .before .before .pre .0, ((c .before .before .before .before .before .before .before .before .before .before .before .before .before .before .before .before .pre .1 .0 .2, c .before .before .before .before .before .before .before .before .before .before .before .before .before .before .before .before .pre .1 .0 .1, c .before .before .before .before .before .before .before .before .before .before .before .before .before .before .before .before .pre .1 .0 .3, c .before .before .before .before .before .before .before .before .before .before .before .before .before .before .before .before .pre .1 .0 .4), (c .before .before .before .before .before .before .before .before .before .before .before .before .before .before .before .before .pre .1 .1 .0, ((head-good (c .before .before .before .before .before .before .before .before .before .before .before .before .before .before .before .before .args .headword .now) _ (c .before .before .before .before .before .before .before .before .headword-ok .ensures) (c .before .before .before .before .before .before .before .if2 .left), search needs), delete-ready _ _ _ (c .before .before .before .before .before .before .before .before .before .before .before .before .before .before .before .before .pre .1 .1 .1) _ (c .before .before .before .before .before .has-entry .ensures) (c .before .before .before .before .if3 .left) _))))
+change-requires c κs =
+    let e = c .before .before .before .before .before .before .before .before .before in
+    let p = start e .pre in
+    let k = c .before .before .before .before .before .before .measure-change .ensures in
+    let f = c .before .before .before .before .if3 .left in
+    (k, ((p .1 .0 .2, p .1 .0 .1, p .1 .0 .3, p .1 .0 .4), (p .1 .1 .0, ((good e, search needs), delete-ready _ _ _ (p .1 .1 .1) _ (k .found-is) f _))))
 
 same-length-4 : tie.Need-same-length-4
 same-length-4 c = search needs
@@ -68,8 +94,15 @@ same-length-6 c = search needs
 
 returns-4 : tie.Need-returns-4
 returns-4 c =
-    let r = delete-fifteen (c .before .before .before .before .before .before .before .before .before .before .before .before .before .before .before .before .before .before .before .before .before .before .before .before .args .image .now) (c .before .before .before .before .before .before .before .before .before .before .before .before .before .before .before .before .before .before .before .before .before .before .before .before .args .len) (c .before .before .before .before .before .before .before .before .before .before .before .before .before .before .before .before .before .before .before .before .before .before .before .before .args .work .now) (c .before .before .before .before .before .before .before .before .before .before .before .before .before .before .before .before .before .before .before .before .before .before .before .before .pre .1 .0 .0) (c .before .before .before .before .before .before .before .before .before .before .before .before .before .before .before .before .before .before .before .before .before .before .before .before .pre .1 .0 .1) (c .before .before .before .before .before .before .before .before .before .before .before .before .before .before .before .before .before .before .before .before .before .before .before .before .pre .1 .0 .2) (c .before .before .before .before .before .before .before .before .before .before .before .before .before .before .before .before .before .before .before .before .before .before .before .before .pre .1 .0 .3) _ _ (c .before .before .before .before .before .before .before .before .before .before .before .before .before .before .before .before .before .before .before .before .before .before .before .before .pre .0) _ (c .before .before .before .before .before .before .before .before .before .before .before .before .before .before .before .before .before .before .writable .ensures) (c .before .before .before .before .before .before .before .before .before .before .before .before .before .before .before .before .before .before .before .before .before .before .before .before .args .headword .now) (c .before .before .before .before .before .before .before .before .before .before .before .before .before .before .before .before .before .if1 .left) _ (c .before .before .before .before .before .before .before .before .before .before .before .before .before .before .before .before .headword-ok .ensures) (c .before .before .before .before .before .before .before .before .before .before .before .before .before .before .before .if2 .left) _ (c .before .before .before .before .before .before .before .before .before .before .before .before .before .has-entry .ensures) (c .before .before .before .before .before .before .before .before .before .before .before .before .if3 .left) _ _ _ (c .before .before .before .before .before .before .before .change .ensures .0) (c .if4 .taken) in
-    (r .0, (r .1, c .before .before .before .before .before .before .before .change .ensures .1 .1))
+    let e = c .before .before .before .before .before .before .before .before .before .before .before .before .before .before .before .before .before in
+    let s = start e in
+    let p = s .pre in
+    let k = c .before .before .before .before .before .before .before .before .before .before .before .before .before .before .measure-change .ensures in
+    let q = c .before .before .before .before .before .before .before .change .ensures in
+    let r = delete-fifteen (s .args .image .now) (s .args .len) (s .args .work .now) (p .1 .0 .0) (p .1 .0 .1) (p .1 .0 .2) (p .1 .0 .3) _ _ (p .0)
+    _ (e .before .before .before .writable .ensures) (s .args .headword .now) (e .before .before .if1 .left) _ (e .before .headword-ok .ensures) (e .if2 .left)
+    _ (k .found-is) (c .before .before .before .before .before .before .before .before .before .before .before .before .if3 .left) _ _ _ (q .0) (c .if4 .taken) in
+    (r .0, (r .1, q .1 .1))
 
 same-length-7 : tie.Need-same-length-7
 same-length-7 c = search needs
@@ -82,8 +115,15 @@ same-length-9 c = search needs
 
 returns-5 : tie.Need-returns-5
 returns-5 c =
-    let r = delete-done (c .before .before .before .before .before .before .before .before .before .before .before .before .before .before .before .before .before .before .before .before .before .before .before .before .args .image .now) (c .before .before .before .before .before .before .before .before .before .before .before .before .before .before .before .before .before .before .before .before .before .before .before .before .args .len) (c .before .before .before .before .before .before .before .before .before .before .before .before .before .before .before .before .before .before .before .before .before .before .before .before .args .work .now) (c .before .before .before .before .before .before .before .before .before .before .before .before .before .before .before .before .before .before .before .before .before .before .before .before .pre .1 .0 .0) (c .before .before .before .before .before .before .before .before .before .before .before .before .before .before .before .before .before .before .before .before .before .before .before .before .pre .1 .0 .1) (c .before .before .before .before .before .before .before .before .before .before .before .before .before .before .before .before .before .before .before .before .before .before .before .before .pre .1 .0 .2) (c .before .before .before .before .before .before .before .before .before .before .before .before .before .before .before .before .before .before .before .before .before .before .before .before .pre .1 .0 .3) _ _ (c .before .before .before .before .before .before .before .before .before .before .before .before .before .before .before .before .before .before .before .before .before .before .before .before .pre .0) _ (c .before .before .before .before .before .before .before .before .before .before .before .before .before .before .before .before .before .before .writable .ensures) (c .before .before .before .before .before .before .before .before .before .before .before .before .before .before .before .before .before .before .before .before .before .before .before .before .args .headword .now) (c .before .before .before .before .before .before .before .before .before .before .before .before .before .before .before .before .before .if1 .left) _ (c .before .before .before .before .before .before .before .before .before .before .before .before .before .before .before .before .headword-ok .ensures) (c .before .before .before .before .before .before .before .before .before .before .before .before .before .before .before .if2 .left) _ (c .before .before .before .before .before .before .before .before .before .before .before .before .before .has-entry .ensures) (c .before .before .before .before .before .before .before .before .before .before .before .before .if3 .left) _ _ _ (c .before .before .before .before .before .before .before .change .ensures .0) (c .if4 .left) in
-    (r .0, (r .1, c .before .before .before .before .before .before .before .change .ensures .1 .1))
+    let e = c .before .before .before .before .before .before .before .before .before .before .before .before .before .before .before .before .before in
+    let s = start e in
+    let p = s .pre in
+    let k = c .before .before .before .before .before .before .before .before .before .before .before .before .before .before .measure-change .ensures in
+    let q = c .before .before .before .before .before .before .before .change .ensures in
+    let r = delete-done (s .args .image .now) (s .args .len) (s .args .work .now) (p .1 .0 .0) (p .1 .0 .1) (p .1 .0 .2) (p .1 .0 .3) _ _ (p .0)
+    _ (e .before .before .before .writable .ensures) (s .args .headword .now) (e .before .before .if1 .left) _ (e .before .headword-ok .ensures) (e .if2 .left)
+    _ (k .found-is) (c .before .before .before .before .before .before .before .before .before .before .before .before .if3 .left) _ _ _ (q .0) (c .if4 .left) in
+    (r .0, (r .1, q .1 .1))
 
 pub delete-in-spec : {M : Type 1} → statement M
 delete-in-spec =
@@ -95,9 +135,10 @@ delete-in-spec =
     headword-ok-requires
     same-length-2
     returns-2
-    slice-reshare-prefix-has-entry
-    slice-aggregate-has-entry
-    has-entry-requires
+    slice-reshare-prefix-measure-change
+    slice-aggregate-measure-change
+    slice-aggregate-measure-change-2
+    measure-change-requires
     same-length-3
     returns-3
     slice-aggregate-change

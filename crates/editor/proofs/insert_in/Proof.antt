@@ -1,10 +1,13 @@
 -- `insert_in` meets its contract.
+use Prim.Native.Nat.{_+_, _≤_}
 use native.Mathlib.Omega.{arith}
-use mathlib.Core.Path.{refl}
-use Rattle.inspect.proofs.Accepted.{accepted-index}
+use mathlib.Core.Path.{_≡_, refl}
+use mathlib.Core.Bool.{true}
+use mathlib.Core.List.{_∷_}
+use lib.ListN.{length, take}
+use Rattle.spec.specs.Entry.{headword-ok}
 use Rattle.parts.proofs.Laws.{first-bytes}
 use Rattle.change.proofs.FinishLaws.{front-blocks}
-use Rattle.inspect.proofs.Accepted.{front-header}
 use Rattle.editor.proofs.Changes.{text-short, head-good, body-made, body-few, insert-ready, insert-eleven, insert-twelve, insert-thirteen, insert-attribute, insert-fifteen, insert-done}
 use borrow.Author.Needs.{needs}
 use Rattle.editor.proofs.insert_in.Statement.{statement}
@@ -66,29 +69,63 @@ slice-aggregate-copy c = search needs
 copy-requires : tie.Need-copy-requires
 copy-requires c κs = (omega (arith, text-short (c .before .before .before .before .before .before .before .before .before .before .before .before .before .before .before .before .before .before .args .text .now) _ (c .before .before .before .before .before .before .before .text-ok .ensures) (c .before .before .before .before .before .before .if3 .left)), omega arith)
 
-slice-reshare-prefix-has-entry : tie.Need-slice-reshare-prefix-has-entry
-slice-reshare-prefix-has-entry c = search needs
+-- where the body is made, from the start of the call on
+abbrev start : tie.After-body4 → tie.Start
+start c = c .before .before .before .before .before .before .before .before .before .before .before .before .before .before .before .before .before .before .before .before
 
-slice-aggregate-has-entry : tie.Need-slice-aggregate-has-entry
-slice-aggregate-has-entry c = search first-bytes
+-- the text is short
+text-few : (c : tie.After-body4) → length (start c .args .text .now) ≤ 3000
+text-few c =
+    let q = c .before .before .before .before .before .before .before .before .before .text-ok .ensures in
+    text-short (start c .args .text .now) _ q (c .before .before .before .before .before .before .before .before .if3 .left)
 
-has-entry-requires : tie.Need-has-entry-requires
-has-entry-requires c κs = (c .before .before .before .before .before .before .before .before .before .before .before .before .before .before .before .before .before .before .before .before .before .pre .0, (front-header _ _ (c .before .before .before .before .before .before .before .before .before .before .before .before .before .before .before .before .before .before .before .before .before .pre .1 .0 .2) (c .before .before .before .before .before .before .before .before .before .before .before .before .before .before .before .before .before .before .before .before .before .pre .1 .0 .0), front-blocks _ _ (c .before .before .before .before .before .before .before .before .before .before .before .before .before .before .before .before .before .before .before .before .before .pre .1 .0 .2) (c .before .before .before .before .before .before .before .before .before .before .before .before .before .before .before .before .before .before .before .before .before .pre .1 .0 .1), accepted-index _ _ _ (c .before .before .before .before .before .before .before .before .before .before .before .before .before .before .before .before .before .before .before .before .before .pre .0)))
-
-words-after-requires : tie.Need-words-after-requires
-words-after-requires c κs = search needs
+-- the body is the attribute and the text
+made : (c : tie.After-body4) → take (1 + length (start c .args .text .now)) (c .before .copy .last .0) ≡ start c .args .attribute ∷ start c .args .text .now
+made c = body-made (start c .args .attribute) (start c .args .text .now) _ _ _ (omega (arith, text-few c)) (c .before .before .before .before .write-u8 .ensures .0) (c .before .copy .ensures .0)
 
 add-body : tie.Need-add-body
-add-body c = omega (arith, text-short (c .before .before .before .before .before .before .before .before .before .before .before .before .before .before .before .before .before .before .before .before .before .before .before .before .before .before .args .text .now) _ (c .before .before .before .before .before .before .before .before .before .before .before .before .before .before .before .text-ok .ensures) (c .before .before .before .before .before .before .before .before .before .before .before .before .before .before .if3 .left))
+add-body c = omega (arith, text-few c)
 
 array-share-prefix-body : tie.Need-array-share-prefix-body
-array-share-prefix-body c = omega (arith, text-short (c .before .before .before .before .before .before .before .before .before .before .before .before .before .before .before .before .before .before .before .before .before .before .before .before .before .before .args .text .now) _ (c .before .before .before .before .before .before .before .before .before .before .before .before .before .before .before .text-ok .ensures) (c .before .before .before .before .before .before .before .before .before .before .before .before .before .before .if3 .left))
+array-share-prefix-body c = omega (arith, text-few c)
 
-slice-aggregate-change : tie.Need-slice-aggregate-change
-slice-aggregate-change c = first-bytes _ _ (omega (arith, text-short (c .before .before .before .before .before .before .before .before .before .before .before .before .before .before .before .before .before .before .before .before .before .before .before .before .before .before .before .args .text .now) _ (c .before .before .before .before .before .before .before .before .before .before .before .before .before .before .before .before .text-ok .ensures) (c .before .before .before .before .before .before .before .before .before .before .before .before .before .before .before .if3 .left)))
+slice-aggregate-new : tie.Need-slice-aggregate-new
+slice-aggregate-new c = first-bytes _ _ (omega (arith, text-few (c .before)))
+
+slice-reshare-prefix-measure-change : tie.Need-slice-reshare-prefix-measure-change
+slice-reshare-prefix-measure-change c = search needs
+
+slice-aggregate-measure-change : tie.Need-slice-aggregate-measure-change
+slice-aggregate-measure-change c = search first-bytes
+
+-- what measuring asks of the entry, and the change too
+entry-good : (c : tie.After-body4) → (headword-ok (start c .args .headword .now) ≡ true) × (length (take (1 + length (start c .args .text .now)) (c .before .copy .last .0)) ≤ 3001)
+entry-good c =
+    let q = c .before .before .before .before .before .before .before .before .before .before .before .headword-ok .ensures in
+    (head-good (start c .args .headword .now) _ q (c .before .before .before .before .before .before .before .before .before .before .if2 .left), body-few _ _ _ (made c) (text-few c))
+
+measure-change-requires : tie.Need-measure-change-requires
+measure-change-requires c κs =
+    let p = start (c .before .before) .pre in
+    (p .0, (front-blocks _ _ (p .1 .0 .2) (p .1 .0 .1), entry-good (c .before .before) .0, entry-good (c .before .before) .1))
+
+words-after-requires : tie.Need-words-after-requires
+words-after-requires c κs = start (c .before .before .before) .pre .1 .1 .1 .1
 
 change-requires : tie.Need-change-requires
-change-requires c κs = (c .before .before .before .before .before .before .before .before .before .before .before .before .before .before .before .before .before .before .before .before .before .before .before .before .before .before .before .pre .0, ((c .before .before .before .before .before .before .before .before .before .before .before .before .before .before .before .before .before .before .before .before .before .before .before .before .before .before .before .pre .1 .0 .2, c .before .before .before .before .before .before .before .before .before .before .before .before .before .before .before .before .before .before .before .before .before .before .before .before .before .before .before .pre .1 .0 .1, c .before .before .before .before .before .before .before .before .before .before .before .before .before .before .before .before .before .before .before .before .before .before .before .before .before .before .before .pre .1 .0 .3, c .before .before .before .before .before .before .before .before .before .before .before .before .before .before .before .before .before .before .before .before .before .before .before .before .before .before .before .pre .1 .0 .4), (c .before .before .before .before .before .before .before .before .before .before .before .before .before .before .before .before .before .before .before .before .before .before .before .before .before .before .before .pre .1 .1 .0, ((head-good (c .before .before .before .before .before .before .before .before .before .before .before .before .before .before .before .before .before .before .before .before .before .before .before .before .before .before .before .args .headword .now) _ (c .before .before .before .before .before .before .before .before .before .before .before .before .before .before .before .before .before .before .headword-ok .ensures) (c .before .before .before .before .before .before .before .before .before .before .before .before .before .before .before .before .before .if2 .left), body-few _ _ _ (body-made (c .before .before .before .before .before .before .before .before .before .before .before .before .before .before .before .before .before .before .before .before .before .before .before .before .before .before .before .args .attribute) (c .before .before .before .before .before .before .before .before .before .before .before .before .before .before .before .before .before .before .before .before .before .before .before .before .before .before .before .args .text .now) _ _ _ (omega (arith, text-short (c .before .before .before .before .before .before .before .before .before .before .before .before .before .before .before .before .before .before .before .before .before .before .before .before .before .before .before .args .text .now) _ (c .before .before .before .before .before .before .before .before .before .before .before .before .before .before .before .before .text-ok .ensures) (c .before .before .before .before .before .before .before .before .before .before .before .before .before .before .before .if3 .left))) (c .before .before .before .before .before .before .before .before .before .before .before .write-u8 .ensures .0) (c .before .before .before .before .before .before .before .before .copy .ensures .0)) (text-short (c .before .before .before .before .before .before .before .before .before .before .before .before .before .before .before .before .before .before .before .before .before .before .before .before .before .before .before .args .text .now) _ (c .before .before .before .before .before .before .before .before .before .before .before .before .before .before .before .before .text-ok .ensures) (c .before .before .before .before .before .before .before .before .before .before .before .before .before .before .before .if3 .left))), insert-ready _ (c .before .before .before .before .before .before .before .before .before .before .before .before .before .before .before .before .before .before .before .before .before .before .before .before .before .before .before .args .headword .now) _ (c .before .before .before .before .before .before .before .before .before .before .before .before .before .before .before .before .before .before .headword-ok .ensures) (c .before .before .before .before .before .before .before .before .before .before .before .before .before .before .before .before .before .if2 .left) (c .before .before .before .before .before .before .before .before .before .before .before .before .before .before .before .before .before .before .before .before .before .before .before .before .before .before .before .args .text .now) _ (c .before .before .before .before .before .before .before .before .before .before .before .before .before .before .before .before .text-ok .ensures) (c .before .before .before .before .before .before .before .before .before .before .before .before .before .before .before .if3 .left) (c .before .before .before .before .before .before .before .before .before .before .before .before .before .before .before .before .before .before .before .before .before .before .before .before .before .before .before .args .attribute) _ (c .before .before .before .before .before .before .before .before .before .before .before .before .before .before .attribute-ok .ensures) (c .before .before .before .before .before .before .before .before .before .before .before .before .before .if4 .left) _ (c .before .before .before .before .before .before .before .before .before .before .before .before .before .before .before .before .before .before .before .before .before .before .before .before .before .before .before .pre .1 .1 .1 .0) _ (c .before .before .before .before .before .has-entry .ensures) _ (c .before .before .before .before .words-after .ensures) _ (body-made (c .before .before .before .before .before .before .before .before .before .before .before .before .before .before .before .before .before .before .before .before .before .before .before .before .before .before .before .args .attribute) (c .before .before .before .before .before .before .before .before .before .before .before .before .before .before .before .before .before .before .before .before .before .before .before .before .before .before .before .args .text .now) _ _ _ (omega (arith, text-short (c .before .before .before .before .before .before .before .before .before .before .before .before .before .before .before .before .before .before .before .before .before .before .before .before .before .before .before .args .text .now) _ (c .before .before .before .before .before .before .before .before .before .before .before .before .before .before .before .before .text-ok .ensures) (c .before .before .before .before .before .before .before .before .before .before .before .before .before .before .before .if3 .left))) (c .before .before .before .before .before .before .before .before .before .before .before .write-u8 .ensures .0) (c .before .before .before .before .before .before .before .before .copy .ensures .0))))))
+change-requires c κs =
+    let b = c .before .before .before .before .before .before .before in
+    let a = start b .args in
+    let p = start b .pre in
+    let m = c .before .before .before .before .measure-change .ensures in
+    let h = b .before .before .before .before .before .before .before .before .before .before .before .headword-ok .ensures in
+    let t = b .before .before .before .before .before .before .before .before .before .text-ok .ensures in
+    let w = c .before .before .before .words-after .ensures in
+    let ready = insert-ready _ (a .headword .now) _ h (b .before .before .before .before .before .before .before .before .before .before .if2 .left)
+    (a .text .now) _ t (b .before .before .before .before .before .before .before .before .if3 .left)
+    (a .attribute) _ (b .before .before .before .before .before .before .before .attribute-ok .ensures) (b .before .before .before .before .before .before .if4 .left)
+    _ (p .1 .1 .1 .0) _ (m .found-is) _ w _ (made b) in
+    (m, ((p .1 .0 .2, p .1 .0 .1, p .1 .0 .3, p .1 .0 .4), (p .1 .1 .0, (entry-good b, ready))))
 
 same-length-5 : tie.Need-same-length-5
 same-length-5 c = search needs
@@ -101,8 +138,19 @@ same-length-7 c = search needs
 
 returns-5 : tie.Need-returns-5
 returns-5 c =
-    let r = insert-fifteen (c .before .before .before .before .before .before .before .before .before .before .before .before .before .before .before .before .before .before .before .before .before .before .before .before .before .before .before .before .before .before .before .before .before .before .before .args .image .now) (c .before .before .before .before .before .before .before .before .before .before .before .before .before .before .before .before .before .before .before .before .before .before .before .before .before .before .before .before .before .before .before .before .before .before .before .args .len) (c .before .before .before .before .before .before .before .before .before .before .before .before .before .before .before .before .before .before .before .before .before .before .before .before .before .before .before .before .before .before .before .before .before .before .before .args .work .now) (c .before .before .before .before .before .before .before .before .before .before .before .before .before .before .before .before .before .before .before .before .before .before .before .before .before .before .before .before .before .before .before .before .before .before .before .pre .1 .0 .0) (c .before .before .before .before .before .before .before .before .before .before .before .before .before .before .before .before .before .before .before .before .before .before .before .before .before .before .before .before .before .before .before .before .before .before .before .pre .1 .0 .1) (c .before .before .before .before .before .before .before .before .before .before .before .before .before .before .before .before .before .before .before .before .before .before .before .before .before .before .before .before .before .before .before .before .before .before .before .pre .1 .0 .2) (c .before .before .before .before .before .before .before .before .before .before .before .before .before .before .before .before .before .before .before .before .before .before .before .before .before .before .before .before .before .before .before .before .before .before .before .pre .1 .0 .3) _ _ (c .before .before .before .before .before .before .before .before .before .before .before .before .before .before .before .before .before .before .before .before .before .before .before .before .before .before .before .before .before .before .before .before .before .before .before .pre .0) _ (c .before .before .before .before .before .before .before .before .before .before .before .before .before .before .before .before .before .before .before .before .before .before .before .before .before .before .before .before .writable .ensures) (c .before .before .before .before .before .before .before .before .before .before .before .before .before .before .before .before .before .before .before .before .before .before .before .before .before .before .before .before .before .before .before .before .before .before .before .args .headword .now) (c .before .before .before .before .before .before .before .before .before .before .before .before .before .before .before .before .before .before .before .before .before .before .before .before .before .before .before .if1 .left) _ (c .before .before .before .before .before .before .before .before .before .before .before .before .before .before .before .before .before .before .before .before .before .before .before .before .before .before .headword-ok .ensures) (c .before .before .before .before .before .before .before .before .before .before .before .before .before .before .before .before .before .before .before .before .before .before .before .before .before .if2 .left) (c .before .before .before .before .before .before .before .before .before .before .before .before .before .before .before .before .before .before .before .before .before .before .before .before .before .before .before .before .before .before .before .before .before .before .before .args .attribute) (c .before .before .before .before .before .before .before .before .before .before .before .before .before .before .before .before .before .before .before .before .before .before .before .before .before .before .before .before .before .before .before .before .before .before .before .args .text .now) _ (c .before .before .before .before .before .before .before .before .before .before .before .before .before .before .before .before .before .before .before .before .before .before .before .before .text-ok .ensures) (c .before .before .before .before .before .before .before .before .before .before .before .before .before .before .before .before .before .before .before .before .before .before .before .if3 .left) _ (c .before .before .before .before .before .before .before .before .before .before .before .before .before .before .before .before .before .before .before .before .before .before .attribute-ok .ensures) (c .before .before .before .before .before .before .before .before .before .before .before .before .before .before .before .before .before .before .before .before .before .if4 .left) _ (body-made (c .before .before .before .before .before .before .before .before .before .before .before .before .before .before .before .before .before .before .before .before .before .before .before .before .before .before .before .before .before .before .before .before .before .before .before .args .attribute) (c .before .before .before .before .before .before .before .before .before .before .before .before .before .before .before .before .before .before .before .before .before .before .before .before .before .before .before .before .before .before .before .before .before .before .before .args .text .now) _ _ _ (omega (arith, text-short (c .before .before .before .before .before .before .before .before .before .before .before .before .before .before .before .before .before .before .before .before .before .before .before .before .before .before .before .before .before .before .before .before .before .before .before .args .text .now) _ (c .before .before .before .before .before .before .before .before .before .before .before .before .before .before .before .before .before .before .before .before .before .before .before .before .text-ok .ensures) (c .before .before .before .before .before .before .before .before .before .before .before .before .before .before .before .before .before .before .before .before .before .before .before .if3 .left))) (c .before .before .before .before .before .before .before .before .before .before .before .before .before .before .before .before .before .before .before .write-u8 .ensures .0) (c .before .before .before .before .before .before .before .before .before .before .before .before .before .before .before .before .copy .ensures .0)) _ _ (c .before .before .before .before .before .before .before .change .ensures .0) (c .if5 .taken) in
-    (r .0, (r .1, c .before .before .before .before .before .before .before .change .ensures .1 .1))
+    let b = c .before .before .before .before .before .before .before .before .before .before .before .before .before .before .before in
+    let s = start b in
+    let p = s .pre in
+    let v = b .before .before .before .before .before .before .before .before .before .before .before .before .before .writable .ensures in
+    let h = b .before .before .before .before .before .before .before .before .before .before .before .headword-ok .ensures in
+    let t = b .before .before .before .before .before .before .before .before .before .text-ok .ensures in
+    let q = c .before .before .before .before .before .before .before .change .ensures in
+    let r = insert-fifteen (s .args .image .now) (s .args .len) (s .args .work .now) (p .1 .0 .0) (p .1 .0 .1) (p .1 .0 .2) (p .1 .0 .3) _ _ (p .0) _ v
+    (s .args .headword .now) (b .before .before .before .before .before .before .before .before .before .before .before .before .if1 .left)
+    _ h (b .before .before .before .before .before .before .before .before .before .before .if2 .left)
+    (s .args .attribute) (s .args .text .now) _ t (b .before .before .before .before .before .before .before .before .if3 .left)
+    _ (b .before .before .before .before .before .before .before .attribute-ok .ensures) (b .before .before .before .before .before .before .if4 .left) _ (made b) _ _ (q .0) (c .if5 .taken) in
+    (r .0, (r .1, q .1 .1))
 
 same-length-8 : tie.Need-same-length-8
 same-length-8 c = search needs
@@ -115,8 +163,19 @@ same-length-10 c = search needs
 
 returns-6 : tie.Need-returns-6
 returns-6 c =
-    let r = insert-done (c .before .before .before .before .before .before .before .before .before .before .before .before .before .before .before .before .before .before .before .before .before .before .before .before .before .before .before .before .before .before .before .before .before .before .before .args .image .now) (c .before .before .before .before .before .before .before .before .before .before .before .before .before .before .before .before .before .before .before .before .before .before .before .before .before .before .before .before .before .before .before .before .before .before .before .args .len) (c .before .before .before .before .before .before .before .before .before .before .before .before .before .before .before .before .before .before .before .before .before .before .before .before .before .before .before .before .before .before .before .before .before .before .before .args .work .now) (c .before .before .before .before .before .before .before .before .before .before .before .before .before .before .before .before .before .before .before .before .before .before .before .before .before .before .before .before .before .before .before .before .before .before .before .pre .1 .0 .0) (c .before .before .before .before .before .before .before .before .before .before .before .before .before .before .before .before .before .before .before .before .before .before .before .before .before .before .before .before .before .before .before .before .before .before .before .pre .1 .0 .1) (c .before .before .before .before .before .before .before .before .before .before .before .before .before .before .before .before .before .before .before .before .before .before .before .before .before .before .before .before .before .before .before .before .before .before .before .pre .1 .0 .2) (c .before .before .before .before .before .before .before .before .before .before .before .before .before .before .before .before .before .before .before .before .before .before .before .before .before .before .before .before .before .before .before .before .before .before .before .pre .1 .0 .3) _ _ (c .before .before .before .before .before .before .before .before .before .before .before .before .before .before .before .before .before .before .before .before .before .before .before .before .before .before .before .before .before .before .before .before .before .before .before .pre .0) _ (c .before .before .before .before .before .before .before .before .before .before .before .before .before .before .before .before .before .before .before .before .before .before .before .before .before .before .before .before .writable .ensures) (c .before .before .before .before .before .before .before .before .before .before .before .before .before .before .before .before .before .before .before .before .before .before .before .before .before .before .before .before .before .before .before .before .before .before .before .args .headword .now) (c .before .before .before .before .before .before .before .before .before .before .before .before .before .before .before .before .before .before .before .before .before .before .before .before .before .before .before .if1 .left) _ (c .before .before .before .before .before .before .before .before .before .before .before .before .before .before .before .before .before .before .before .before .before .before .before .before .before .before .headword-ok .ensures) (c .before .before .before .before .before .before .before .before .before .before .before .before .before .before .before .before .before .before .before .before .before .before .before .before .before .if2 .left) (c .before .before .before .before .before .before .before .before .before .before .before .before .before .before .before .before .before .before .before .before .before .before .before .before .before .before .before .before .before .before .before .before .before .before .before .args .attribute) (c .before .before .before .before .before .before .before .before .before .before .before .before .before .before .before .before .before .before .before .before .before .before .before .before .before .before .before .before .before .before .before .before .before .before .before .args .text .now) _ (c .before .before .before .before .before .before .before .before .before .before .before .before .before .before .before .before .before .before .before .before .before .before .before .before .text-ok .ensures) (c .before .before .before .before .before .before .before .before .before .before .before .before .before .before .before .before .before .before .before .before .before .before .before .if3 .left) _ (c .before .before .before .before .before .before .before .before .before .before .before .before .before .before .before .before .before .before .before .before .before .before .attribute-ok .ensures) (c .before .before .before .before .before .before .before .before .before .before .before .before .before .before .before .before .before .before .before .before .before .if4 .left) _ (body-made (c .before .before .before .before .before .before .before .before .before .before .before .before .before .before .before .before .before .before .before .before .before .before .before .before .before .before .before .before .before .before .before .before .before .before .before .args .attribute) (c .before .before .before .before .before .before .before .before .before .before .before .before .before .before .before .before .before .before .before .before .before .before .before .before .before .before .before .before .before .before .before .before .before .before .before .args .text .now) _ _ _ (omega (arith, text-short (c .before .before .before .before .before .before .before .before .before .before .before .before .before .before .before .before .before .before .before .before .before .before .before .before .before .before .before .before .before .before .before .before .before .before .before .args .text .now) _ (c .before .before .before .before .before .before .before .before .before .before .before .before .before .before .before .before .before .before .before .before .before .before .before .before .text-ok .ensures) (c .before .before .before .before .before .before .before .before .before .before .before .before .before .before .before .before .before .before .before .before .before .before .before .if3 .left))) (c .before .before .before .before .before .before .before .before .before .before .before .before .before .before .before .before .before .before .before .write-u8 .ensures .0) (c .before .before .before .before .before .before .before .before .before .before .before .before .before .before .before .before .copy .ensures .0)) _ _ (c .before .before .before .before .before .before .before .change .ensures .0) (c .if5 .left) in
-    (r .0, (r .1, c .before .before .before .before .before .before .before .change .ensures .1 .1))
+    let b = c .before .before .before .before .before .before .before .before .before .before .before .before .before .before .before in
+    let s = start b in
+    let p = s .pre in
+    let v = b .before .before .before .before .before .before .before .before .before .before .before .before .before .writable .ensures in
+    let h = b .before .before .before .before .before .before .before .before .before .before .before .headword-ok .ensures in
+    let t = b .before .before .before .before .before .before .before .before .before .text-ok .ensures in
+    let q = c .before .before .before .before .before .before .before .change .ensures in
+    let r = insert-done (s .args .image .now) (s .args .len) (s .args .work .now) (p .1 .0 .0) (p .1 .0 .1) (p .1 .0 .2) (p .1 .0 .3) _ _ (p .0) _ v
+    (s .args .headword .now) (b .before .before .before .before .before .before .before .before .before .before .before .before .if1 .left)
+    _ h (b .before .before .before .before .before .before .before .before .before .before .if2 .left)
+    (s .args .attribute) (s .args .text .now) _ t (b .before .before .before .before .before .before .before .before .if3 .left)
+    _ (b .before .before .before .before .before .before .before .attribute-ok .ensures) (b .before .before .before .before .before .before .if4 .left) _ (made b) _ _ (q .0) (c .if5 .left) in
+    (r .0, (r .1, q .1 .1))
 
 pub insert-in-spec : {M : Type 1} → statement M
 insert-in-spec =
@@ -138,13 +197,13 @@ insert-in-spec =
     write-u8-requires
     slice-aggregate-copy
     copy-requires
-    slice-reshare-prefix-has-entry
-    slice-aggregate-has-entry
-    has-entry-requires
-    words-after-requires
     add-body
     array-share-prefix-body
-    slice-aggregate-change
+    slice-aggregate-new
+    slice-reshare-prefix-measure-change
+    slice-aggregate-measure-change
+    measure-change-requires
+    words-after-requires
     change-requires
     same-length-5
     same-length-6

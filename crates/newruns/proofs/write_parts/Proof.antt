@@ -122,10 +122,15 @@ slice-aggregate-write-run : tie.Need-slice-aggregate-write-run Inv-loop μ-loop
 slice-aggregate-write-run c = first-bytes _ _ (part-filled (c .before .before .before .before .before .before .before .before .before .before .before .before))
 
 write-run-requires : tie.Need-write-run-requires Inv-loop μ-loop
-write-run-requires c κs = run-room _ _ _ _ _ (c .before .before .before .before .before .before .before .before .before .before .before .before .before .before .before .loop .image) (c .before .before .before .before .before .before .before .before .before .before .before .before .encode-part .ensures .1 .1 .1 .1 .0 .0) (part-filled (c .before .before .before .before .before .before .before .before .before .before .before .before)) (c .before .before .before .before .before .before .before .run-blocks .ensures .0) refl (run-fits (c .before .before))
+write-run-requires c κs =
+    let e = c .before .before .before .before .before .before .before .before .before .before .before .before in
+    let n = c .before .before .before .before .before .before .before .run-blocks .ensures .0 in
+    run-room _ _ _ _ _ (e .before .before .before .loop .image) (e .encode-part .ensures .1 .1 .1 .1 .0 .0) (part-filled e) n refl (run-fits (c .before .before))
 
 slice-aggregate-head-end : tie.Need-slice-aggregate-head-end Inv-loop μ-loop
-slice-aggregate-head-end c = sym (c .before .before .before .before .before .before .before .before .before .before .before .before .before .before .before .before .encode-part .ensures .1 .1 .1 .1 .0 .1 ∙ c .before .before .before .before .before .before .before .before .before .before .before .before .before .before .before .before .before .before .before .loop .inv .1)
+slice-aggregate-head-end c =
+    let e = c .before .before .before .before .before .before .before .before .before .before .before .before .before .before .before .before in
+    sym (e .encode-part .ensures .1 .1 .1 .1 .0 .1 ∙ e .before .before .before .loop .inv .1)
 
 head-end-requires : tie.Need-head-end-requires Inv-loop μ-loop
 head-end-requires c κs = (omega (arith, used-some _ _ (c .before .before .before .before .before .before .before .before .before .before .before .before .before .before .before .before .encode-part .ensures .1 .0) (c .before .before .before .before .before .before .before .before .before .before .before .before .if1 .left)), part-filled (c .before .before .before .before .before .before .before .before .before .before .before .before .before .before .before .before))
@@ -148,10 +153,15 @@ put-element-requires c κs = element-fits _ _ (c .before .before .before .before
 loop-less : tie.Need-loop-less Inv-loop μ-loop
 loop-less c = fewer-left _ _ (c .before .before .before .before .before .before .before .before .before .before .before .before .before .before .before .before .before .before .before .before .before .before .before .before .encode-part .ensures .1 .0) (c .before .before .before .before .before .before .before .before .before .before .before .before .before .before .before .before .before .before .before .before .if1 .left) _ (c .before .before .before .before .before .before .before .before .before .before .before .before .before .before .before .before .before .before .before .before .before .before .before .before .encode-part .ensures .1 .1 .0)
 
+-- where the part was encoded
+abbrev encoded : tie.After-cur Inv-loop μ-loop → tie.After-encode-part Inv-loop μ-loop
+encoded c =
+    c .before .before .before .before .before .before .before .before .before .before .before .before .before .before .before .before .before .before .before .before .before .before .before .before
+
 loop-again : tie.Need-loop-again Inv-loop μ-loop
 loop-again c = (
-  c .before .before .before .before .before .before .before .before .before .before .before .before .before .before .before .before .before .before .before .before .before .before .before .before .encode-part .ensures .1 .1 .1 .1 .0 .2 ∙ c .before .before .before .before .before .before .before .before .before .before .before .before .before .before .before .before .before .before .before .before .before .before .before .before .before .before .before .loop .inv .0,
-  c .before .before .before .before .before .before .before .before .before .before .before .before .before .before .before .before .before .before .before .before .before .before .before .before .encode-part .ensures .1 .1 .1 .1 .0 .1 ∙ c .before .before .before .before .before .before .before .before .before .before .before .before .before .before .before .before .before .before .before .before .before .before .before .before .before .before .before .loop .inv .1,
+  encoded c .encode-part .ensures .1 .1 .1 .1 .0 .2 ∙ encoded c .before .before .before .loop .inv .0,
+  encoded c .encode-part .ensures .1 .1 .1 .1 .0 .1 ∙ encoded c .before .before .before .loop .inv .1,
   c .before .before .before .before .before .before .before .before .before .before .before .before .before .before .before .before .before .before .before .before .before .before .before .before .encode-part .ensures .1 .1 .1 .0,
   c .before .before .before .put-element .ensures .1 .1 ∙ run-kept (c .before .before .before .before .before .before .before .before .before .before .before) ∙ c .before .before .before .before .before .before .before .before .before .before .before .before .before .before .before .before .before .before .before .before .before .before .before .before .before .before .before .loop .inv .3,
   c .before .before .before .before .before .before .before .before .before .before .before .before .before .before .before .before .before .place .ensures .1 .1 .1 ∙ c .before .before .before .before .before .before .before .before .before .before .before .before .before .before .before .before .before .before .before .before .before .before .before .before .before .before .before .loop .inv .4,

@@ -129,7 +129,8 @@ loop-again-2 c = (
   c .before .before .advance2 .ensures .1 .1 .0,
   part-keeps _ _ _ _ _ _ _ _ _ _ _ (c .before .before .before .before .before .before .before .before .before .before .before .before .before .before .before .next-turn .ensures) (c .before .before .before .before .before .before .before .before .before .before .before .before .before .before .before .before .before .loop .inv .6) _ _ _ _ _ (c .before .before .before .before .before .before .before .before .before .before .before .before .before .enum-told3 .given .1) (c .before .before .before .before .before .before .before .before .append .ensures .0) (c .before .before .before .before .if1 .left) (omega (arith, c .before .before .before .before .before .before .before .before .before .before .before .before .before .before .before .before .before .loop .inv .1, c .before .before .before .before .before .before .before .before .before .before .before .before .before .before .before .before .before .loop .inv .4, c .before .before .before .before .before .before .before .before .before .before .before .before .before .before .before .before .before .before .before .before .before .before .before .pre .1 .2)) (omega (arith, c .before .before .before .before .before .before .before .before .before .before .before .before .before .before .before .before .before .loop .inv .5 .short, c .before .before .before .before .before .before .before .before .before .before .before .before .before .before .before .before .before .loop .inv .5 .room)) (c .before .before .advance2 .ensures .0) (c .before .before .advance2 .ensures .1 .0),
   met-old _ _ _ _ _ (c .before .before .before .before .before .before .before .before .before .before .before .before .before .before .before .next-turn .ensures) _ _
-      (c .before .before .before .before .before .before .before .before .before .before .before .before .before .before .before .before .before .loop .inv .7) _ _ (c .before .before .advance2 .ensures .0)
+      (c .before .before .before .before .before .before .before .before .before .before .before .before .before .before .before .before .before .loop .inv .7) _ _
+      (c .before .before .advance2 .ensures .0)
       (c .before .before .before .before .before .before .before .before .before .before .before .before .before .enum-told3 .given .1),
 )
 

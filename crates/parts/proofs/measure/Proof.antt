@@ -30,16 +30,10 @@ advance-requires c κs = (omega arith, (omega arith, omega arith, none-zero))
 
 loop-holds : tie.Need-loop-holds Inv-loop μ-loop
 loop-holds c =
-    let b = measure-bounds _ _ _ _ _ _ (c .before .advance .ensures .0) (c .before .advance .ensures .1 .0) (c .before .advance .ensures .1 .1 .0) (c .before .before .before .before .before .before .pre .0) (c .before .before .before .before .before .before .pre .1) (c .before .before .before .before .before .before .pre .2) in (
-      c .before .advance .ensures .1 .1 .1,
-      refl,
-      c .before .advance .ensures .1 .1 .0,
-      measure-start _ _ _ _ _ _ (c .before .advance .ensures .0) (c .before .advance .ensures .1 .0),
-      b .0,
-      b .1,
-      b .2,
-      met-begun _ _ _ _ (c .before .advance .ensures .0),
-    )
+    let a = c .before .advance .ensures in
+    let p = c .before .before .before .before .before .before .pre in
+    let b = measure-bounds _ _ _ _ _ _ (a .0) (a .1 .0) (a .1 .1 .0) (p .0) (p .1) (p .2) in
+    (a .1 .1 .1, refl, a .1 .1 .0, measure-start _ _ _ _ _ _ (a .0) (a .1 .0), b .0, b .1, b .2, met-begun _ _ _ _ (a .0))
 
 slice-aggregate-encode-part : tie.Need-slice-aggregate-encode-part Inv-loop μ-loop
 slice-aggregate-encode-part c = omega arith
