@@ -59,7 +59,9 @@ part-run-end : tie.Need-part-run-end Inv-loop μ-loop Inv-walk μ-walk
 part-run-end c = search runs-laws
 
 add-first-entry : tie.Need-add-first-entry Inv-loop μ-loop Inv-walk μ-walk
-add-first-entry c = omega (arith, zero-behind _ _ _ (walk .walk .inv .2 .standing) (some .if1 .left) _ (walk .walk .inv .3), zero-inside _ _ _ (walk .walk .inv .2 .standing) (some .if1 .left) _ (walk .walk .inv .3))
+add-first-entry c =
+    let s = walk .walk .inv .2 .standing in
+    omega (arith, zero-behind _ _ _ s (some .if1 .left) _ (walk .walk .inv .3), zero-inside _ _ _ s (some .if1 .left) _ (walk .walk .inv .3))
   where
     some : tie.Else1 Inv-loop μ-loop Inv-walk μ-walk
     some = search
@@ -74,7 +76,9 @@ part-first-entry-start : tie.Need-part-first-entry-start Inv-loop μ-loop Inv-wa
 part-first-entry-start c = search runs-laws
 
 part-first-entry-end : tie.Need-part-first-entry-end Inv-loop μ-loop Inv-walk μ-walk
-part-first-entry-end c = omega (arith, zero-behind _ _ _ (walk .walk .inv .2 .standing) (some .if1 .left) _ (walk .walk .inv .3), zero-inside _ _ _ (walk .walk .inv .2 .standing) (some .if1 .left) _ (walk .walk .inv .3))
+part-first-entry-end c =
+    let s = walk .walk .inv .2 .standing in
+    omega (arith, zero-behind _ _ _ s (some .if1 .left) _ (walk .walk .inv .3), zero-inside _ _ _ s (some .if1 .left) _ (walk .walk .inv .3))
   where
     some : tie.Else1 Inv-loop μ-loop Inv-walk μ-walk
     some = search
@@ -89,7 +93,9 @@ first-entry-requires : tie.Need-first-entry-requires Inv-loop μ-loop Inv-walk �
 first-entry-requires c κs = search runs-laws
 
 add-len : tie.Need-add-len Inv-loop μ-loop Inv-walk μ-walk
-add-len c = omega (arith, zero-behind _ _ _ (walk .walk .inv .2 .standing) (some .if1 .left) _ (walk .walk .inv .3), zero-inside _ _ _ (walk .walk .inv .2 .standing) (some .if1 .left) _ (walk .walk .inv .3))
+add-len c =
+    let s = walk .walk .inv .2 .standing in
+    omega (arith, zero-behind _ _ _ s (some .if1 .left) _ (walk .walk .inv .3), zero-inside _ _ _ s (some .if1 .left) _ (walk .walk .inv .3))
   where
     some : tie.Else1 Inv-loop μ-loop Inv-walk μ-walk
     some = search
@@ -198,7 +204,8 @@ walk-again : tie.Need-walk-again Inv-loop μ-loop Inv-walk μ-walk
 walk-again c = (
   search needs,
   search (walk .walk .inv .1, needs),
-  walk-on _ _ _ _ _ _ _ _ _ _ _ _ _ _ _ (reading .loop .inv .1) _ _ (step .read-entry .ensures .0) (search) (step .read-entry .ensures .1 .1 .1) _ (below .ends-below .ensures) _ _ _ (walk .walk .inv .2) (search) _ (search),
+  walk-on _ _ _ _ _ _ _ _ _ _ _ _ _ _ _ (reading .loop .inv .1) _ _ (step .read-entry .ensures .0) (search) (step .read-entry .ensures .1 .1 .1)
+      _ (below .ends-below .ensures) _ _ _ (walk .walk .inv .2) (search) _ (search),
   next .end-of2 .ensures .0,
 )
   where
