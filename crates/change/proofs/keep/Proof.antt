@@ -139,20 +139,20 @@ returns-3 : tie.Need-returns-3
 returns-3 c =
     let k = kept-ready (start .args .image .now) (start .args .len) _ _ _ _ _ _ _ (start .pre .0)
     _ (measured .plan-end .ensures .0) (start .pre .1 .3) (few .if1 .left) (roomy .if2 .left) (start .pre .1 .1) in
-    let w = kept-written _ _ _ _ _ _ _ _ (k .0) _ (k .1) (start .pre .1 .0) _ (k .2) _ _ _ (areas .write-kept .ensures .0) (areas .write-kept .ensures .1 .0) (sealed .write-rest .ensures .0) in (
+    let w = kept-written _ _ _ _ _ _ _ _ (k .0) _ (k .1) (start .pre .1 .0) _ (k .2) _ _ _ (written .write-kept .ensures .0) (written .write-kept .ensures .1 .0) (sealed .write-rest .ensures .0) in (
       finish-done (start .args .image .now) (start .args .len) _ _ _ _ _ _ _ (start .pre .0) _ (measured .plan-end .ensures .0) (marks-long _ (start .pre .1 .3))
           (few .if1 .left) (roomy .if2 .left) (start .pre .1 .1) _ (k .3) _ w,
-      (omega (arith, sealed .write-rest .ensures .1, areas .write-kept .ensures .1 .1 .0), areas .write-kept .ensures .1 .1 .1),
+      (omega (arith, sealed .write-rest .ensures .1, written .write-kept .ensures .1 .1 .0), written .write-kept .ensures .1 .1 .1),
     )
   where
     sealed : tie.After-write-rest
     sealed = search
 
-    areas : tie.After-write-kept
-    areas = search sealed
+    written : tie.After-write-kept
+    written = search sealed
 
     roomy : tie.Else2
-    roomy = search areas
+    roomy = search written
 
     few : tie.Else1
     few = search roomy
