@@ -25,8 +25,7 @@ use Rattle.spec.proofs.ReadLaws.{image-told}
 use Rattle.spec.proofs.PlanLaws.{SoundPlan}
 use Rattle.marks.specs.Marks.{marks, with-range}
 use Rattle.marks.proofs.Laws.{length-marks}
-use Rattle.index.specs.Elements.{elements-at}
-use Rattle.elements.specs.Renewed.{elements-end}
+use Rattle.index.specs.Elements.{elements-at, elements-end}
 use Rattle.header.proofs.Laws.{frame-index-few}
 use Rattle.inspect.specs.Overview.{AcceptedImage}
 use Rattle.inspect.proofs.Laws.{index-part, data-part, data-long}

@@ -29,7 +29,7 @@ use Rattle.spec.proofs.CountLaws.{free-list-free}
 use Rattle.spec.proofs.FreeListLaws.{Stands}
 use Rattle.spec.proofs.ReadLaws.{ImageTold, image-told, run-told}
 use Rattle.spec.proofs.ChangeLaws.{Sound, image-sound}
-use Rattle.index.specs.Elements.{elements-at}
+use Rattle.index.specs.Elements.{elements-at, elements-end}
 use Rattle.marks.specs.Marks.{with-range}
 use Rattle.marks.proofs.Words.{range-none}
 use Rattle.marks.proofs.Laws.{length-range}
@@ -44,7 +44,6 @@ use Rattle.target.proofs.Laws.{Known, runs-known, told-before, told-after, told
 use Rattle.placing.specs.Spread.{spread}
 use Rattle.moves.specs.Moved.{noted, starts, size-at, freed, tabled}
 use Rattle.plan.proofs.Grown.{Growing, freed-between, index-still, index-grown, noted-both, index-over}
-use Rattle.elements.specs.Renewed.{elements-end}
 use Rattle.parts.specs.Part.{Measured}
 use Rattle.plan.proofs.Whole.{elements-sum}
 use Rattle.plan.proofs.Finish.{plan-parts, full-index, full-blocks}

@@ -15,7 +15,7 @@ use Rattle.spec.specs.Place.{new-run}
 use Rattle.spec.specs.Claim.{is-there}
 use Rattle.spec.proofs.PlanLaws.{SoundPlan}
 use Rattle.marks.specs.Marks.{with-range}
-use Rattle.elements.specs.Renewed.{elements-end}
+use Rattle.index.specs.Elements.{elements-end}
 use Rattle.inspect.specs.Overview.{AcceptedImage}
 use Rattle.inspect.proofs.Laws.{index-part, data-part}
 use Rattle.placing.specs.Spread.{spread}

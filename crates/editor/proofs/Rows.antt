@@ -37,7 +37,7 @@ use Rattle.spec.proofs.SlicesLaws.{work-after-calls}
 use Rattle.spec.proofs.CallRowsLaws.{first-numbers}
 use Rattle.spec.proofs.ClaimLaws.{packed-room}
 use Rattle.header.proofs.Laws.{read-nword, slice-refused, slice-accepted, slice-has-header, slice-in-blocks, slice-holds}
-use Rattle.inspect.specs.Overview.{overview, viewed, AcceptedImage}
+use Rattle.inspect.specs.Overview.{overview, viewed, index-end, AcceptedImage}
 use Rattle.inspect.specs.declared.Inspected.{Inspected}
 use Rattle.inspect.proofs.Laws.{overview-refused}
 use Rattle.inspect.proofs.Accepted.{accepted-frame, accepted-whole, front-header}
@@ -126,6 +126,10 @@ module _ (s : List ℕ) (L : ℕ) (p : L ≤ length s) (w w′ : List ℕ) (copi
   -- its blocks are all of it
   pub copy-whole : (n d : ℕ) → AcceptedImage (take L s) n d → L % 256 ≡ 0 → 256 + 256 * n + 256 * d ≡ length (take L w′)
   copy-whole n d a m = rw copy-is (accepted-whole (take L s) n d a (front-blocks s L p m))
+
+  -- its elements end where the image's do
+  pub copy-end : (n x : ℕ) → x ≡ index-end (take L s) n → x ≡ index-end (take L w′) n
+  copy-end n x h = rw copy-is h
 
   -- it has as many entries
   pub copy-words : (k : ℕ) → ((i : Image) → image-from (take L s) ≡ ok i → k ≡ length (entries-of i)) → (i : Image) → image-from (take L w′) ≡ ok i → k ≡ length (entries-of i)

@@ -103,7 +103,12 @@ fn insert_tested(
     let r = inspect::inspect(&image[..len], &mut free);
     match r {
         Inspected::Refused(k) => LengthAnswer::Refused(k),
-        Inspected::Sound { words, index, area } => insert_in(
+        Inspected::Sound {
+            words,
+            index,
+            area,
+            end: _,
+        } => insert_in(
             image,
             len,
             work,
@@ -188,16 +193,12 @@ fn delete_tested(image: &mut [u8], len: usize, work: &mut [u8], headword: &[u8])
     let r = inspect::inspect(&image[..len], &mut free);
     match r {
         Inspected::Refused(k) => DeleteAnswer::Refused(k),
-        Inspected::Sound { words, index, area } => delete_in(
-            image,
-            len,
-            work,
+        Inspected::Sound {
+            words,
             index,
             area,
-            words,
-            &mut free,
-            headword,
-        ),
+            end: _,
+        } => delete_in(image, len, work, index, area, words, &mut free, headword),
     }
 }
 
@@ -227,12 +228,17 @@ fn optimise_tested(image: &mut [u8], len: usize, work: &mut [u8]) -> LengthAnswe
     let r = inspect::inspect(&image[..len], &mut free);
     match r {
         Inspected::Refused(k) => LengthAnswer::Refused(k),
-        Inspected::Sound { words, index, area } => {
+        Inspected::Sound {
+            words,
+            index,
+            area,
+            end,
+        } => {
             if !header::writable(image) {
                 return LengthAnswer::Refused(11);
             }
             byteops::copy(work, 0, image, 0, len);
-            LengthAnswer::Done(pack::pack(image, &work[..len], index, area, words))
+            LengthAnswer::Done(pack::pack(image, &work[..len], index, area, end, words))
         }
     }
 }

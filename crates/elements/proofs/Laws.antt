@@ -16,9 +16,9 @@ use Rattle.spec.proofs.PartLaws.{bytes-at-split, length-bytes-at, rest-at}
 use Rattle.scans.specs.Scan.{zero-offset}
 use Rattle.scans.proofs.Laws.{split-zero-some}
 use Rattle.spec.proofs.WriteLaws.{write-none, written-behind}
-use Rattle.index.specs.Elements.{element-end, element-headword, element-at, elements-at, Inside}
-use Rattle.index.proofs.Laws.{element-end-past, element-headword-length, inside-start, here-end, here-next, elements-next}
-use Rattle.elements.specs.Renewed.{elements-end, number-after, renewed}
+use Rattle.index.specs.Elements.{element-end, element-headword, element-at, elements-at, elements-end, Inside}
+use Rattle.index.proofs.Laws.{element-end-past, element-headword-length, inside-start, here-end, here-next, elements-next, end-turn, end-last}
+use Rattle.elements.specs.Renewed.{number-after, renewed}
 
 -- ---- the lengths of elements
 -- an element takes three bytes beside its headword
@@ -144,28 +144,13 @@ element-put d d₁ d₂ d₃ h at number e₁ e₂ e₃ fits =
     let s : d₂ ≡ write at (x ++ h) d = written-behind d d₁ d₂ x h at (at + 2) (omega arith) (omega arith) e₁ (rw a at e₂) in
     written-behind d d₂ d₃ (x ++ h) (0 ∷ []) at (at + 2 + length h) (omega arith) (omega arith) s e₃
 
--- ---- elements_end: of what is left the end is that of the whole
--- the end from the next element on
-pub end-turn : (index : List ℕ) (at left e r : ℕ) → elements-end index at left ≡ r → e ≡ element-end index at → 0 < left → elements-end index (e + 1) (left - 1) ≡ r
-unfolding elements-end
-end-turn index at zero e r h f p = absurd (omega arith)
-end-turn index at (suc left) e r h f p =
-    let k : suc left - 1 ≡ left = omega arith in
-    rw (k, f) h
-
--- at the end nothing is left
-pub end-last : (index : List ℕ) (at left r : ℕ) → elements-end index at left ≡ r → left ≤ 0 → at ≡ r
-unfolding elements-end
-end-last index at left r h p =
-    let k : left ≡ 0 = omega arith in
-    rw k at h
-
--- and that is inside the index
+-- ---- end_from: of what is left the end is that of the whole
+-- the end is inside the index
 pub end-inside : (index : List ℕ) (at left : ℕ) → Inside index at left → left ≤ 0 → at ≤ length index
 end-inside index at zero i p = i
 end-inside index at (suc left) i p = absurd (omega arith)
 
--- every need of elements_end
+-- every need of end_from
 pub ruleset end-laws = (inside-start, here-end, here-next, end-turn, end-last, end-inside, needs)
 
 -- ---- copy_elements: what is left, written where the code stands, is the whole written

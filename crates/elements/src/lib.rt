@@ -6,8 +6,8 @@ ghost use lib.ListN.{length};
 ghost use Rattle.spec.specs.Bytes.{write};
 ghost use Rattle.spec.specs.Header.{format4};
 ghost use Rattle.spec.specs.Index.{element-bytes, elements-bytes};
-ghost use Rattle.index.specs.Elements.{elements-at, Inside};
-ghost use Rattle.elements.specs.Renewed.{elements-end, number-after, renewed};
+ghost use Rattle.index.specs.Elements.{elements-at, elements-end, Inside};
+ghost use Rattle.elements.specs.Renewed.{number-after, renewed};
 use byteops::read_u16;
 use index::element_end;
 

@@ -17,13 +17,15 @@ use Rattle.spec.specs.Header as Header
 use Rattle.spec.specs.Header.{Format, format4}
 use Rattle.spec.specs.Entry.{headword-ok}
 use Rattle.spec.specs.Index.{Element, elements-from, index-from}
+use Rattle.spec.proofs.ListsLaws.{clash}
 use Rattle.spec.proofs.OutcomeLaws.{ok-not-refused, refused-only, when-ok, bind-ok}
 use Rattle.spec.proofs.StoredIndexLaws.{index-only}
 use Rattle.spec.proofs.PartLaws.{length-bytes-at}
 use Rattle.scans.specs.Scan.{zero-offset}
 use Rattle.scans.proofs.Laws.{split-zero-some, split-zero-none, zero-offset-le, no-zero-before}
-use Rattle.index.specs.Elements.{element-end, element-headword, element-at, elements-at, Inside, concerned-from}
+use Rattle.index.specs.Elements.{element-end, element-headword, element-at, elements-at, elements-end, ended, Inside, concerned-from}
 use Rattle.index.specs.declared.Place.{Place}
+use Rattle.index.specs.declared.Ended.{Ended}
 
 -- an element, where its headword may follow prev, in front of those read behind it
 unfoldable pub element-then : Format → List ℕ → Element → Outcome (List Element) → Outcome (List Element)
@@ -199,6 +201,46 @@ pub elements-count : (index : List ℕ) (at n : ℕ) → length (elements-at ind
 unfolding elements-at
 elements-count index at zero = refl
 elements-count index at (suc n) = ap suc (elements-count index (element-end index at + 1) n)
+
+-- ---- where elements end
+-- the end from the next element on
+pub end-turn : (index : List ℕ) (at left e r : ℕ) → elements-end index at left ≡ r → e ≡ element-end index at → 0 < left → elements-end index (e + 1) (left - 1) ≡ r
+unfolding elements-end
+end-turn index at zero e r h f p = absurd (omega arith)
+end-turn index at (suc left) e r h f p =
+    let k : suc left - 1 ≡ left = omega arith in
+    rw (k, f) h
+
+-- at the end nothing is left
+pub end-last : (index : List ℕ) (at left r : ℕ) → elements-end index at left ≡ r → left ≤ 0 → at ≡ r
+unfolding elements-end
+end-last index at left r h p =
+    let k : left ≡ 0 = omega arith in
+    rw k at h
+
+-- elements inside the index end there
+pub ends-inside : (index : List ℕ) (at n : ℕ) → Inside index at n → elements-end index at n ≤ length index
+unfolding elements-end
+ends-inside index at zero i = i
+ends-inside index at (suc n) i = ends-inside index (element-end index at + 1) n (i .2)
+
+-- elements of which the answer tells that they break a rule, and where they end
+module _ (t : Bool) (k : ℕ) (r : Ended) (h : r ≡ ended t k) where
+  pub ended-broken : r ≡ Ended.Broken → t ≡ false
+  unfolding ended
+  ended-broken b = go t (sym b ∙ h)
+    where
+      go : (t : Bool) → Ended.Broken ≡ ended t k → t ≡ false
+      go true e = clash cc
+      go false e = refl
+
+  pub ended-at : (e : ℕ) → r ≡ Ended.At e → (t ≡ true) × (e ≡ k)
+  unfolding ended
+  ended-at e b = go t (sym b ∙ h)
+    where
+      go : (t : Bool) → Ended.At e ≡ ended t k → (t ≡ true) × (e ≡ k)
+      go true q = (refl, cc)
+      go false q = clash cc
 
 -- ---- the element of the run concerned
 module _ (below : List ℕ → List ℕ → Bool) (index h : List ℕ) where

@@ -23,9 +23,11 @@ use Rattle.spec.proofs.OrderLaws.{order-of, above-some}
 use Rattle.spec.proofs.PartLaws.{rest-at}
 use Rattle.spec.proofs.RunLaws.{headword-by}
 use Rattle.scans.specs.Scan.{zero-offset}
-use Rattle.index.specs.Elements.{element-end, element-headword, element-at, concerned-from, Inside}
+use Rattle.index.specs.Elements.{element-end, element-headword, element-at, elements-end, ended, concerned-from, Inside}
 use Rattle.index.specs.declared.Place.{Place}
-use Rattle.index.proofs.Laws.{width4, element-then, element-headword-length, element-headword-clear, element-short, element-open, element-read, concerned-here, concerned-later, inside-start, here-end, here-next}
+use Rattle.index.specs.declared.Ended.{Ended}
+use Rattle.index.proofs.Laws.{width4, element-then, element-headword-length, element-headword-clear, element-short, element-open, element-read}
+use Rattle.index.proofs.Laws.{concerned-here, concerned-later, inside-start, here-end, here-next, end-turn, end-last}
 
 -- ---- element_end
 -- the first zero byte behind the number
@@ -61,7 +63,12 @@ module _ (F : Format) (prev : List ℕ) (e : Element) (rest : Outcome (List Elem
       go true p = rw (p, q)
       go false p = rw p
 
--- ---- elements_ok: what is left, read behind the headword from `start` up to `end`, is accepted as the whole is
+-- elements that are not accepted are told to break a rule
+pub told-broken : (t : Bool) (e : ℕ) → false ≡ t → Ended.Broken ≡ ended t e
+unfolding ended
+told-broken t e h = rw (← h)
+
+-- ---- read_elements: what is left, read behind the headword from `start` up to `end`, is accepted as the whole is
 -- at first all is left
 pub elements-start : (index : List ℕ) (n : ℕ) → accepted (elements-from format4 n [] index) ≡ accepted (elements-from format4 n (bytes-at 0 (0 - 0) index) (drop 0 index))
 unfolding Bytes.bytes-at
@@ -77,17 +84,29 @@ module _ (index : List ℕ) (n at left start end : ℕ) (h : accepted (elements-
       sym (h ∙ rw (e, l))
 
   -- all that follow are zero, or not
-  pub end-zeros : left ≤ 0 → 4 ≤ length index - at → (r : Bool) → r ≡ all-zero (bytes-at at (length index - at) index) → r ≡ accepted (elements-from format4 n [] index)
-  unfolding Index.elements-from accepted
-  end-zeros p q r t =
-      let e : left ≡ 0 = omega arith in
-      let l : ltb (length (drop at index)) 4 ≡ false = le-ltb (length (drop at index)) 4 (omega (arith, length-drop at index)) in
-      let z : all-zero (drop at index) ≡ r = sym (rw (rest-at index at (length index - at) refl) at t) in
-      sym (h ∙ rw (e, l, z) (go r))
-    where
-      go : (t : Bool) → accepted {A = List Element} (refuse 6 when not t >> ok []) ≡ t
-      go true = refl
-      go false = refl
+  module _ (p : left ≤ 0) (q : 4 ≤ length index - at) (r : Bool) (t : r ≡ all-zero (bytes-at at (length index - at) index)) where
+    zeros-decide : r ≡ accepted (elements-from format4 n [] index)
+    unfolding Index.elements-from accepted
+    zeros-decide =
+        let e : left ≡ 0 = omega arith in
+        let l : ltb (length (drop at index)) 4 ≡ false = le-ltb (length (drop at index)) 4 (omega (arith, length-drop at index)) in
+        let z : all-zero (drop at index) ≡ r = sym (rw (rest-at index at (length index - at) refl) at t) in
+        sym (h ∙ rw (e, l, z) (go r))
+      where
+        go : (t : Bool) → accepted {A = List Element} (refuse 6 when not t >> ok []) ≡ t
+        go true = refl
+        go false = refl
+
+    -- not
+    pub end-dirty : not r ≡ true → false ≡ accepted (elements-from format4 n [] index)
+    end-dirty u = sym (not-true r u) ∙ zeros-decide
+
+    -- the elements end here
+    pub end-reached : (e : ℕ) → elements-end index at left ≡ e → not r ≡ false → Ended.At at ≡ ended (accepted (elements-from format4 n [] index)) e
+    unfolding ended
+    end-reached e g u =
+        let w : accepted (elements-from format4 n [] index) ≡ true = sym zeros-decide ∙ not-false r u in
+        rw (w, ended) (ap Ended.At (end-last index at left e g p))
 
   module _ (more : 0 < left) where
     again : accepted (elements-from format4 n [] index) ≡ accepted (elements-from format4 (suc (left - 1)) (bytes-at start (end - start) index) (drop at index))
@@ -179,7 +198,7 @@ module _ (index : List ℕ) (at left end : ℕ) (i : Inside index at left) (more
   pub next-end : (z : ℕ) → z ≡ element-end index (end + 1) → z < length index
   next-end z g = here-end index (end + 1) (left - 1) z next-inside g (omega arith)
 
--- every need of elements_ok, and of concerned
-pub ruleset elements-laws = (elements-start, end-short, end-zeros, number-cut, zero-missing, headword-over, headword-low, element-good, needs)
+-- every need of read_elements, and of concerned
+pub ruleset elements-laws = (elements-start, told-broken, end-short, end-dirty, end-reached, number-cut, zero-missing, headword-over, headword-low, end-turn, needs)
 
 pub ruleset concerned-laws = (inside-start, here-end, next-inside, next-start, next-end, concerned-last, concerned-found, concerned-turn, needs)

@@ -7,6 +7,7 @@ use Rattle.spec.specs.Bytes.{from-little-endian, bytes-at}
 use Rattle.spec.specs.Index.{Element}
 use Rattle.scans.specs.Scan.{zero-offset}
 use Rattle.index.specs.declared.Place.{Place}
+use Rattle.index.specs.declared.Ended.{Ended}
 
 -- where the zero byte of the element at `at` is
 unfoldable pub element-end : List ℕ → ℕ → ℕ
@@ -25,6 +26,16 @@ unfoldable pub elements-at : List ℕ → ℕ → ℕ → List Element
 elements-at index at zero = []
 elements-at index at (suc n) = element-at index at ∷ elements-at index (element-end index at + 1) n
 
+-- where n elements from `at` on end
+unfoldable pub elements-end : List ℕ → ℕ → ℕ → ℕ
+elements-end index at zero = at
+elements-end index at (suc n) = elements-end index (element-end index at + 1) n
+
+-- the answer about elements that end at e, by whether they keep their rules
+unfoldable pub ended : Bool → ℕ → Ended
+ended true e = Ended.At e
+ended false e = Ended.Broken
+
 -- n elements from `at` on stand inside the index, each with its zero byte
 abbrev pub Inside : List ℕ → ℕ → ℕ → Type 0
 Inside index at zero = at ≤ length index
@@ -40,5 +51,5 @@ concerned-from below index h at (suc n) = elim (below h (element-headword index 
 
 -- names all definitions of this module: who unfolds it unfolds them
 unfoldable pub open-elements : Unit {0}
-unfolding element-end element-headword element-at elements-at concerned-from
+unfolding element-end element-headword element-at elements-at elements-end ended concerned-from
 open-elements = tt

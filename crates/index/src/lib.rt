@@ -7,12 +7,18 @@ ghost use Rattle.spec.specs.Outcome.{accepted};
 ghost use Rattle.spec.specs.Header.{format4};
 ghost use Rattle.spec.specs.Order.{below-of};
 ghost use Rattle.spec.specs.Index.{elements-from};
-ghost use Rattle.index.specs.Elements.{element-end, Inside, concerned-from};
+ghost use Rattle.index.specs.Elements.{element-end, elements-end, ended, Inside, concerned-from};
 
 // An element of the index: where it starts, and how many elements there are from it on.
 pub struct Place {
     pub at: usize,
     pub left: usize,
+}
+
+// Where the elements of an index end, or that they break a rule.
+pub enum Ended {
+    Broken,
+    At(usize),
 }
 
 // Where the zero byte of the element at `at` is.
@@ -24,9 +30,9 @@ pub fn element_end(index: &[u8], at: usize) -> usize
     scans::first_zero(index, at + 2, index.len())
 }
 
-// Whether n elements stand in the index by their rules, and then zeros, at least four, up to its end: row 6.
-pub fn elements_ok(index: &[u8], n: usize) -> bool
-    ensures { λ r. ⌜ r ≡ accepted (elements-from format4 n [] (now (index .entry))) ⌝ }
+// Where n elements of the index end, if they stand there by their rules, and then zeros, at least four, up to its end: row 6.
+pub fn read_elements(index: &[u8], n: usize) -> Ended
+    ensures { λ r. ⌜ r ≡ ended (accepted (elements-from format4 n [] (now (index .entry)))) (elements-end (now (index .entry)) 0 n) ⌝ }
 {
     let mut at = 0;
     let mut left = n;
@@ -35,17 +41,17 @@ pub fn elements_ok(index: &[u8], n: usize) -> bool
     let mut end = 0;
     while 0 < left {
         if index.len() - at < 2 {
-            return false;
+            return Ended::Broken;
         }
         let zero = element_end(index, at);
         if index.len() <= zero {
-            return false;
+            return Ended::Broken;
         }
         if 248 < zero - (at + 2) {
-            return false;
+            return Ended::Broken;
         }
         if !scans::is_below(0, &index[start..end], &index[at + 2..zero]) {
-            return false;
+            return Ended::Broken;
         }
         start = at + 2;
         end = zero;
@@ -53,9 +59,12 @@ pub fn elements_ok(index: &[u8], n: usize) -> bool
         left -= 1;
     }
     if index.len() - at < 4 {
-        return false;
+        return Ended::Broken;
     }
-    scans::all_zero(index, at, index.len())
+    if !scans::all_zero(index, at, index.len()) {
+        return Ended::Broken;
+    }
+    Ended::At(at)
 }
 
 // The element of the run concerned: the last whose headword is not above `h`, else the first.

@@ -1,6 +1,6 @@
 -- What an accepted image tells of its parts, as the code cuts them out.
 use Prim.Native.Nat.{ℕ, _+_, _-_, _*_, _%_, _≤_}
-use mathlib.Core.Path.{_≡_, sym, ap, ap₂, _∙_}
+use mathlib.Core.Path.{_≡_, sym, ap, ap₂, subst, _∙_}
 use mathlib.Core.Bool.{Bool, false}
 use mathlib.Core.List.{List, [], _++_}
 use mathlib.Core.Option.{Option}
@@ -24,7 +24,7 @@ use Rattle.spec.proofs.SearchLaws.{exactly, entries-ascend, lookup-by-successor
 use Rattle.index.specs.Elements.{elements-at, Inside}
 use Rattle.header.specs.Framed.{frame4}
 use Rattle.header.proofs.Laws.{frame-index-inside, frame-data-few, frame-length-is, index-slice, data-slice}
-use Rattle.inspect.specs.Overview.{overview, viewed, AcceptedImage}
+use Rattle.inspect.specs.Overview.{overview, viewed, index-end, EndTold, AcceptedImage}
 use Rattle.inspect.specs.declared.Inspected.{Inspected}
 use Rattle.inspect.proofs.Laws.{index-part, data-part, index-told, data-long, SoundImage, overview-sound}
 
@@ -94,9 +94,9 @@ module _ (s : List ℕ) (n d : ℕ) (a : AcceptedImage s n d) where
         rw (← j) (lookup-by-successor format4 (order-of 0) h [] (all-entries rs) g ∙ ap (exactly h) (sym (sought rs accepted-runs)))
 
 -- ---- what the answer tells of the image, for the crates above
-module _ (s : List ℕ) (k : ℕ) (ms : List Bool) (r : Inspected) (seen : overview r ms ≡ viewed k (image-from s)) (w n d : ℕ) (e : r ≡ Inspected.Sound w n d) where
+module _ (s : List ℕ) (k : ℕ) (ms : List Bool) (r : Inspected) (seen : overview r ms ≡ viewed k (image-from s)) (w n d x : ℕ) (e : r ≡ Inspected.Sound w n d x) where
   sound : SoundImage k ms (image-from s) w n d
-  sound = overview-sound k ms (image-from s) r seen w n d e
+  sound = overview-sound k ms (image-from s) r seen w n d x e
 
   -- it is accepted
   pub is-accepted : AcceptedImage s n d
@@ -111,6 +111,10 @@ module _ (s : List ℕ) (k : ℕ) (ms : List Bool) (r : Inspected) (seen : overv
   free-are m long i o =
       let j : sound .image ≡ i = same-value (sound .image) i (sym (sound .is) ∙ o) in
       rw (← j, ← long) (sound .free)
+
+-- where its elements end
+pub end-is : (s : List ℕ) (r : Inspected) → EndTold s r → (w n d x : ℕ) → r ≡ Inspected.Sound w n d x → x ≡ index-end s n
+end-is s r t w n d x e = subst (EndTold s) e t
 
 -- ---- the image at the front of a slice
 -- it is at least a header long

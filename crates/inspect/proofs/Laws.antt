@@ -35,31 +35,34 @@ use Rattle.header.specs.Framed.{frame4, framed}
 use Rattle.header.specs.declared.Framed.{Framed}
 use Rattle.header.proofs.Laws.{frame-refused, frame-read, frame-index-few, frame-data-few, index-slice, data-slice}
 use Rattle.index.specs.Elements as Elements
-use Rattle.index.specs.Elements.{elements-at, Inside}
-use Rattle.index.proofs.Laws.{width4, elements-found, index-refused}
+use Rattle.index.specs.Elements.{elements-at, elements-end, ended, Inside}
+use Rattle.index.specs.declared.Ended.{Ended}
+use Rattle.index.proofs.Laws.{width4, elements-found, index-refused, ended-broken, ended-at}
 use Rattle.freelist.specs.FreeList.{has-length, with-marks, Marked}
 use Rattle.freelist.proofs.Laws.{Read, has-length-read, has-length-not, length-with-marks, get-with-marks, with-no-marks, count-behind}
 use Rattle.tally.specs.Tally as Tally
 use Rattle.tally.specs.Tally.{Tally as TallyRecord, covered, tally, runs-answer}
 use Rattle.tally.specs.declared.Runs.{Runs}
-use Rattle.inspect.specs.Overview.{Overview, viewed, overview, RunsRead}
+use Rattle.inspect.specs.Overview.{Overview, viewed, overview, index-end, RunsRead}
+pub use Rattle.inspect.specs.Overview.{index-part, data-part}
 use Rattle.inspect.specs.declared.Inspected.{Inspected}
 
-none-or-six : (t : Bool) → t ≡ accepted {A = List Element} (refuse 6 when not t >> ok [])
-unfolding accepted
-none-or-six true = refl
-none-or-six false = refl
+-- row 6 without an index block: no element
+pub index-empty : (area : List ℕ) (blocks n : ℕ) → blocks ≡ 0 → n ≡ 0 → Ended.At 0 ≡ ended (accepted (index-from format4 blocks n area)) (elements-end area 0 n)
+unfolding Index.index-from accepted Elements.ended Elements.elements-end
+index-empty area blocks n z e = rw (z, e)
 
--- row 6 without an index block
-pub index-none : (area : List ℕ) (blocks n : ℕ) → blocks ≡ 0 → eqb n 0 ≡ accepted (index-from format4 blocks n area)
-unfolding Index.index-from accepted
-index-none area blocks n z = rw z (none-or-six (eqb n 0))
+-- or some
+pub index-none : (area : List ℕ) (blocks n : ℕ) → blocks ≡ 0 → (n ≡ 0 → ⊥) → Ended.Broken ≡ ended (accepted (index-from format4 blocks n area)) (elements-end area 0 n)
+unfolding Index.index-from accepted Elements.ended
+index-none area blocks n z e = rw (z, ne-eqb n 0 e)
 
--- and with some
-pub index-some : (area : List ℕ) (blocks n : ℕ) → (blocks ≡ 0 → ⊥) → (t : Bool) → t ≡ accepted (elements-from format4 n [] area) → t ≡ accepted (index-from format4 blocks n area)
+-- and with some blocks
+pub index-some : (area : List ℕ) (blocks n : ℕ) → (blocks ≡ 0 → ⊥) → (r : Ended) (k : ℕ) → r ≡ ended (accepted (elements-from format4 n [] area)) k
+    → r ≡ ended (accepted (index-from format4 blocks n area)) k
 unfolding Index.index-from
-index-some area zero n z t h = absurd (z refl)
-index-some area (suc b) n z t h = h
+index-some area zero n z r k h = absurd (z refl)
+index-some area (suc b) n z r k h = h
 
 -- whether a block is marked, with those of runs
 covered-mark : (rs : List Run) (D b : ℕ) (ms : List Bool) → All (λ r. r .block + r .size ≤ D) rs → D ≤ length ms → b < length ms → getD (covered rs ms) b false ≡ (getD ms b false || any (covers b) rs)
@@ -92,7 +95,10 @@ covered-length (r ∷ rs) D ms (p, ps) l =
     covered-length rs D (with-range (r .block) (r .size) true ms) ps (rw k l) ∙ k
 
 -- an image of which all runs are read: what is left to test
-module _ (s area : List ℕ) (n d words blocks : ℕ) (ms : List Bool) (v : RunsRead s area n d words blocks ms) where
+module _ (s : List ℕ) (n d words blocks : ℕ) (ms : List Bool) (v : RunsRead s n d words blocks ms) where
+  abbrev area : List ℕ
+  area = data-part s n
+
   list : Outcome (List ℕ)
   list = free-list-from d d (get (layout4 .empty-block2) s) area
 
@@ -104,7 +110,7 @@ module _ (s area : List ℕ) (n d words blocks : ℕ) (ms : List Bool) (v : Runs
 
   left-over : image-from s ≡ list >>= rest
   unfolding Check.image-from Check.image-by Header.format-of Header.format4 list rest
-  left-over = rw (v .frame, v .index, ← v .area-is, v .read)
+  left-over = rw (v .frame, v .index, data-slice s n d, v .read)
 
   inside : All (λ r. r .block + r .size ≤ d) (v .runs)
   inside = runs-inside format4 d area (v .elements) (v .runs) (v .read)
@@ -228,9 +234,9 @@ module _ (s area : List ℕ) (n d words blocks : ℕ) (ms : List Bool) (v : Runs
 
                 -- an image that keeps all rows
                 pub settle-sound : g ≡ blocks → (fs : List Bool) → fs ≡ replicate k false → d ≤ k → (t ≡ true → Marked (free-list-from d d first area) fs ms′)
-                    → overview (Inspected.Sound words n d) ms′ ≡ viewed k (image-from s)
+                    → (end : ℕ) → overview (Inspected.Sound words n d end) ms′ ≡ viewed k (image-from s)
                 unfolding overview viewed Check.counts-ok Check.entries-of
-                settle-sound y fs bare fits free =
+                settle-sound y fs bare fits free end =
                     let x : eqb (get (layout4 .nblock2) s) (run-blocks (v .runs)) ≡ true = eq-eqb _ _ (sym nblocks ∙ y ∙ v .blocks-are) in
                     let m : ms′ ≡ free-marks d (got .numbers) ++ replicate (k - d) false = free (not-false t q) (got .numbers) (got .read) ∙ rw bare (with-no-marks d k (got .numbers) low fits) in
                     sym (rw (counted, words-right, x, ← m, ← v .words-are))
@@ -251,13 +257,6 @@ tally-read ms (refused i) w b us h = absurd (ok-not-refused _ i (sym h))
 tally-read ms (ok rs) w b us h =
     let e = same-value _ _ h in
     (rs, refl, sym (ap (λ (x : TallyRecord). x .words) e) ∙ zero-add (length (all-entries rs)), sym (ap (λ (x : TallyRecord). x .blocks) e) ∙ zero-add (run-blocks rs), sym (ap (λ (x : TallyRecord). x .marked) e))
-
--- the index and the data area as the code cuts them out
-abbrev pub index-part : List ℕ → ℕ → List ℕ
-index-part s n = take (256 + 256 * n - 256) (drop 256 s)
-
-abbrev pub data-part : List ℕ → ℕ → List ℕ
-data-part s n = take (length s - (256 + 256 * n)) (drop (256 + 256 * n) s)
 
 -- how long they are
 module _ (s : List ℕ) (n d : ℕ) (whole : 256 + 256 * n + 256 * d ≡ length s) where
@@ -289,17 +288,23 @@ pub areas-frame : (s : List ℕ) (r : Framed) → framed r ≡ frame-from format
 unfolding overview viewed Check.image-from Check.image-by Header.format-of
 areas-frame s r e j h k ms = sym (rw (frame-refused s r e j h))
 
-module _ (s : List ℕ) (n d : ℕ) (frame : frame-from format4 s ≡ ok (frame4 n d)) (e : ℕ) (elements : e ≡ get (layout4 .nindex2) s) (t : Bool) (kept : t ≡ accepted (index-from format4 n e (index-part s n))) where
+module _ (s : List ℕ) (n d : ℕ) (frame : frame-from format4 s ≡ ok (frame4 n d)) (e : ℕ) (elements : e ≡ get (layout4 .nindex2) s)
+    (b : Ended) (kept : b ≡ ended (accepted (index-from format4 n e (index-part s n))) (elements-end (index-part s n) 0 e)) where
   -- row 6
-  pub areas-index : not t ≡ true → (k : ℕ) (ms : List Bool) → overview (Inspected.Refused 6) ms ≡ viewed k (image-from s)
+  pub areas-index : b ≡ Ended.Broken → (k : ℕ) (ms : List Bool) → overview (Inspected.Refused 6) ms ≡ viewed k (image-from s)
   unfolding overview viewed Check.image-from Check.image-by Header.format-of Header.format4
   areas-index q k ms =
-      let x : index-from format4 n (get (layout4 .nindex2) s) (index-area (frame4 n d) s) ≡ refused 6 = rw (index-slice s n d, ← elements) (index-refused format4 n e (index-part s n) (sym kept ∙ not-true t q)) in
+      let y : accepted (index-from format4 n e (index-part s n)) ≡ false = ended-broken _ _ b kept q in
+      let x : index-from format4 n (get (layout4 .nindex2) s) (index-area (frame4 n d) s) ≡ refused 6 = rw (index-slice s n d, ← elements) (index-refused format4 n e (index-part s n) y) in
       sym (rw (frame, x))
 
-  module _ (q : not t ≡ false) where
+  module _ (end : ℕ) (q : b ≡ Ended.At end) where
     answered : Answer (index-from format4 n e (index-part s n))
-    answered = accepted-answer (index-from format4 n e (index-part s n)) (sym kept ∙ not-false t q)
+    answered = accepted-answer (index-from format4 n e (index-part s n)) (ended-at _ _ b kept end q .0)
+
+    -- where they end
+    pub areas-end : end ≡ index-end s n
+    areas-end = ended-at _ _ b kept end q .1 ∙ rw elements
 
     -- the elements stand inside the index
     pub areas-inside : Inside (index-part s n) 0 e
@@ -317,7 +322,7 @@ module _ (s : List ℕ) (n d : ℕ) (frame : frame-from format4 s ≡ ok (frame4
           sym (rw (frame, index-is, x))
 
       -- all runs are read
-      pub areas-read : ms₀ ≡ replicate m false → d ≤ m → (words blocks : ℕ) → r ≡ Runs.Read words blocks → RunsRead s (data-part s n) n d words blocks us
+      pub areas-read : ms₀ ≡ replicate m false → d ≤ m → (words blocks : ℕ) → r ≡ Runs.Read words blocks → RunsRead s n d words blocks us
       unfolding Tally.runs-answer
       areas-read bare room words blocks h =
           let (rs, x, y, z, w) = tally-read ms₀ (runs-from format4 d (data-part s n) (elements-at (index-part s n) 0 e)) words blocks us (sym tallied ∙ ap (λ (y : Runs). runs-answer y us) h) in
@@ -325,7 +330,6 @@ module _ (s : List ℕ) (n d : ℕ) (frame : frame-from format4 s ≡ ok (frame4
           let l : length us ≡ m = ap length g ∙ covered-length rs d (replicate m false) (runs-inside format4 d (data-part s n) (elements-at (index-part s n) 0 e) rs x) (rw length-replicate room) ∙ length-replicate m false in
           record {
             frame = frame;
-            area-is = sym (data-slice s n d);
             elements = elements-at (index-part s n) 0 e;
             index = index-is;
             runs = rs;
@@ -358,9 +362,9 @@ module _ (k : ℕ) (ms : List Bool) (o : Outcome Image) (r : Inspected) (seen : 
       go (ok i) e = absurd (ok-not-refused _ j (sym e))
 
   -- it is accepted, with these numbers and the marks of its free blocks
-  pub overview-sound : (w n d : ℕ) → r ≡ Inspected.Sound w n d → SoundImage k ms o w n d
+  pub overview-sound : (w n d e : ℕ) → r ≡ Inspected.Sound w n d e → SoundImage k ms o w n d
   unfolding overview viewed
-  overview-sound w n d h = go o (ap (λ (x : Inspected). overview x ms) (sym h) ∙ seen)
+  overview-sound w n d e h = go o (ap (λ (x : Inspected). overview x ms) (sym h) ∙ seen)
     where
       go : (o : Outcome Image) → ok (record { words = w; index-blocks = n; data-blocks = d; free = ms }) ≡ viewed k o → SoundImage k ms o w n d
       go (refused i) e = absurd (ok-not-refused _ i e)

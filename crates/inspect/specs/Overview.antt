@@ -1,16 +1,17 @@
 -- What testing an image whole tells of it.
-use Prim.Native.Nat.{ℕ, _-_}
+use Prim.Native.Nat.{ℕ, _+_, _-_, _*_}
 use mathlib.Core.Path.{_≡_}
 use mathlib.Core.Bool.{Bool, false}
 use mathlib.Core.List.{List, _++_}
-use lib.ListN.{length, replicate}
+use lib.ListN.{length, take, drop, replicate}
 use Rattle.spec.specs.Outcome.{Outcome, refused, ok}
 use Rattle.spec.specs.Header.{layout4, format4, get}
 use Rattle.spec.specs.Run.{Run}
 use Rattle.spec.specs.Index.{Element, index-from}
 use Rattle.spec.specs.Blocks.{run-blocks, free-marks}
-use Rattle.spec.specs.Check.{Image, index-area, data-area, frame-from, runs-from, image-from, all-entries, entries-of}
+use Rattle.spec.specs.Check.{Image, index-area, frame-from, runs-from, image-from, all-entries, entries-of}
 use Rattle.header.specs.Framed.{frame4}
+use Rattle.index.specs.Elements.{elements-end}
 use Rattle.tally.specs.Tally.{covered}
 use Rattle.inspect.specs.declared.Inspected.{Inspected}
 
@@ -35,17 +36,32 @@ viewed k (ok i) =
 
 -- the answer about an image, with the marks then
 unfoldable pub overview : Inspected → List Bool → Outcome Overview
-overview (Inspected.Sound w n d) ms = ok (record { words = w; index-blocks = n; data-blocks = d; free = ms })
+overview (Inspected.Sound w n d e) ms = ok (record { words = w; index-blocks = n; data-blocks = d; free = ms })
 overview (Inspected.Refused k) ms = refused k
 
+-- the index and the data area of an image of n index blocks, as the code cuts them out
+abbrev pub index-part : List ℕ → ℕ → List ℕ
+index-part s n = take (256 + 256 * n - 256) (drop 256 s)
+
+abbrev pub data-part : List ℕ → ℕ → List ℕ
+data-part s n = take (length s - (256 + 256 * n)) (drop (256 + 256 * n) s)
+
+-- where the elements end in its index
+abbrev pub index-end : List ℕ → ℕ → ℕ
+index-end s n = elements-end (index-part s n) 0 (get (layout4 .nindex2) s)
+
+-- the answer about a sound image tells where they end
+abbrev pub EndTold : List ℕ → Inspected → Type 0
+EndTold s (Inspected.Sound w n d e) = e ≡ index-end s n
+EndTold s (Inspected.Refused k) = Unit {0}
+
 -- an image that keeps rows 3 to 8, all its runs read: n index blocks, d data blocks, its entries and the blocks of its runs counted and these marked
-pub record RunsRead (s area : List ℕ) (n d words blocks : ℕ) (ms : List Bool) : Type 0 where
+pub record RunsRead (s : List ℕ) (n d words blocks : ℕ) (ms : List Bool) : Type 0 where
   pub frame : frame-from format4 s ≡ ok (frame4 n d)
-  pub area-is : area ≡ data-area (frame4 n d) s
   pub elements : List Element
   pub index : index-from format4 n (get (layout4 .nindex2) s) (index-area (frame4 n d) s) ≡ ok elements
   pub runs : List Run
-  pub read : runs-from format4 d area elements ≡ ok runs
+  pub read : runs-from format4 d (data-part s n) elements ≡ ok runs
   pub words-are : words ≡ length (all-entries runs)
   pub blocks-are : blocks ≡ run-blocks runs
   pub marked : ms ≡ covered runs (replicate (length ms) false)

@@ -8,51 +8,61 @@ ghost use Rattle.spec.specs.Header.{format4};
 ghost use Rattle.spec.specs.Index.{index-from};
 ghost use Rattle.spec.specs.Check.{frame-from, image-from};
 ghost use Rattle.header.specs.Framed.{frame4};
+ghost use Rattle.index.specs.Elements.{elements-end, ended};
 ghost use Rattle.marks.specs.Marks.{marks};
-ghost use Rattle.inspect.specs.Overview.{viewed, overview, RunsRead};
+ghost use Rattle.inspect.specs.Overview.{viewed, overview, index-end, EndTold, RunsRead};
 use header::Framed;
+use index::Ended;
 use tally::Runs;
 
-// The entries of an image and its index blocks and data blocks, or the first of rows 3 to 10 that it breaks.
+// The entries of an image, its index blocks and data blocks, and where the elements end in its index; or the first of rows 3 to
+// 10 that it breaks.
 pub enum Inspected {
     Sound {
         words: usize,
         index: usize,
         area: usize,
+        end: usize,
     },
     Refused(u32),
 }
 
-// Whether an index of that many blocks keeps its rules: row 6.
-fn index_ok(index: &[u8], blocks: usize, n: usize) -> bool
-    ensures { λ r. ⌜ r ≡ accepted (index-from format4 blocks n (now (index .entry))) ⌝ }
+// Where the n elements of an index of that many blocks end, if it keeps its rules: row 6.
+fn read_index(index: &[u8], blocks: usize, n: usize) -> Ended
+    ensures { λ r. ⌜ r ≡ ended (accepted (index-from format4 blocks n (now (index .entry)))) (elements-end (now (index .entry)) 0 n) ⌝ }
 {
     if blocks == 0 {
-        return n == 0;
+        if n == 0 {
+            return Ended::At(0);
+        }
+        return Ended::Broken;
     }
-    index::elements_ok(index, n)
+    index::read_elements(index, n)
 }
 
 // Rows 9 and 10, where all runs are read: each data block in one run or once on the free list, whose blocks are marked in
-// `free`, and the header's counts.
+// `free`, and the header's counts. The elements end at `end` in the index.
 fn settle(
     s: &[u8],
-    area: &[u8],
     n: usize,
     d: usize,
+    end: usize,
     words: usize,
     blocks: usize,
     used: &mut [u64],
     free: &mut [u64],
 ) -> Inspected
-    requires { ⌜ RunsRead (now s) (now area) n d words blocks (marks (now used)) ⌝ }
-    requires { ⌜ (256 ≤ length (now s)) × (256 * d ≡ length (now area)) × (d ≤ 65536) × (d ≤ 64 * length (now used)) × (d ≤ 64 * length (now free)) ⌝ }
+    requires { ⌜ RunsRead (now s) n d words blocks (marks (now used)) ⌝ }
+    requires { ⌜ (256 + 256 * n + 256 * d ≡ length (now s)) × (d ≤ 65536) × (d ≤ 64 * length (now used)) × (d ≤ 64 * length (now free)) ⌝ }
+    requires { ⌜ end ≡ index-end (now s) n ⌝ }
     requires { ⌜ marks (now free) ≡ replicate (64 * length (now free)) false ⌝ }
     ensures { λ r. ⌜ overview r (marks (now (free .exit))) ≡ viewed (64 * length (now (free .entry))) (image-from (now (s .entry))) ⌝ }
+    ensures { λ r. ⌜ EndTold (now (s .entry)) r ⌝ }
 {
     if d < blocks {
         return Inspected::Refused(9);
     }
+    let area = &s[256 + 256 * n..];
     let first = header::empty_block2(s);
     if !freelist::read_free_list(area, d, first, d - blocks, used, free) {
         return Inspected::Refused(9);
@@ -70,6 +80,7 @@ fn settle(
         words: words,
         index: n,
         area: d,
+        end: end,
     }
 }
 
@@ -79,19 +90,31 @@ fn inspect_areas(s: &[u8], n: usize, d: usize, free: &mut [u64]) -> Inspected
     requires { ⌜ (256 + 256 * n + 256 * d ≡ length (now s)) × (n ≤ 32767) × (d ≤ 65536) × (1024 ≤ length (now free)) ⌝ }
     requires { ⌜ marks (now free) ≡ replicate (64 * length (now free)) false ⌝ }
     ensures { λ r. ⌜ overview r (marks (now (free .exit))) ≡ viewed (64 * length (now (free .entry))) (image-from (now (s .entry))) ⌝ }
+    ensures { λ r. ⌜ EndTold (now (s .entry)) r ⌝ }
 {
     let start = 256 + 256 * n;
     let index = &s[256..start];
-    let area = &s[start..];
     let elements = header::nindex2(s);
-    if !index_ok(index, n, elements) {
-        return Inspected::Refused(6);
-    }
-    let mut used = [0u64; 1024];
-    let r = tally::read_runs(index, elements, area, d, &mut used);
-    match r {
-        Runs::Refused(k) => Inspected::Refused(k),
-        Runs::Read { words, blocks } => settle(s, area, n, d, words, blocks, &mut used, free),
+    let ended = read_index(index, n, elements);
+    match ended {
+        Ended::Broken => Inspected::Refused(6),
+        Ended::At(end) => {
+            let mut used = [0u64; 1024];
+            let r = tally::read_runs(index, elements, &s[start..], d, &mut used);
+            match r {
+                Runs::Refused(k) => Inspected::Refused(k),
+                Runs::Read { words, blocks } => settle(
+                    s,
+                    n,
+                    d,
+                    end,
+                    words,
+                    blocks,
+                    &mut used,
+                    free,
+                ),
+            }
+        }
     }
 }
 
@@ -100,6 +123,7 @@ pub fn inspect(s: &[u8], free: &mut [u64]) -> Inspected
     requires { ⌜ (256 ≤ length (now s)) × (length (now s) % 256 ≡ 0) × (1024 ≤ length (now free)) ⌝ }
     requires { ⌜ marks (now free) ≡ replicate (64 * length (now free)) false ⌝ }
     ensures { λ r. ⌜ overview r (marks (now (free .exit))) ≡ viewed (64 * length (now (free .entry))) (image-from (now (s .entry))) ⌝ }
+    ensures { λ r. ⌜ EndTold (now (s .entry)) r ⌝ }
 {
     let f = header::frame(s);
     match f {

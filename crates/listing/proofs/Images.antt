@@ -161,9 +161,9 @@ list-stored x y out out′ h p = rw h p
 -- ---- what inspecting an image tells
 module _ (s : List ℕ) (ms : List Bool) (k : ℕ) (r : Inspected) (h : overview r ms ≡ viewed k (image-from s)) where
   -- the four numbers of an accepted image
-  pub told-sound : (w n d f : ℕ) → r ≡ Inspected.Sound w n d → f ≡ count-marks ms → Accepted s (numbers w n d f)
-  told-sound w n d f q c =
-      let v = overview-sound k ms (image-from s) r h w n d q in
+  pub told-sound : (w n d f e : ℕ) → r ≡ Inspected.Sound w n d e → f ≡ count-marks ms → Accepted s (numbers w n d f)
+  told-sound w n d f e q c =
+      let v = overview-sound k ms (image-from s) r h w n d e q in
       (v .image, v .is, sound-figures k ms (image-from s) w n d v f c)
 
   -- the refusal of another

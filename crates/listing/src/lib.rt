@@ -270,14 +270,12 @@ fn inspected_lines(out: &mut [u8], image: &[u8]) -> usize
     let mut free = [0u64; 1024];
     let inspected = inspect::inspect(image, &mut free);
     match inspected {
-        Inspected::Sound { words, index, area } => accepted_lines(
-            out,
-            image,
+        Inspected::Sound {
             words,
             index,
             area,
-            marks::count(&free),
-        ),
+            end: _,
+        } => accepted_lines(out, image, words, index, area, marks::count(&free)),
         Inspected::Refused(k) => refused_line(out, k as usize),
     }
 }

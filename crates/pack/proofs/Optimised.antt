@@ -34,13 +34,11 @@ use Rattle.spec.proofs.CountLaws.{blocks-once}
 use Rattle.spec.proofs.PlaceLaws.{packed-entries}
 use Rattle.spec.proofs.MoveFormLaws.{packed-as-worded}
 use Rattle.index.specs.Elements as Elements
-use Rattle.index.specs.Elements.{element-end, element-headword, element-at, elements-at, Inside}
-use Rattle.index.proofs.Laws.{element-then, element-read, elements-found-from, elements-count, width4}
-use Rattle.elements.specs.Renewed as Renewed
-use Rattle.elements.specs.Renewed.{elements-end}
+use Rattle.index.specs.Elements.{element-end, element-headword, element-at, elements-at, elements-end, Inside}
+use Rattle.index.proofs.Laws.{element-then, element-read, elements-found-from, elements-count, ends-inside, width4}
 use Rattle.elements.proofs.Laws.{elements-length}
 use Rattle.header.proofs.Laws.{header-front, index-slice, frame-index-few}
-use Rattle.inspect.specs.Overview.{AcceptedImage}
+use Rattle.inspect.specs.Overview.{index-end, AcceptedImage}
 use Rattle.inspect.proofs.Laws.{index-part, data-part, data-long, index-few}
 use Rattle.inspect.proofs.Accepted.{accepted-frame, accepted-inside, accepted-runs}
 use Rattle.pack.specs.Packing as Packing
@@ -50,7 +48,7 @@ use Rattle.pack.proofs.Laws.{Whole, packed-same, runs-bytes-length, pac
 -- ---- the index of an accepted image
 -- behind elements that are read there are at least four bytes
 elements-room : (index prev : List ℕ) (at n : ℕ) (es : List Element) → elements-from format4 n prev (drop at index) ≡ ok es → elements-end index at n + 4 ≤ length index
-unfolding IndexSpec.elements-from Renewed.elements-end element-then
+unfolding IndexSpec.elements-from Elements.elements-end element-then
 elements-room index prev at zero es h =
     let (a, b) = when-ok 6 (ltb (length (drop at index)) 4) (refuse 6 when not (all-zero (drop at index)) >> ok []) es h in
     omega (arith, ltb-false (length (drop at index)) 4 a, length-drop at index)
@@ -121,9 +119,11 @@ module _ (s : List ℕ) (n d : ℕ) (a : AcceptedImage s n d) (whole : 256 + 256
   pub blocks-fewer : (g : ℕ) → g ≡ get (layout4 .nblock2) s → g ≤ d
   blocks-fewer g e = omega (arith, blocks-counted g e, blocks-few)
 
-  -- the index is shorter than the limit
-  pub index-short : (k : ℕ) → k ≤ length (index-part s n) → k ≤ 8_388_608
-  index-short k h = omega (arith, index-few s n d whole (frame-index-few s n d (told .frame ∙ ap ok (accepted-frame s n d a))))
+  -- the elements end before the limit
+  pub end-short : (end : ℕ) → end ≡ index-end s n → end ≤ 8_388_608
+  end-short end h =
+      let few = frame-index-few s n d (told .frame ∙ ap ok (accepted-frame s n d a)) in
+      omega (arith, index-few s n d whole few, ends-inside (index-part s n) 0 (get (layout4 .nindex2) s) (accepted-inside s n d a (get (layout4 .nindex2) s) refl))
 
   module _ (e : ℕ) (number : e ≡ get (layout4 .nindex2) s) where
     -- the elements are those of the runs
@@ -134,10 +134,10 @@ module _ (s : List ℕ) (n d : ℕ) (a : AcceptedImage s n d) (whole : 256 + 256
     runs-sized : Whole (a .image .runs)
     runs-sized = runs-whole d (data-part s n) (elements-at (index-part s n) 0 e) (a .image .runs) (data-long s n d whole) (accepted-runs s n d a e number)
 
-    module _ (end m : ℕ) (ends : end ≡ elements-end (index-part s n) 0 e) (needed : m ≡ blocks-needed e end) where
+    module _ (end m : ℕ) (ends : end ≡ index-end s n) (needed : m ≡ blocks-needed e end) where
       -- the blocks found needed are the specification's
       need-is : m ≡ index-need format4 (elements-at (index-part s n) 0 e)
-      need-is = needed-is (index-part s n) e m (accepted-inside s n d a e number) (rw ends at needed)
+      need-is = needed-is (index-part s n) e m (accepted-inside s n d a e number) (needed ∙ rw (ends, number))
 
       -- the new index is no longer than the old one
       pub index-fewer : m ≤ n
@@ -268,7 +268,7 @@ module _ (rs : List Run) (m : ℕ) (need : m ≡ index-need format4 (map element
 
 -- ---- pack
 module _ (s : List ℕ) (n d : ℕ) (a : AcceptedImage s n d) (whole : 256 + 256 * n + 256 * d ≡ length s) (e : ℕ) (number : e ≡ get (layout4 .nindex2) s) (blocks : ℕ) (counted : blocks ≡ get (layout4 .nblock2) s)
-    (end m : ℕ) (ends : end ≡ elements-end (index-part s n) 0 e) (needed : m ≡ blocks-needed e end) where
+    (end m : ℕ) (ends : end ≡ index-end s n) (needed : m ≡ blocks-needed e end) where
   -- the runs
   abbrev runs : List Run
   runs = a .image .runs

@@ -11,7 +11,7 @@ ghost use Rattle.spec.specs.Header.{format4};
 ghost use Rattle.spec.specs.Index.{elements-bytes};
 ghost use Rattle.spec.specs.Run.{Run};
 ghost use Rattle.index.specs.Elements.{elements-at, Inside};
-ghost use Rattle.inspect.specs.Overview.{AcceptedImage};
+ghost use Rattle.inspect.specs.Overview.{index-end, AcceptedImage};
 ghost use Rattle.pack.specs.Packing.{blocks-needed, runs-packed, RunsFit};
 use byteops::LIST_END;
 use byteops::read_u16;
@@ -55,10 +55,12 @@ fn write_runs(image: &mut [u8], base: usize, index: &[u8], n: usize, area: &[u8]
     out
 }
 
-// Packs the accepted image `old`, of n index blocks, d data blocks and `words` entries, into `image`; answers the new length.
-pub fn pack(image: &mut [u8], old: &[u8], n: usize, d: usize, words: usize) -> usize
+// Packs the accepted image `old`, of n index blocks, d data blocks and `words` entries, whose elements end at `end` in the index,
+// into `image`; answers the new length.
+pub fn pack(image: &mut [u8], old: &[u8], n: usize, d: usize, end: usize, words: usize) -> usize
     requires { ⌜ AcceptedImage (now old) n d ⌝ }
     requires { ⌜ (256 + 256 * n + 256 * d ≡ length (now old)) × (length (now old) ≤ length (now image)) ⌝ }
+    requires { ⌜ end ≡ index-end (now old) n ⌝ }
     requires { ⌜ ((i : Image) → image-from (now old) ≡ ok i → words ≡ length (entries-of i)) ⌝ }
     ensures { λ r. ⌜ ((i : Image) → image-from (now (old .entry)) ≡ ok i → now (image .exit) ≡ given-up-zeroed (length (now (old .entry))) (plan-packed (i .frame .format) (i .runs)) (plan-written (plan-packed (i .frame .format) (i .runs)) (now (image .entry)))) ⌝ }
     ensures { λ r. ⌜ ((i : Image) → image-from (now (old .entry)) ≡ ok i → r ≡ plan-length (plan-packed (i .frame .format) (i .runs))) ⌝ }
@@ -68,7 +70,7 @@ pub fn pack(image: &mut [u8], old: &[u8], n: usize, d: usize, words: usize) -> u
     let index = &old[256..start];
     let elements = header::nindex2(old);
     let blocks = header::nblock2(old);
-    let m = need(elements, elements::elements_end(index, elements));
+    let m = need(elements, end);
     let data = 256 + 256 * m;
     let out = write_runs(image, data, index, elements, &old[start..], d);
     byteops::fill_zero(image, out, data - out);

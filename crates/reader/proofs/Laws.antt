@@ -75,9 +75,9 @@ module _ (s : List ℕ) (len : ℕ) (t : Bool) (slice : t ≡ accepted (slice-ok
       unfolding Calls.walk Calls.walk-entry Calls.walk-result Answers.walk-answer
       walk-refused j e above h out text = sym (rw (image-refused j e))
 
-      module _ (w n d : ℕ) (h : r ≡ Inspected.Sound w n d) where
+      module _ (w n d x : ℕ) (h : r ≡ Inspected.Sound w n d x) where
         sound : SoundImage k ms (image-from (take len s)) w n d
-        sound = overview-sound k ms (image-from (take len s)) r seen w n d h
+        sound = overview-sound k ms (image-from (take len s)) r seen w n d x h
 
         -- the four numbers
         pub check-counted : (c : ℕ) → c ≡ count-marks ms → check-answer (CheckAnswer.Counted w n d c) ≡ check s len
@@ -88,7 +88,7 @@ module _ (s : List ℕ) (len : ℕ) (t : Bool) (slice : t ≡ accepted (slice-ok
 
         -- the data area starts inside the image
         pub accepted-start : 256 + 256 * n ≤ length (take len s)
-        accepted-start = accepted-index (take len s) n d (is-accepted (take len s) k ms r seen w n d h)
+        accepted-start = accepted-index (take len s) n d (is-accepted (take len s) k ms r seen w n d x h)
 
         image-ok : image-in s len ≡ ok (sound .image)
         image-ok = sliced ∙ sound .is

@@ -27,12 +27,12 @@ pub fn check(s: &[u8], len: usize) -> CheckAnswer
     let r = inspect::inspect(&s[..len], &mut free);
     match r {
         Inspected::Refused(k) => CheckAnswer::Refused(k),
-        Inspected::Sound { words, index, area } => CheckAnswer::Counted(
+        Inspected::Sound {
             words,
             index,
             area,
-            marks::count(&free),
-        ),
+            end: _,
+        } => CheckAnswer::Counted(words, index, area, marks::count(&free)),
     }
 }
 
@@ -99,6 +99,7 @@ pub fn look_up(s: &[u8], len: usize, headword: &[u8], text: &mut [u8]) -> LookUp
             words: _,
             index,
             area,
+            end: _,
         } => look_up_in(image, index, area, headword, text),
     }
 }
@@ -197,6 +198,7 @@ pub fn walk(
             words: _,
             index,
             area,
+            end: _,
         } => walk_in(image, index, area, headword, above, out, text),
     }
 }

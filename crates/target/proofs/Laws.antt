@@ -33,12 +33,10 @@ use Rattle.spec.proofs.RunLaws.{EntriesOk}
 use Rattle.spec.proofs.ReadLaws.{RunsAscend, ascend-back, run-told, no-runs, runs-first, runs-elements, runs-ascend}
 use Rattle.marks.proofs.Laws.{drop-take}
 use Rattle.index.specs.Elements as Elements
-use Rattle.index.specs.Elements.{element-end, element-headword, element-at, elements-at, Inside, concerned-from}
+use Rattle.index.specs.Elements.{element-end, element-headword, element-at, elements-at, elements-end, Inside, concerned-from}
 use Rattle.index.specs.declared.Place as IndexPlace
-use Rattle.index.proofs.Laws.{element-end-past, inside-start, inside-end, inside-next, elements-next, elements-count, concerned-rule, concerned-stops}
-use Rattle.elements.specs.Renewed as Renewed
-use Rattle.elements.specs.Renewed.{elements-end}
-use Rattle.elements.proofs.Laws.{elements-length, elements-split, inside-split, ends-split, end-turn}
+use Rattle.index.proofs.Laws.{element-end-past, inside-start, inside-end, inside-next, elements-next, elements-count, end-turn, concerned-rule, concerned-stops}
+use Rattle.elements.proofs.Laws.{elements-length, elements-split, inside-split, ends-split}
 use Rattle.tally.specs.Tally.{Sized}
 use Rattle.target.specs.Told.{NumbersWithin, entries-start, entries-part, NoRun, OneRun, TargetTold}
 use Rattle.target.specs.declared.Target.{Target}
@@ -182,14 +180,14 @@ record Reached (below : List ℕ → List ℕ → Bool) (index h : List ℕ) (n 
 module _ (below : List ℕ → List ℕ → Bool) (index h : List ℕ) (n : ℕ) where
   -- one element more is passed
   reached-next : (at k : ℕ) → Reached below index h n at (suc (suc k)) → below h (element-headword index (element-end index at + 1)) ≡ false → Reached below index h n (element-end index at + 1) (suc k)
-  unfolding Renewed.elements-end
+  unfolding Elements.elements-end
   reached-next at k v e =
       let p : n - suc k ≡ (n - suc (suc k)) + 1 = omega (arith, v .fewer) in
       record { fewer = omega (arith, v .fewer); start = rw (p, ends-split index 0 (n - suc (suc k)) 1, ← v .start); low = inl e }
 
   -- so stands the element concerned
   reached : (n ≡ 0 → ⊥) → Reached below index h n (concerned-from below index h 0 (n - 1) .at) (concerned-from below index h 0 (n - 1) .left)
-  unfolding Renewed.elements-end
+  unfolding Elements.elements-end
   reached z =
       let e : suc (n - 1) ≡ n = omega arith in
       let m : n - n ≡ 0 = omega arith in
@@ -209,7 +207,7 @@ part-same area b size p =
 module _ (index area h : List ℕ) (D n : ℕ) (none : n ≡ 0) where
   -- what is told then
   pub told-none : (rs : List Run) → runs-from format4 D area (elements-at index 0 n) ≡ ok rs → TargetTold index area n h rs (record { at = 0; end = 0; before = 0; after = 0; block = 0; size = 0 })
-  unfolding Elements.elements-at Renewed.elements-end target-run Place.target-split Place.target-of split-last Lists.split-first elements-bytes
+  unfolding Elements.elements-at Elements.elements-end target-run Place.target-split Place.target-of split-last Lists.split-first elements-bytes
   told-none rs r =
       let e : rs ≡ [] = no-runs format4 D area rs (rw none at r) in
       rw (e, none) (

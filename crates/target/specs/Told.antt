@@ -13,8 +13,7 @@ use Rattle.spec.specs.Run.{Run, entries-from}
 use Rattle.spec.specs.Index.{elements-bytes}
 use Rattle.spec.specs.Place as Place
 use Rattle.spec.specs.Place.{target-run, element-of}
-use Rattle.index.specs.Elements.{element-end, elements-at, Inside}
-use Rattle.elements.specs.Renewed.{elements-end}
+use Rattle.index.specs.Elements.{element-end, elements-at, elements-end, Inside}
 use Rattle.target.specs.declared.Target.{Target}
 
 -- no number of n elements from `at` on is above d

@@ -1,7 +1,6 @@
 -- The end of what is left is that of the whole.
 use mathlib.Core.Path.{_≡_}
-use Rattle.index.specs.Elements.{Inside}
-use Rattle.elements.specs.Renewed.{elements-end}
+use Rattle.index.specs.Elements.{elements-end, Inside}
 use Rattle.elements.proofs.Laws.{end-laws}
 use Rattle.elements.proofs.end_from.Statement.{statement}
 use Rattle.elements.proofs.end_from.Tie as tie

@@ -17,7 +17,7 @@ inspect-areas-requires : tie.Need-inspect-areas-requires
 inspect-areas-requires c κs = (search frame-read, ((search (frame-length-is, frame-read), search areas-index-few, search areas-data-few, search needs), search needs))
 
 returns : tie.Need-returns
-returns c = search areas-frame
+returns c = (search areas-frame, tt)
 
 same-length : tie.Need-same-length
 same-length c = search needs

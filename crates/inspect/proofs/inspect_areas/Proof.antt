@@ -1,5 +1,5 @@
 use Rattle.marks.proofs.Laws.{marks-zero}
-use Rattle.inspect.proofs.Laws.{areas-index, areas-inside, areas-runs, areas-read, index-few, data-long}
+use Rattle.inspect.proofs.Laws.{areas-index, areas-end, areas-inside, areas-runs, areas-read, index-few, data-long}
 use borrow.Author.Needs.{needs}
 use Rattle.inspect.proofs.inspect_areas.Statement.{statement}
 use Rattle.inspect.proofs.inspect_areas.Tie as tie
@@ -19,23 +19,26 @@ part-index-start c = search needs
 part-index-end : tie.Need-part-index-end
 part-index-end c = search needs
 
-sub-area : tie.Need-sub-area
-sub-area c = search needs
-
-part-area-start : tie.Need-part-area-start
-part-area-start c = search needs
-
-part-area-end : tie.Need-part-area-end
-part-area-end c = search needs
-
 nindex2-requires : tie.Need-nindex2-requires
 nindex2-requires c κs = search needs
 
-index-ok-requires : tie.Need-index-ok-requires
-index-ok-requires c κs = search needs
+read-index-requires : tie.Need-read-index-requires
+read-index-requires c κs = search needs
 
-returns : tie.Need-returns
-returns c = search areas-index
+enum-told : tie.Need-enum-told
+enum-told c = search needs
+
+enum-known-ended : tie.Need-enum-known-ended
+enum-known-ended c = search needs
+
+sub-read-runs : tie.Need-sub-read-runs
+sub-read-runs c = search needs
+
+part-read-runs-start : tie.Need-part-read-runs-start
+part-read-runs-start c = search needs
+
+part-read-runs-end : tie.Need-part-read-runs-end
+part-read-runs-end c = search needs
 
 slice-aggregate-read-runs : tie.Need-slice-aggregate-read-runs
 slice-aggregate-read-runs c = search needs
@@ -54,10 +57,22 @@ slice-aggregate-settle c = search needs
 
 settle-requires : tie.Need-settle-requires
 settle-requires c κs =
-    (areas-read _ _ _ (c .before .before .before .before .before .before .before .before .before .before .before .before .before .before .before .pre .0) _ (c .before .before .before .before .before .before .before .before .before .before .nindex2 .ensures .0) _ (c .before .before .before .before .before .before .before .before .before .index-ok .ensures) (c .before .before .before .before .before .before .before .before .if1 .left) _ _ _ 65536 (c .before .before .before .before .before .before .read-runs .ensures) (marks-zero 1024) (search) _ _ (search), ((search needs, search data-long, search needs, search needs, search needs), search needs))
+    let runs = c .before .before .before .before .before .before in
+    let index = runs .before .before .before .before .before .before in
+    let start = index .before .before .before .before .before in
+    let frame = start .pre .0 in
+    let number = index .before .nindex2 .ensures .0 in
+    let ends = index .read-index .ensures in
+    let end = runs .before .before .before .before .ended .given .0 .0 in (
+      areas-read _ _ _ frame _ number _ ends end (search) _ _ _ 65536 (runs .read-runs .ensures) (marks-zero 1024) (search) _ _ (search),
+      ((search needs, search needs, search needs, search needs), (areas-end _ _ _ frame _ number _ ends end (search), search needs)),
+    )
+
+returns : tie.Need-returns
+returns c = (search areas-index, tt)
 
 returns-2 : tie.Need-returns-2
-returns-2 c = search areas-runs
+returns-2 c = (search areas-runs, tt)
 
 same-length : tie.Need-same-length
 same-length c = search needs
@@ -74,18 +89,20 @@ inspect-areas-spec =
     sub-index
     part-index-start
     part-index-end
-    sub-area
-    part-area-start
-    part-area-end
     nindex2-requires
-    index-ok-requires
-    returns
+    read-index-requires
+    enum-told
+    enum-known-ended
+    sub-read-runs
+    part-read-runs-start
+    part-read-runs-end
     slice-aggregate-read-runs
     read-runs-requires
     enum-known-r
     enum-known-r-2
     slice-aggregate-settle
     settle-requires
+    returns
     returns-2
     same-length
     returns-3)

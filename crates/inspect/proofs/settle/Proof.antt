@@ -5,7 +5,22 @@ use Rattle.inspect.proofs.settle.Statement.{statement}
 use Rattle.inspect.proofs.settle.Tie as tie
 
 returns : tie.Need-returns
-returns c = search settle-laws
+returns c = (search settle-laws, tt)
+
+mul-area : tie.Need-mul-area
+mul-area c = search needs
+
+add-area : tie.Need-add-area
+add-area c = search needs
+
+sub-area : tie.Need-sub-area
+sub-area c = search needs
+
+part-area-start : tie.Need-part-area-start
+part-area-start c = search needs
+
+part-area-end : tie.Need-part-area-end
+part-area-end c = search needs
 
 empty-block2-requires : tie.Need-empty-block2-requires
 empty-block2-requires c κs = search needs
@@ -20,7 +35,7 @@ same-length-2 : tie.Need-same-length-2
 same-length-2 c = search needs
 
 returns-2 : tie.Need-returns-2
-returns-2 c = search settle-laws
+returns-2 c = (search settle-laws, tt)
 
 next-unmarked-requires : tie.Need-next-unmarked-requires
 next-unmarked-requires c κs = search needs
@@ -32,7 +47,7 @@ same-length-4 : tie.Need-same-length-4
 same-length-4 c = search needs
 
 returns-3 : tie.Need-returns-3
-returns-3 c = search settle-laws
+returns-3 c = (search settle-laws, tt)
 
 nword-requires : tie.Need-nword-requires
 nword-requires c κs = search needs
@@ -44,7 +59,7 @@ same-length-6 : tie.Need-same-length-6
 same-length-6 c = search needs
 
 returns-4 : tie.Need-returns-4
-returns-4 c = search settle-laws
+returns-4 c = (search settle-laws, tt)
 
 nblock2-requires : tie.Need-nblock2-requires
 nblock2-requires c κs = search needs
@@ -56,7 +71,7 @@ same-length-8 : tie.Need-same-length-8
 same-length-8 c = search needs
 
 returns-5 : tie.Need-returns-5
-returns-5 c = search settle-laws
+returns-5 c = (search settle-laws, tt)
 
 same-length-9 : tie.Need-same-length-9
 same-length-9 c = search needs
@@ -66,13 +81,27 @@ same-length-10 c = search needs
 
 returns-6 : tie.Need-returns-6
 returns-6 c =
-    settle-sound _ _ _ _ _ _ _ (c .before .before .before .before .before .before .before .before .before .before .before .before .before .before .before .before .before .before .before .before .before .pre .0) _ _ (search) _ (c .before .before .before .before .before .before .before .before .before .before .before .before .before .before .before .empty-block2 .ensures .0) _ (c .before .before .before .before .before .before .before .before .before .before .before .before .read-free-list .ensures .0) (c .before .before .before .before .before .before .before .if2 .left) _ (c .before .before .before .before .before .before .before .before .before .before .before .before .read-free-list .ensures .1 .0) _ (length-marks _) (search) _ (c .before .before .before .before .before .next-unmarked .ensures .0) (c .before .before .before .before .if3 .left) _ (c .before .before .before .nword .ensures .0) (search) _ (c .before .nblock2 .ensures .0) (search) _ (search) (search) (c .before .before .before .before .before .before .before .before .before .before .before .before .read-free-list .ensures .1 .1)
+    let counts = c .before .before .before in
+    let marks = counts .before .before in
+    let list = marks .before .before .before .before .before .before .before in
+    let start = list .before .before .before .before .before .before .before .before .before in
+    let read = list .read-free-list .ensures in (
+      settle-sound _ _ _ _ _ _ (start .pre .0) _ _ (search) _ (list .before .before .before .empty-block2 .ensures .0) _ (read .0) (marks .before .before .if2 .left)
+          _ (read .1 .0) _ (length-marks _) (search) _
+          (marks .next-unmarked .ensures .0) (counts .before .if3 .left) _ (counts .nword .ensures .0) (search) _ (c .before .nblock2 .ensures .0) (search) _ (search) (search) (read .1 .1) _,
+      start .pre .1 .1 .0,
+    )
 
 pub settle-spec : {M : Type 1} → statement M
 settle-spec =
     tie.close
     (tie.spec
     returns
+    mul-area
+    add-area
+    sub-area
+    part-area-start
+    part-area-end
     empty-block2-requires
     read-free-list-requires
     same-length

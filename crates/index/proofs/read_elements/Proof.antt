@@ -1,4 +1,4 @@
--- What is left of the index is accepted as the whole is.
+-- What is left of the index is accepted as the whole is, and ends where the whole ends.
 use Prim.Native.Nat.{_-_, _≤_}
 use mathlib.Core.Path.{_≡_}
 use mathlib.Core.List.{[]}
@@ -8,12 +8,17 @@ use Rattle.spec.specs.Outcome.{accepted}
 use Rattle.spec.specs.Bytes.{bytes-at}
 use Rattle.spec.specs.Header.{format4}
 use Rattle.spec.specs.Index.{elements-from}
+use Rattle.index.specs.Elements.{elements-end}
+use Rattle.index.proofs.Laws.{end-turn}
 use Rattle.index.proofs.Loops.{elements-laws, element-good}
-use Rattle.index.proofs.elements_ok.Statement.{statement}
-use Rattle.index.proofs.elements_ok.Tie as tie
+use Rattle.index.proofs.read_elements.Statement.{statement}
+use Rattle.index.proofs.read_elements.Tie as tie
 
 abbrev Inv-loop : tie.InvT-loop
-Inv-loop index n at₀ left₀ start₀ end₀ at left start end = (at ≤ length index) × (start ≤ end) × (end ≤ length index) × (accepted (elements-from format4 n [] index) ≡ accepted (elements-from format4 left (bytes-at start (end - start) index) (drop at index)))
+Inv-loop index n at₀ left₀ start₀ end₀ at left start end =
+    (at ≤ length index) × (start ≤ end) × (end ≤ length index)
+    × (accepted (elements-from format4 n [] index) ≡ accepted (elements-from format4 left (bytes-at start (end - start) index) (drop at index)))
+    × (elements-end index at left ≡ elements-end index 0 n)
 
 abbrev μ-loop : tie.MeasureT-loop
 μ-loop index n at₀ left₀ start₀ end₀ at left start end = left
@@ -82,7 +87,9 @@ loop-less : tie.Need-loop-less Inv-loop μ-loop
 loop-less c = search elements-laws
 
 loop-again : tie.Need-loop-again Inv-loop μ-loop
-loop-again c = (search needs, search needs, search needs, element-good _ _ _ _ _ _ (c .before .before .before .before .before .before .before .before .before .loop .inv .3) (search) (search) _ (search) (search) _ (c .before .is-below .ensures) (search) (search))
+loop-again c =
+    let so = c .before .before .before .before .before .before .before .before .before .loop .inv in
+    (search needs, search needs, search needs, element-good _ _ _ _ _ _ (so .3) (search) (search) _ (search) (search) _ (c .before .is-below .ensures) (search) (search), search end-turn)
 
 sub-if5 : tie.Need-sub-if5 Inv-loop μ-loop
 sub-if5 c = search elements-laws
@@ -96,8 +103,11 @@ all-zero-requires c κs = search elements-laws
 returns-6 : tie.Need-returns-6 Inv-loop μ-loop
 returns-6 c = search elements-laws
 
-pub elements-ok-spec : {M : Type 1} → statement M
-elements-ok-spec =
+returns-7 : tie.Need-returns-7 Inv-loop μ-loop
+returns-7 c = search elements-laws
+
+pub read-elements-spec : {M : Type 1} → statement M
+read-elements-spec =
     tie.close
     (tie.spec
     Inv-loop
@@ -127,4 +137,5 @@ elements-ok-spec =
     sub-if5
     returns-5
     all-zero-requires
-    returns-6)
+    returns-6
+    returns-7)
