@@ -26,10 +26,11 @@ use Rattle.spec.proofs.PlanLaws.{SoundPlan}
 use Rattle.marks.specs.Marks.{marks, with-range}
 use Rattle.marks.proofs.Laws.{length-marks}
 use Rattle.index.specs.Elements.{elements-at, elements-end}
+use Rattle.index.proofs.Laws.{ends-inside}
 use Rattle.header.proofs.Laws.{frame-index-few}
-use Rattle.inspect.specs.Overview.{AcceptedImage}
+use Rattle.inspect.specs.Overview.{index-end, AcceptedImage}
 use Rattle.inspect.proofs.Laws.{index-part, data-part, data-long}
-use Rattle.inspect.proofs.Accepted.{accepted-frame, accepted-blocks, accepted-whole, accepted-runs}
+use Rattle.inspect.proofs.Accepted.{accepted-frame, accepted-blocks, accepted-whole, accepted-inside, accepted-runs}
 use Rattle.placing.specs.Spread.{spread, Within}
 use Rattle.moves.specs.Moved.{noted, starts, freed}
 use Rattle.target.specs.declared.Target.{Target}
@@ -129,8 +130,9 @@ unfolding Check.image-from Header.format-of
 accepted-few o n d a = frame-index-few o n d (image-told format4 o (a .image) (a .is) .frame ∙ ap ok (accepted-frame o n d a))
 
 -- so its elements end early
-pub index-short : (o : List ℕ) (n d : ℕ) → AcceptedImage o n d → (e : ℕ) → e ≤ length (index-part o n) → e ≤ 8_388_352
-index-short o n d a e p = omega (arith, accepted-few o n d a, length-take (256 + 256 * n - 256) (drop 256 o))
+pub index-short : (o : List ℕ) (n d : ℕ) → AcceptedImage o n d → (e : ℕ) → e ≡ index-end o n → e ≤ 8_388_352
+index-short o n d a e p =
+    omega (arith, accepted-few o n d a, length-take (256 + 256 * n - 256) (drop 256 o), ends-inside (index-part o n) 0 (get (layout4 .nindex2) o) (accepted-inside o n d a (get (layout4 .nindex2) o) refl))
 
 -- an index does not grow by more than these bytes
 pub growth-few : (n k b : ℕ) → growth n k b ≤ b + 4
@@ -151,8 +153,8 @@ module _ (o : List ℕ) (n d : ℕ) (a : AcceptedImage o n d) (e : ℕ) (number 
     told = found (a .image .runs) (accepted-runs o n d a e number)
 
     -- the run concerned has its element among all
-    pub element-short : t .end - t .at ≤ elements-end (index-part o n) 0 e
-    element-short = omega (arith, told .bytes)
+    pub element-short : (end : ℕ) → end ≡ index-end o n → t .end - t .at ≤ end
+    element-short end p = omega (arith, told .bytes, ap (elements-end (index-part o n) 0) number)
 
     -- and its blocks among those of all runs
     pub blocks-short : (b : ℕ) → b ≡ get (layout4 .nblock2) o → t .size ≤ b
@@ -161,10 +163,10 @@ module _ (o : List ℕ) (n d : ℕ) (a : AcceptedImage o n d) (e : ℕ) (number 
     -- so the change is measured
     pub drafted : (body : List ℕ) (fresh there : Bool) (from end b g parts bytes blocks : ℕ) → t .block + t .size ≤ d → from ≡ entries-start (t .block) (t .size)
         → Measured (map new-run (cut 1_024 (changed-entries (take (256 * (t .block + t .size) - from) (drop from (data-part o n))) h body fresh))) parts bytes blocks
-        → end ≡ elements-end (index-part o n) 0 e → b ≡ get (layout4 .nblock2) o → g ≡ growth n (t .before + t .after + parts) (end - (t .end - t .at) + bytes)
-        → end ≤ 8_388_352 → bytes ≤ 2_105_540_859 → there ≡ is-there (lookup h (entries-left format4 [] (take (256 * (t .block + t .size) - from) (drop from (data-part o n)))))
+        → end ≡ index-end o n → b ≡ get (layout4 .nblock2) o → g ≡ growth n (t .before + t .after + parts) (end - (t .end - t .at) + bytes)
+        → bytes ≤ 2_105_540_859 → there ≡ is-there (lookup h (entries-left format4 [] (take (256 * (t .block + t .size) - from) (drop from (data-part o n)))))
         → Drafted o n d h body fresh (record { n = n; d = d; target = t; found = there; g = g; elements = t .before + t .after + parts; blocks = b - t .size + blocks })
-    drafted body fresh there from end b g parts bytes blocks p ef m ee eb eg le lb ft =
+    drafted body fresh there from end b g parts bytes blocks p ef m ee eb eg lb ft =
         record {
           accepted = a;
           told = λ i is. subst (λ (x : Image). TargetTold (index-part o n) (data-part o n) (get (layout4 .nindex2) o) h (x .runs) t) (same-value (a .image) i (sym (a .is) ∙ is)) (subst (λ (x : ℕ). TargetTold (index-part o n) (data-part o n) x h (a .image .runs) t) number told);
@@ -174,8 +176,8 @@ module _ (o : List ℕ) (n d : ℕ) (a : AcceptedImage o n d) (e : ℕ) (number 
           bytes = bytes;
           run-blocks = blocks;
           measured = subst (λ (x : List ℕ). Measured (map new-run (cut 1_024 (changed-entries x h body fresh))) parts bytes blocks) (run-cut (data-part o n) (t .block) (t .size) from ef) m;
-          growth-is = eg ∙ ap (λ (x : ℕ). growth n (t .before + t .after + parts) (x - (t .end - t .at) + bytes)) (ee ∙ ap (elements-end (index-part o n) 0) number);
-          growth-few = omega (arith, eg, le, lb, growth-few n (t .before + t .after + parts) (end - (t .end - t .at) + bytes));
+          growth-is = eg ∙ ap (λ (x : ℕ). growth n (t .before + t .after + parts) (x - (t .end - t .at) + bytes)) ee;
+          growth-few = omega (arith, eg, index-short o n d a end ee, lb, growth-few n (t .before + t .after + parts) (end - (t .end - t .at) + bytes));
           elements-are = refl;
           blocks-are = ap (λ (x : ℕ). x - t .size + blocks) eb;
         }

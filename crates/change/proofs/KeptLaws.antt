@@ -25,9 +25,9 @@ use Rattle.spec.proofs.BytesLaws.{length-zeros, Small, small-part, bytes-of}
 use Rattle.spec.proofs.PartLaws.{length-bytes-at, rest-at}
 use Rattle.spec.proofs.WriteLaws.{bytes-at-within, bytes-at-write, take-write, length-write, written-front, write-same, write-behind, written-behind}
 use Rattle.spec.proofs.StoredIndexLaws.{index-stored}
-use Rattle.index.specs.Elements.{element-end, elements-at, Inside}
-use Rattle.elements.specs.Renewed as Renewed
-use Rattle.elements.specs.Renewed.{elements-end, renewed}
+use Rattle.index.specs.Elements.{elements-at, elements-end, Inside}
+use Rattle.index.proofs.Laws.{ends-inside}
+use Rattle.elements.specs.Renewed.{renewed}
 use Rattle.elements.proofs.Laws.{elements-length, elements-stand, renewed-none-all}
 use Rattle.inspect.specs.Overview.{AcceptedImage}
 use Rattle.inspect.proofs.Laws.{index-part, data-part, index-told}
@@ -123,12 +123,6 @@ small-get (x ∷ l) (suc k) (p, ps) = small-get l k ps
 inside-at : (index : List ℕ) (at n : ℕ) → Inside index at n → at ≤ length index
 inside-at index at zero i = i
 inside-at index at (suc n) i = omega (arith, i .0)
-
--- and end inside it
-ends-inside : (index : List ℕ) (at n : ℕ) → Inside index at n → elements-end index at n ≤ length index
-unfolding Renewed.elements-end
-ends-inside index at zero i = i
-ends-inside index at (suc n) i = ends-inside index (element-end index at + 1) n (i .2)
 
 -- bytes that stand in front of the end of a list that zeros fill
 zeros-behind : (index x y : List ℕ) (at m : ℕ) → index ≡ x ++ zeros m → length x ≡ at + length y → bytes-at at (length y) index ≡ y → drop at index ≡ y ++ zeros m

@@ -16,7 +16,7 @@ ghost use Rattle.marks.specs.Marks.{marks};
 ghost use Rattle.index.specs.Elements.{Inside};
 ghost use Rattle.placing.specs.Spread.{spread};
 ghost use Rattle.chain.specs.Numbers.{numbers};
-ghost use Rattle.inspect.specs.Overview.{AcceptedImage};
+ghost use Rattle.inspect.specs.Overview.{index-end, AcceptedImage};
 ghost use Rattle.change.specs.Ready.{growth, planned, parts-of, Displaced, Ready, Roomy, Areas, Sealed, Written, Changed};
 ghost use Rattle.change.specs.Drafted.{PlannedEnd, Drafted, Begun};
 ghost use Rattle.change.specs.Kept.{fitted, Saved};
@@ -332,11 +332,19 @@ fn displace(
     moves::place_moved(area, d, numbers, g, free, placing::larger(d, g), 65536 + g)
 }
 
-// Measures a change in an accepted image of n index blocks and d data blocks: the entry with the headword h goes, and a new one
-// with that body enters, if it is fresh.
-pub fn measure_change(old: &[u8], n: usize, d: usize, h: &[u8], body: &[u8], fresh: bool) -> Draft
+// Measures a change in an accepted image of n index blocks and d data blocks, whose elements end at `end` in the index: the entry
+// with the headword h goes, and a new one with that body enters, if it is fresh.
+pub fn measure_change(
+    old: &[u8],
+    n: usize,
+    d: usize,
+    end: usize,
+    h: &[u8],
+    body: &[u8],
+    fresh: bool,
+) -> Draft
     requires { ⌜ AcceptedImage (now old) n d ⌝ }
-    requires { ⌜ (length (now old) % 256 ≡ 0) × (headword-ok (now h) ≡ true) × (length (now body) ≤ 3001) ⌝ }
+    requires { ⌜ (length (now old) % 256 ≡ 0) × (headword-ok (now h) ≡ true) × (length (now body) ≤ 3001) × (end ≡ index-end (now old) n) ⌝ }
     ensures { λ r. ⌜ Drafted (now (old .entry)) (r .n) (r .d) (now (h .entry)) (now (body .entry)) fresh r ⌝ }
 {
     let start = 256 + 256 * n;
@@ -347,7 +355,7 @@ pub fn measure_change(old: &[u8], n: usize, d: usize, h: &[u8], body: &[u8], fre
     let from = target::entries_start(t.block, t.size);
     let m = parts::measure(&area[from..256 * (t.block + t.size)], h, body, fresh);
     let count = t.before + t.after + m.parts;
-    let bytes = elements::elements_end(index, elements) - (t.end - t.at) + m.bytes;
+    let bytes = end - (t.end - t.at) + m.bytes;
     Draft {
         n: n,
         d: d,

@@ -2,7 +2,7 @@
 ghost use mathlib.Core.Path.{_≡_};
 ghost use mathlib.Core.Bool.{false};
 ghost use mathlib.Core.List.{_++_};
-ghost use Prim.Native.Nat.{_+_, _-_, _*_, _%_, _<_, _≤_};
+ghost use Prim.Native.Nat.{_-_, _%_, _<_, _≤_};
 ghost use lib.ListN.{length, take, replicate};
 ghost use Rattle.spec.specs.Outcome.{ok};
 ghost use Rattle.spec.specs.Blocks.{free-marks};
@@ -10,7 +10,7 @@ ghost use Rattle.spec.specs.Check.{Image, image-from, entries-of};
 ghost use Rattle.spec.specs.Calls.{create, insert, delete, optimise};
 ghost use Rattle.spec.specs.Answers.{length-answer, delete-answer};
 ghost use Rattle.marks.specs.Marks.{marks};
-ghost use Rattle.inspect.specs.Overview.{AcceptedImage};
+ghost use Rattle.inspect.specs.Overview.{index-end, AcceptedImage};
 ghost use Rattle.editor.specs.Entered.{words-after};
 use inspect::Inspected;
 use spec::DeleteAnswer;
@@ -38,13 +38,14 @@ fn words_after(words: usize, replaced: bool) -> usize
     words + 1
 }
 
-// Insert in an accepted image: rows 11, 12, 13 and 15, and the insertion.
+// Insert in an accepted image, whose elements end at `end` in the index: rows 11, 12, 13 and 15, and the insertion.
 fn insert_in(
     image: &mut [u8],
     len: usize,
     work: &mut [u8],
     n: usize,
     d: usize,
+    end: usize,
     words: usize,
     free: &mut [u64],
     headword: &[u8],
@@ -52,7 +53,7 @@ fn insert_in(
     text: &[u8],
 ) -> LengthAnswer
     requires { ⌜ AcceptedImage (take len (now image)) n d ⌝ }
-    requires { ⌜ (256 ≤ len) × (len % 256 ≡ 0) × (len ≤ length (now image)) × (length (now image) ≤ length (now work)) × (length (now free) ≡ 2560) ⌝ }
+    requires { ⌜ (256 ≤ len) × (len % 256 ≡ 0) × (len ≤ length (now image)) × (length (now image) ≤ length (now work)) × (length (now free) ≡ 2560) × (end ≡ index-end (take len (now image)) n) ⌝ }
     requires { ⌜ ((i : Image) → image-from (take len (now image)) ≡ ok i → marks (now free) ≡ free-marks (i .frame .data-blocks) (i .free-list) ++ replicate (163840 - i .frame .data-blocks) false) ⌝ }
     requires { ⌜ ((i : Image) → image-from (take len (now image)) ≡ ok i → words ≡ length (entries-of i)) ⌝ }
     requires { ⌜ words < 4294967296 ⌝ }
@@ -76,7 +77,7 @@ fn insert_in(
     byteops::write_u8(&mut body, 0, attribute);
     byteops::copy(&mut body, 1, text, 0, text.len());
     let new = &body[..1 + text.len()];
-    let p = change::measure_change(&image[..len], n, d, headword, new, true);
+    let p = change::measure_change(&image[..len], n, d, end, headword, new, true);
     let all = words_after(words, p.found);
     let r = change::change(image, len, work, p, free, headword, new, true, all);
     if r == 0 {
@@ -107,13 +108,14 @@ fn insert_tested(
             words,
             index,
             area,
-            end: _,
+            end,
         } => insert_in(
             image,
             len,
             work,
             index,
             area,
+            end,
             words,
             &mut free,
             headword,
@@ -145,19 +147,20 @@ pub fn insert(
     r
 }
 
-// Delete in an accepted image: rows 11, 12 and 15, and the deletion.
+// Delete in an accepted image, whose elements end at `end` in the index: rows 11, 12 and 15, and the deletion.
 fn delete_in(
     image: &mut [u8],
     len: usize,
     work: &mut [u8],
     n: usize,
     d: usize,
+    end: usize,
     words: usize,
     free: &mut [u64],
     headword: &[u8],
 ) -> DeleteAnswer
     requires { ⌜ AcceptedImage (take len (now image)) n d ⌝ }
-    requires { ⌜ (256 ≤ len) × (len % 256 ≡ 0) × (len ≤ length (now image)) × (length (now image) ≤ length (now work)) × (length (now free) ≡ 2560) ⌝ }
+    requires { ⌜ (256 ≤ len) × (len % 256 ≡ 0) × (len ≤ length (now image)) × (length (now image) ≤ length (now work)) × (length (now free) ≡ 2560) × (end ≡ index-end (take len (now image)) n) ⌝ }
     requires { ⌜ ((i : Image) → image-from (take len (now image)) ≡ ok i → marks (now free) ≡ free-marks (i .frame .data-blocks) (i .free-list) ++ replicate (163840 - i .frame .data-blocks) false) ⌝ }
     requires { ⌜ ((i : Image) → image-from (take len (now image)) ≡ ok i → words ≡ length (entries-of i)) ⌝ }
     ensures { λ r. ⌜ delete-answer r ≡ delete (now (image .entry)) len (now (work .entry)) (now (headword .entry)) .answer ⌝ }
@@ -171,7 +174,7 @@ fn delete_in(
         return DeleteAnswer::Refused(12);
     }
     let none = [0u8; 1];
-    let p = change::measure_change(&image[..len], n, d, headword, &none, false);
+    let p = change::measure_change(&image[..len], n, d, end, headword, &none, false);
     if !p.found {
         return DeleteAnswer::Absent;
     }
@@ -197,8 +200,18 @@ fn delete_tested(image: &mut [u8], len: usize, work: &mut [u8], headword: &[u8])
             words,
             index,
             area,
-            end: _,
-        } => delete_in(image, len, work, index, area, words, &mut free, headword),
+            end,
+        } => delete_in(
+            image,
+            len,
+            work,
+            index,
+            area,
+            end,
+            words,
+            &mut free,
+            headword,
+        ),
     }
 }
 

@@ -17,7 +17,7 @@ use Rattle.scans.specs.Scan.{zero-offset}
 use Rattle.scans.proofs.Laws.{split-zero-some}
 use Rattle.spec.proofs.WriteLaws.{write-none, written-behind}
 use Rattle.index.specs.Elements.{element-end, element-headword, element-at, elements-at, elements-end, Inside}
-use Rattle.index.proofs.Laws.{element-end-past, element-headword-length, inside-start, here-end, here-next, elements-next, end-turn, end-last}
+use Rattle.index.proofs.Laws.{element-end-past, element-headword-length, inside-start, here-end, here-next, elements-next}
 use Rattle.elements.specs.Renewed.{number-after, renewed}
 
 -- ---- the lengths of elements
@@ -143,15 +143,6 @@ element-put d d₁ d₂ d₃ h at number e₁ e₂ e₃ fits =
     let m : length (x ++ h) ≡ length x + length h = length-append x h in
     let s : d₂ ≡ write at (x ++ h) d = written-behind d d₁ d₂ x h at (at + 2) (omega arith) (omega arith) e₁ (rw a at e₂) in
     written-behind d d₂ d₃ (x ++ h) (0 ∷ []) at (at + 2 + length h) (omega arith) (omega arith) s e₃
-
--- ---- end_from: of what is left the end is that of the whole
--- the end is inside the index
-pub end-inside : (index : List ℕ) (at left : ℕ) → Inside index at left → left ≤ 0 → at ≤ length index
-end-inside index at zero i p = i
-end-inside index at (suc left) i p = absurd (omega arith)
-
--- every need of end_from
-pub ruleset end-laws = (inside-start, here-end, here-next, end-turn, end-last, end-inside, needs)
 
 -- ---- copy_elements: what is left, written where the code stands, is the whole written
 -- elements with their numbers renewed, as they are written

@@ -6,7 +6,7 @@ ghost use lib.ListN.{length};
 ghost use Rattle.spec.specs.Bytes.{write};
 ghost use Rattle.spec.specs.Header.{format4};
 ghost use Rattle.spec.specs.Index.{element-bytes, elements-bytes};
-ghost use Rattle.index.specs.Elements.{elements-at, elements-end, Inside};
+ghost use Rattle.index.specs.Elements.{elements-at, Inside};
 ghost use Rattle.elements.specs.Renewed.{number-after, renewed};
 use byteops::read_u16;
 use index::element_end;
@@ -23,30 +23,6 @@ pub fn put_element(dst: &mut [u8], at: usize, number: usize, headword: &[u8]) ->
     byteops::copy(dst, at + 2, headword, 0, n);
     byteops::write_u8(dst, at + 2 + n, 0);
     at + 3 + n
-}
-
-// Where the n elements from `from` on end.
-fn end_from(index: &[u8], from: usize, n: usize) -> usize
-    requires { ⌜ Inside (now index) from n ⌝ }
-    ensures { λ r. ⌜ r ≡ elements-end (now (index .entry)) from n ⌝ }
-    ensures { λ r. ⌜ r ≤ length (now (index .entry)) ⌝ }
-{
-    let mut at = from;
-    let mut left = n;
-    while 0 < left {
-        at = element_end(index, at) + 1;
-        left -= 1;
-    }
-    at
-}
-
-// Where n elements end.
-pub fn elements_end(index: &[u8], n: usize) -> usize
-    requires { ⌜ Inside (now index) 0 n ⌝ }
-    ensures { λ r. ⌜ r ≡ elements-end (now (index .entry)) 0 n ⌝ }
-    ensures { λ r. ⌜ r ≤ length (now (index .entry)) ⌝ }
-{
-    end_from(index, 0, n)
 }
 
 // A number of the table.

@@ -1,5 +1,4 @@
 -- `measure_change` meets its contract.
-use Prim.Native.Nat.{_+_, _-_}
 use native.Mathlib.Omega.{arith}
 use Rattle.inspect.proofs.Accepted.{accepted-index, accepted-blocks, accepted-area, accepted-inside}
 use Rattle.change.proofs.Laws.{run-short}
@@ -69,49 +68,119 @@ add-count-2 c =
     let m = c .before .before .measure .ensures .1 .0 in
     omega (arith, m .0, c .before .before .before .before .before .before .find-run .ensures .1 .4, c .before .before .before .before .before .before .before .nindex2 .ensures .1)
 
-elements-end-requires : tie.Need-elements-end-requires
-elements-end-requires c κs = accepted-inside _ _ _ (c .before .before .before .before .before .before .before .before .before .before .before .before .before .pre .0) _ (c .before .before .before .before .before .before .before .nindex2 .ensures .0)
-
 sub-bytes : tie.Need-sub-bytes
 sub-bytes c = search needs
 
 sub-bytes-2 : tie.Need-sub-bytes-2
-sub-bytes-2 c = omega (arith, c .before .elements-end .ensures .0, element-short _ _ _ (c .before .before .before .before .before .before .before .before .before .before .before .before .before .before .before .pre .0) _ (c .before .before .before .before .before .before .before .before .before .nindex2 .ensures .0) _ _ (c .before .before .before .before .before .before .before .before .find-run .ensures .0))
+sub-bytes-2 c = element-short _ _ _ (start .pre .0) _ (counted .nindex2 .ensures .0) _ _ (found .find-run .ensures .0) _ (start .pre .1 .3)
+  where
+    found : tie.After-find-run
+    found = search
+
+    counted : tie.After-nindex2
+    counted = search found
+
+    start : tie.Start
+    start = search counted
 
 add-bytes : tie.Need-add-bytes
 add-bytes c =
-    let m = c .before .before .before .before .before .measure .ensures .1 .0 in
-    let i = index-short (c .before .before .before .before .before .before .before .before .before .before .before .before .before .before .before .before .args .old .now) (c .before .before .before .before .before .before .before .before .before .before .before .before .before .before .before .before .args .n) (c .before .before .before .before .before .before .before .before .before .before .before .before .before .before .before .before .args .d) (c .before .before .before .before .before .before .before .before .before .before .before .before .before .before .before .before .pre .0) _ (c .before .before .elements-end .ensures .1) in
+    let m = measured .measure .ensures .1 .0 in
+    let i = index-short (start .args .old .now) (start .args .n) (start .args .d) (start .pre .0) _ (start .pre .1 .3) in
     omega (arith, m .1, i)
+  where
+    measured : tie.After-measure
+    measured = search
+
+    counted : tie.After-nindex2
+    counted = search measured
+
+    start : tie.Start
+    start = search counted
 
 growth-requires : tie.Need-growth-requires
 growth-requires c κs =
-    let m = c .before .before .before .before .before .measure .ensures .1 .0 in
-    let i = index-short (c .before .before .before .before .before .before .before .before .before .before .before .before .before .before .before .before .args .old .now) (c .before .before .before .before .before .before .before .before .before .before .before .before .before .before .before .before .args .n) (c .before .before .before .before .before .before .before .before .before .before .before .before .before .before .before .before .args .d) (c .before .before .before .before .before .before .before .before .before .before .before .before .before .before .before .before .pre .0) _ (c .before .before .elements-end .ensures .1) in
+    let m = measured .measure .ensures .1 .0 in
+    let i = index-short (start .args .old .now) (start .args .n) (start .args .d) (start .pre .0) _ (start .pre .1 .3) in
     omega (arith, m .1, i)
+  where
+    measured : tie.After-measure
+    measured = search
+
+    counted : tie.After-nindex2
+    counted = search measured
+
+    start : tie.Start
+    start = search counted
 
 nblock2-requires : tie.Need-nblock2-requires
-nblock2-requires c κs = omega (arith, accepted-index _ _ _ (c .before .before .before .before .before .before .before .before .before .before .before .before .before .before .before .before .before .pre .0))
+nblock2-requires c κs = omega (arith, accepted-index _ _ _ (start .pre .0))
+  where
+    measured : tie.After-measure
+    measured = search
 
-sub-t16 : tie.Need-sub-t16
-sub-t16 c = blocks-short _ _ _ (c .before .before .before .before .before .before .before .before .before .before .before .before .before .before .before .before .before .before .before .pre .0) _ (c .before .before .before .before .before .before .before .before .before .before .before .before .before .nindex2 .ensures .0) _ _ (c .before .before .before .before .before .before .before .before .before .before .before .before .find-run .ensures .0) _ (c .before .nblock2 .ensures .0)
+    counted : tie.After-nindex2
+    counted = search measured
 
-add-t26 : tie.Need-add-t26
-add-t26 c =
-    let m = c .before .before .before .before .before .before .before .before .before .measure .ensures .1 .0 in
-    omega (arith, m .2, c .before .before .nblock2 .ensures .1)
+    start : tie.Start
+    start = search counted
+
+sub-t24 : tie.Need-sub-t24
+sub-t24 c = blocks-short _ _ _ (start .pre .0) _ (counted .nindex2 .ensures .0) _ _ (found .find-run .ensures .0) _ (held .nblock2 .ensures .0)
+  where
+    held : tie.After-nblock2
+    held = search
+
+    measured : tie.After-measure
+    measured = search held
+
+    found : tie.After-find-run
+    found = search measured
+
+    counted : tie.After-nindex2
+    counted = search found
+
+    start : tie.Start
+    start = search counted
+
+add-t27 : tie.Need-add-t27
+add-t27 c =
+    let m = measured .measure .ensures .1 .0 in
+    omega (arith, m .2, held .nblock2 .ensures .1)
+  where
+    held : tie.After-nblock2
+    held = search
+
+    measured : tie.After-measure
+    measured = search held
 
 returns : tie.Need-returns
 returns c =
-    let a = c .before .before .before .before .before .before .before .before .before .before .before .before .before .before .before .before .before .before .before .before .args in
-    let k = c .before .before .before .before .before .before .before .before .before .before .before .before .before .before .before .before .before .before .before .before .pre .0 in
-    let n = c .before .before .before .before .before .before .before .before .before .before .before .before .before .before .nindex2 .ensures .0 in
-    let f = c .before .before .before .before .before .before .before .before .before .before .before .before .before .find-run in
-    let s = c .before .before .before .before .before .before .before .before .before .before .before .before .entries-start .ensures .0 in
-    let m = c .before .before .before .before .before .before .before .before .before .measure .ensures in
-    let e = c .before .before .before .before .before .before .elements-end .ensures in
-    drafted (a .old .now) (a .n) (a .d) k _ n (a .h .now) (f .result) (f .ensures .0) (a .body .now) (a .fresh) _ _ _ _ _ _ _ _ (f .ensures .1 .0) s (m .0) (e .0)
-    (c .before .before .nblock2 .ensures .0) (c .before .before .before .growth .ensures) (index-short (a .old .now) (a .n) (a .d) k _ (e .1)) (m .1 .0 .1) (m .1 .1)
+    let a = start .args in
+    let m = measured .measure .ensures in
+    drafted (a .old .now) (a .n) (a .d) (start .pre .0) _ (counted .nindex2 .ensures .0) (a .h .now) (found .find-run .result) (found .find-run .ensures .0) (a .body .now) (a .fresh)
+    _ _ _ _ _ _ _ _ (found .find-run .ensures .1 .0) (begun .entries-start .ensures .0) (m .0) (start .pre .1 .3) (held .nblock2 .ensures .0) (grown .growth .ensures) (m .1 .0 .1) (m .1 .1)
+  where
+    held : tie.After-nblock2
+    held = search
+
+    grown : tie.After-growth
+    grown = search held
+
+    measured : tie.After-measure
+    measured = search grown
+
+    begun : tie.After-entries-start
+    begun = search measured
+
+    found : tie.After-find-run
+    found = search begun
+
+    counted : tie.After-nindex2
+    counted = search found
+
+    start : tie.Start
+    start = search counted
 
 pub measure-change-spec : {M : Type 1} → statement M
 measure-change-spec =
@@ -136,12 +205,11 @@ measure-change-spec =
     measure-requires
     add-count
     add-count-2
-    elements-end-requires
     sub-bytes
     sub-bytes-2
     add-bytes
     growth-requires
     nblock2-requires
-    sub-t16
-    add-t26
+    sub-t24
+    add-t27
     returns)

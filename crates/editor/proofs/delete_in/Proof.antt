@@ -51,7 +51,7 @@ good c = head-good (start c .args .headword .now) _ (c .before .headword-ok .ens
 measure-change-requires : tie.Need-measure-change-requires
 measure-change-requires c κs =
     let p = start (c .before .before) .pre in
-    (p .0, (front-blocks _ _ (p .1 .0 .2) (p .1 .0 .1), good (c .before .before), search needs))
+    (p .0, (front-blocks _ _ (p .1 .0 .2) (p .1 .0 .1), good (c .before .before), search needs, p .1 .0 .5))
 
 same-length-3 : tie.Need-same-length-3
 same-length-3 c = search needs

@@ -4,10 +4,10 @@ use lib.ListN.{length, take}
 use Rattle.spec.specs.Outcome.{ok}
 use Rattle.spec.specs.Check.{Image, image-from, entries-of}
 use Rattle.marks.proofs.Laws.{marks-zero}
-use Rattle.inspect.specs.Overview.{AcceptedImage}
+use Rattle.inspect.specs.Overview.{index-end, AcceptedImage}
 use Rattle.parts.proofs.Laws.{first-bytes}
 use Rattle.change.proofs.FinishLaws.{front-blocks}
-use Rattle.inspect.proofs.Accepted.{front-header, is-accepted, words-are, free-are}
+use Rattle.inspect.proofs.Accepted.{front-header, is-accepted, words-are, end-is, free-are}
 use Rattle.editor.proofs.Rows.{delete-refused}
 use borrow.Author.Needs.{needs}
 use Rattle.editor.proofs.delete_tested.Statement.{statement}
@@ -20,6 +20,10 @@ accepted c = search is-accepted
 -- with so many entries
 counted : (c : tie.After-known-told2) (i : Image) → image-from (take (c .before .before .before .before .before .before .before .before .before .before .args .len) (c .before .before .before .before .before .before .before .before .before .before .args .image .now)) ≡ ok i → c .before .r2 .given .0 .0 ≡ length (entries-of i)
 counted c = search words-are
+
+-- its elements end there
+ends : (c : tie.After-known-told2) → c .before .r2 .given .0 .1 .1 .1 .0 ≡ index-end (take (c .before .before .before .before .before .before .before .before .before .before .args .len) (c .before .before .before .before .before .before .before .before .before .before .args .image .now)) (c .before .r2 .given .0 .1 .0)
+ends c = search end-is
 
 slice-reshare-prefix-inspect : tie.Need-slice-reshare-prefix-inspect
 slice-reshare-prefix-inspect c = search needs
@@ -43,7 +47,7 @@ slice-aggregate-delete-in : tie.Need-slice-aggregate-delete-in
 slice-aggregate-delete-in c = search needs
 
 delete-in-requires : tie.Need-delete-in-requires
-delete-in-requires c κs = (accepted (c .before .before .before), ((c .before .before .before .before .before .before .before .before .before .before .before .before .before .pre .0, c .before .before .before .before .before .before .before .before .before .before .before .before .before .pre .1, c .before .before .before .before .before .before .before .before .before .before .before .before .before .pre .2, c .before .before .before .before .before .before .before .before .before .before .before .before .before .pre .3, search needs), (search free-are, counted (c .before .before .before))))
+delete-in-requires c κs = (accepted (c .before .before .before), ((c .before .before .before .before .before .before .before .before .before .before .before .before .before .pre .0, c .before .before .before .before .before .before .before .before .before .before .before .before .before .pre .1, c .before .before .before .before .before .before .before .before .before .before .before .before .before .pre .2, c .before .before .before .before .before .before .before .before .before .before .before .before .before .pre .3, search needs, ends (c .before .before .before)), (search free-are, counted (c .before .before .before))))
 
 same-length : tie.Need-same-length
 same-length c = search needs

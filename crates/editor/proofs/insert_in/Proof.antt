@@ -107,7 +107,7 @@ entry-good c =
 measure-change-requires : tie.Need-measure-change-requires
 measure-change-requires c κs =
     let p = start (c .before .before) .pre in
-    (p .0, (front-blocks _ _ (p .1 .0 .2) (p .1 .0 .1), entry-good (c .before .before) .0, entry-good (c .before .before) .1))
+    (p .0, (front-blocks _ _ (p .1 .0 .2) (p .1 .0 .1), entry-good (c .before .before) .0, entry-good (c .before .before) .1, p .1 .0 .5))
 
 words-after-requires : tie.Need-words-after-requires
 words-after-requires c κs = start (c .before .before .before) .pre .1 .1 .1 .1

@@ -5,10 +5,10 @@ use lib.ListN.{length, take}
 use Rattle.spec.specs.Outcome.{ok}
 use Rattle.spec.specs.Check.{Image, image-from, entries-of}
 use Rattle.marks.proofs.Laws.{marks-zero}
-use Rattle.inspect.specs.Overview.{AcceptedImage}
+use Rattle.inspect.specs.Overview.{index-end, AcceptedImage}
 use Rattle.parts.proofs.Laws.{first-bytes}
 use Rattle.change.proofs.FinishLaws.{front-blocks}
-use Rattle.inspect.proofs.Accepted.{front-header, is-accepted, words-are, free-are}
+use Rattle.inspect.proofs.Accepted.{front-header, is-accepted, words-are, end-is, free-are}
 use Rattle.editor.proofs.Rows.{words-few, insert-refused}
 use borrow.Author.Needs.{needs}
 use Rattle.editor.proofs.insert_tested.Statement.{statement}
@@ -21,6 +21,10 @@ accepted c = search is-accepted
 -- with so many entries
 counted : (c : tie.After-known-told2) (i : Image) → image-from (take (c .before .before .before .before .before .before .before .before .before .before .before .args .len) (c .before .before .before .before .before .before .before .before .before .before .before .args .image .now)) ≡ ok i → c .before .r2 .given .0 .0 ≡ length (entries-of i)
 counted c = search words-are
+
+-- its elements end there
+ends : (c : tie.After-known-told2) → c .before .r2 .given .0 .1 .1 .1 .0 ≡ index-end (take (c .before .before .before .before .before .before .before .before .before .before .before .args .len) (c .before .before .before .before .before .before .before .before .before .before .before .args .image .now)) (c .before .r2 .given .0 .1 .0)
+ends c = search end-is
 
 slice-reshare-prefix-inspect : tie.Need-slice-reshare-prefix-inspect
 slice-reshare-prefix-inspect c = search needs
@@ -44,7 +48,7 @@ slice-aggregate-insert-in : tie.Need-slice-aggregate-insert-in
 slice-aggregate-insert-in c = search needs
 
 insert-in-requires : tie.Need-insert-in-requires
-insert-in-requires c κs = (accepted (c .before .before .before), ((c .before .before .before .before .before .before .before .before .before .before .before .before .before .before .pre .0, c .before .before .before .before .before .before .before .before .before .before .before .before .before .before .pre .1, c .before .before .before .before .before .before .before .before .before .before .before .before .before .before .pre .2, c .before .before .before .before .before .before .before .before .before .before .before .before .before .before .pre .3, search needs), (search free-are, (counted (c .before .before .before), words-few _ _ (c .before .before .before .before .before .before .before .before .before .before .before .before .before .before .pre .2) (c .before .before .before .before .before .before .before .before .before .before .before .before .before .before .pre .0) (λ k. omega (arith, c .before .before .before .before .before .before .before .before .before .before .before .before .before .slice-known .given k)) _ _ (accepted (c .before .before .before)) _ (counted (c .before .before .before))))))
+insert-in-requires c κs = (accepted (c .before .before .before), ((c .before .before .before .before .before .before .before .before .before .before .before .before .before .before .pre .0, c .before .before .before .before .before .before .before .before .before .before .before .before .before .before .pre .1, c .before .before .before .before .before .before .before .before .before .before .before .before .before .before .pre .2, c .before .before .before .before .before .before .before .before .before .before .before .before .before .before .pre .3, search needs, ends (c .before .before .before)), (search free-are, (counted (c .before .before .before), words-few _ _ (c .before .before .before .before .before .before .before .before .before .before .before .before .before .before .pre .2) (c .before .before .before .before .before .before .before .before .before .before .before .before .before .before .pre .0) (λ k. omega (arith, c .before .before .before .before .before .before .before .before .before .before .before .before .before .slice-known .given k)) _ _ (accepted (c .before .before .before)) _ (counted (c .before .before .before))))))
 
 same-length : tie.Need-same-length
 same-length c = search needs
