@@ -132,7 +132,8 @@ accepted-few o n d a = frame-index-few o n d (image-told format4 o (a .image) (a
 -- so its elements end early
 pub index-short : (o : List ℕ) (n d : ℕ) → AcceptedImage o n d → (e : ℕ) → e ≡ index-end o n → e ≤ 8_388_352
 index-short o n d a e p =
-    omega (arith, accepted-few o n d a, length-take (256 + 256 * n - 256) (drop 256 o), ends-inside (index-part o n) 0 (get (layout4 .nindex2) o) (accepted-inside o n d a (get (layout4 .nindex2) o) refl))
+    let k : ℕ = get (layout4 .nindex2) o in
+    omega (arith, accepted-few o n d a, length-take (256 + 256 * n - 256) (drop 256 o), ends-inside (index-part o n) 0 k (accepted-inside o n d a k refl))
 
 -- an index does not grow by more than these bytes
 pub growth-few : (n k b : ℕ) → growth n k b ≤ b + 4

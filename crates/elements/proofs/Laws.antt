@@ -241,7 +241,8 @@ element-stands index at small p h =
     ∙ sym (append-assoc (to-little-endian 2 (from-little-endian (bytes-at at 2 index))) (element-headword index at) (0 ∷ []))
 
 -- all of them do, one behind the other
-pub elements-stand : (index : List ℕ) (at n : ℕ) → ((k : ℕ) → getD index k 0 < 256) → Inside index at n → bytes-at at (elements-end index at n - at) index ≡ elements-bytes format4 (elements-at index at n)
+pub elements-stand : (index : List ℕ) (at n : ℕ) → ((k : ℕ) → getD index k 0 < 256) → Inside index at n
+    → bytes-at at (elements-end index at n - at) index ≡ elements-bytes format4 (elements-at index at n)
 unfolding elements-end elements-at elements-bytes bytes-at
 elements-stand index at zero small i = let e : at - at ≡ 0 = omega arith in rw e
 elements-stand index at (suc n) small (p, h, i) =

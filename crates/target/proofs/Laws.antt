@@ -267,7 +267,8 @@ module _ (index h : List ℕ) (n : ℕ) (some-elements : n ≡ 0 → ⊥) (all-i
   -- behind it stand the bytes of the others, up to the end of all
   rest-bytes : (end : ℕ) → end ≡ element-end index (c .at) → elements-end index 0 n ≡ end + 1 + length (elements-bytes format4 (elements-at index (end + 1) (c .left - 1)))
   rest-bytes end e =
-      let a : elements-end index 0 n ≡ elements-end index (c .at) (c .left) = ap (elements-end index 0) sum ∙ ends-split index 0 (n - c .left) (c .left) ∙ ap (λ (a : ℕ). elements-end index a (c .left)) (sym (here .start)) in
+      let a : elements-end index 0 n ≡ elements-end index (c .at) (c .left)
+      = ap (elements-end index 0) sum ∙ ends-split index 0 (n - c .left) (c .left) ∙ ap (λ (a : ℕ). elements-end index a (c .left)) (sym (here .start)) in
       let b : elements-end index (end + 1) (c .left - 1) ≡ elements-end index 0 n = end-turn index (c .at) (c .left) end (elements-end index 0 n) (sym a) e some-left in
       omega (arith, b, elements-length index (end + 1) (c .left - 1) (behind-inside end e))
 

@@ -13,16 +13,28 @@ use borrow.Author.Needs.{needs}
 use Rattle.editor.proofs.delete_tested.Statement.{statement}
 use Rattle.editor.proofs.delete_tested.Tie as tie
 
+abbrev after-r2-of-known-told2 : tie.After-known-told2 → tie.After-r2
+after-r2-of-known-told2 c = search
+
+abbrev at-match-keys2-of-known-told2 : tie.After-known-told2 → tie.At-match-keys2
+at-match-keys2-of-known-told2 c = search (after-r2-of-known-told2 c)
+
+abbrev start-of-known-told2 : tie.After-known-told2 → tie.Start
+start-of-known-told2 c = search (at-match-keys2-of-known-told2 c)
+
 -- the image is accepted
-accepted : (c : tie.After-known-told2) → AcceptedImage (take (c .before .before .before .before .before .before .before .before .before .before .args .len) (c .before .before .before .before .before .before .before .before .before .before .args .image .now)) (c .before .r2 .given .0 .1 .0) (c .before .r2 .given .0 .1 .1 .0)
+accepted : (c : tie.After-known-told2) → AcceptedImage (take (start-of-known-told2 c .args .len) (start-of-known-told2 c .args .image .now)) (after-r2-of-known-told2 c .r2 .given .0 .1 .0)
+    (after-r2-of-known-told2 c .r2 .given .0 .1 .1 .0)
 accepted c = search is-accepted
 
 -- with so many entries
-counted : (c : tie.After-known-told2) (i : Image) → image-from (take (c .before .before .before .before .before .before .before .before .before .before .args .len) (c .before .before .before .before .before .before .before .before .before .before .args .image .now)) ≡ ok i → c .before .r2 .given .0 .0 ≡ length (entries-of i)
+counted : (c : tie.After-known-told2) (i : Image) → image-from (take (start-of-known-told2 c .args .len) (start-of-known-told2 c .args .image .now)) ≡ ok i
+    → after-r2-of-known-told2 c .r2 .given .0 .0 ≡ length (entries-of i)
 counted c = search words-are
 
 -- its elements end there
-ends : (c : tie.After-known-told2) → c .before .r2 .given .0 .1 .1 .1 .0 ≡ index-end (take (c .before .before .before .before .before .before .before .before .before .before .args .len) (c .before .before .before .before .before .before .before .before .before .before .args .image .now)) (c .before .r2 .given .0 .1 .0)
+ends : (c : tie.After-known-told2) → after-r2-of-known-told2 c .r2 .given .0 .1 .1 .1 .0
+    ≡ index-end (take (start-of-known-told2 c .args .len) (start-of-known-told2 c .args .image .now)) (after-r2-of-known-told2 c .r2 .given .0 .1 .0)
 ends c = search end-is
 
 slice-reshare-prefix-inspect : tie.Need-slice-reshare-prefix-inspect
@@ -47,16 +59,36 @@ slice-aggregate-delete-in : tie.Need-slice-aggregate-delete-in
 slice-aggregate-delete-in c = search needs
 
 delete-in-requires : tie.Need-delete-in-requires
-delete-in-requires c κs = (accepted (c .before .before .before), ((c .before .before .before .before .before .before .before .before .before .before .before .before .before .pre .0, c .before .before .before .before .before .before .before .before .before .before .before .before .before .pre .1, c .before .before .before .before .before .before .before .before .before .before .before .before .before .pre .2, c .before .before .before .before .before .before .before .before .before .before .before .before .before .pre .3, search needs, ends (c .before .before .before)), (search free-are, counted (c .before .before .before))))
+delete-in-requires c κs =
+    (accepted after-known-told2, ((start .pre .0, start .pre .1, start .pre .2, start .pre .3, search needs, ends after-known-told2), (search free-are, counted after-known-told2)))
+  where
+    after-known-told2 : tie.After-known-told2
+    after-known-told2 = search
+
+    at-match-keys2 : tie.At-match-keys2
+    at-match-keys2 = search after-known-told2
+
+    start : tie.Start
+    start = search at-match-keys2
 
 same-length : tie.Need-same-length
 same-length c = search needs
 
 returns : tie.Need-returns
 returns c =
-    let p = c .before .before .before .before .before .before .before .before .before .before .pre in
-    let r = delete-refused (c .before .before .before .before .before .before .before .before .before .before .args .image .now) (c .before .before .before .before .before .before .before .before .before .before .args .len) (c .before .before .before .before .before .before .before .before .before .before .args .work .now) (p .0) (p .1) (p .2) (p .3) _ _ _ (c .before .before .before .before .inspect .ensures .0) (c .before .r .given .0 .0) (search needs) (c .before .before .before .before .before .before .before .before .before .before .args .headword .now) in
+    let p = start .pre in
+    let r = delete-refused (start .args .image .now) (start .args .len) (start .args .work .now) (p .0) (p .1) (p .2) (p .3) _ _ _ (after-inspect .inspect .ensures .0)
+    (after-r .r .given .0 .0) (search needs) (start .args .headword .now) in
     (r .0, (r .1, refl))
+  where
+    after-r : tie.After-r
+    after-r = search
+
+    after-inspect : tie.After-inspect
+    after-inspect = search after-r
+
+    start : tie.Start
+    start = search after-inspect
 
 same-length-2 : tie.Need-same-length-2
 same-length-2 c = search needs

@@ -14,16 +14,28 @@ use borrow.Author.Needs.{needs}
 use Rattle.editor.proofs.insert_tested.Statement.{statement}
 use Rattle.editor.proofs.insert_tested.Tie as tie
 
+abbrev after-r2-of-known-told2 : tie.After-known-told2 → tie.After-r2
+after-r2-of-known-told2 c = search
+
+abbrev after-inspect-of-known-told2 : tie.After-known-told2 → tie.After-inspect
+after-inspect-of-known-told2 c = search (after-r2-of-known-told2 c)
+
+abbrev start-of-known-told2 : tie.After-known-told2 → tie.Start
+start-of-known-told2 c = search (after-inspect-of-known-told2 c)
+
 -- the image is accepted
-accepted : (c : tie.After-known-told2) → AcceptedImage (take (c .before .before .before .before .before .before .before .before .before .before .before .args .len) (c .before .before .before .before .before .before .before .before .before .before .before .args .image .now)) (c .before .r2 .given .0 .1 .0) (c .before .r2 .given .0 .1 .1 .0)
+accepted : (c : tie.After-known-told2) → AcceptedImage (take (start-of-known-told2 c .args .len) (start-of-known-told2 c .args .image .now)) (after-r2-of-known-told2 c .r2 .given .0 .1 .0)
+    (after-r2-of-known-told2 c .r2 .given .0 .1 .1 .0)
 accepted c = search is-accepted
 
 -- with so many entries
-counted : (c : tie.After-known-told2) (i : Image) → image-from (take (c .before .before .before .before .before .before .before .before .before .before .before .args .len) (c .before .before .before .before .before .before .before .before .before .before .before .args .image .now)) ≡ ok i → c .before .r2 .given .0 .0 ≡ length (entries-of i)
+counted : (c : tie.After-known-told2) (i : Image) → image-from (take (start-of-known-told2 c .args .len) (start-of-known-told2 c .args .image .now)) ≡ ok i
+    → after-r2-of-known-told2 c .r2 .given .0 .0 ≡ length (entries-of i)
 counted c = search words-are
 
 -- its elements end there
-ends : (c : tie.After-known-told2) → c .before .r2 .given .0 .1 .1 .1 .0 ≡ index-end (take (c .before .before .before .before .before .before .before .before .before .before .before .args .len) (c .before .before .before .before .before .before .before .before .before .before .before .args .image .now)) (c .before .r2 .given .0 .1 .0)
+ends : (c : tie.After-known-told2) → after-r2-of-known-told2 c .r2 .given .0 .1 .1 .1 .0
+    ≡ index-end (take (start-of-known-told2 c .args .len) (start-of-known-told2 c .args .image .now)) (after-r2-of-known-told2 c .r2 .given .0 .1 .0)
 ends c = search end-is
 
 slice-reshare-prefix-inspect : tie.Need-slice-reshare-prefix-inspect
@@ -48,16 +60,51 @@ slice-aggregate-insert-in : tie.Need-slice-aggregate-insert-in
 slice-aggregate-insert-in c = search needs
 
 insert-in-requires : tie.Need-insert-in-requires
-insert-in-requires c κs = (accepted (c .before .before .before), ((c .before .before .before .before .before .before .before .before .before .before .before .before .before .before .pre .0, c .before .before .before .before .before .before .before .before .before .before .before .before .before .before .pre .1, c .before .before .before .before .before .before .before .before .before .before .before .before .before .before .pre .2, c .before .before .before .before .before .before .before .before .before .before .before .before .before .before .pre .3, search needs, ends (c .before .before .before)), (search free-are, (counted (c .before .before .before), words-few _ _ (c .before .before .before .before .before .before .before .before .before .before .before .before .before .before .pre .2) (c .before .before .before .before .before .before .before .before .before .before .before .before .before .before .pre .0) (λ k. omega (arith, c .before .before .before .before .before .before .before .before .before .before .before .before .before .slice-known .given k)) _ _ (accepted (c .before .before .before)) _ (counted (c .before .before .before))))))
+insert-in-requires c κs = (
+  accepted after-known-told2,
+  (
+    (start .pre .0, start .pre .1, start .pre .2, start .pre .3, search needs, ends after-known-told2),
+    (
+      search free-are,
+      (
+        counted after-known-told2,
+        words-few _ _ (start .pre .2) (start .pre .0) (λ k. omega (arith, after-slice-known .slice-known .given k)) _ _ (accepted after-known-told2) _
+            (counted after-known-told2),
+      ),
+    ),
+  ),
+)
+  where
+    after-known-told2 : tie.After-known-told2
+    after-known-told2 = search
+
+    at-match-keys2 : tie.At-match-keys2
+    at-match-keys2 = search after-known-told2
+
+    after-slice-known : tie.After-slice-known
+    after-slice-known = search at-match-keys2
+
+    start : tie.Start
+    start = search after-slice-known
 
 same-length : tie.Need-same-length
 same-length c = search needs
 
 returns : tie.Need-returns
 returns c =
-    let p = c .before .before .before .before .before .before .before .before .before .before .before .pre in
-    let r = insert-refused (c .before .before .before .before .before .before .before .before .before .before .before .args .image .now) (c .before .before .before .before .before .before .before .before .before .before .before .args .len) (c .before .before .before .before .before .before .before .before .before .before .before .args .work .now) (p .0) (p .1) (p .2) (p .3) _ _ _ (c .before .before .before .before .inspect .ensures .0) (c .before .r .given .0 .0) (search needs) (c .before .before .before .before .before .before .before .before .before .before .before .args .headword .now) (c .before .before .before .before .before .before .before .before .before .before .before .args .attribute) (c .before .before .before .before .before .before .before .before .before .before .before .args .text .now) in
+    let p = start .pre in
+    let r = insert-refused (start .args .image .now) (start .args .len) (start .args .work .now) (p .0) (p .1) (p .2) (p .3) _ _ _ (after-inspect .inspect .ensures .0)
+    (after-r .r .given .0 .0) (search needs) (start .args .headword .now) (start .args .attribute) (start .args .text .now) in
     (r .0, (r .1, refl))
+  where
+    after-r : tie.After-r
+    after-r = search
+
+    after-inspect : tie.After-inspect
+    after-inspect = search after-r
+
+    start : tie.Start
+    start = search after-inspect
 
 same-length-2 : tie.Need-same-length-2
 same-length-2 c = search needs

@@ -44,7 +44,18 @@ no-zero-flat-requires-4 : tie.Need-no-zero-flat-requires-4
 no-zero-flat-requires-4 c κs = search needs
 
 returns : tie.Need-returns
-returns c = clear-four _ _ _ _ _ _ _ _ _ _ _ (omega arith) (omega arith) (omega arith) (omega arith) (omega arith) (omega arith) (omega arith) (c .before .before .before .no-zero-flat .ensures) (c .before .before .no-zero-flat2 .ensures) (c .before .no-zero-flat3 .ensures) (c .no-zero-flat4 .ensures)
+returns c =
+    clear-four _ _ _ _ _ _ _ _ _ _ _ (omega arith) (omega arith) (omega arith) (omega arith) (omega arith) (omega arith) (omega arith) (after-no-zero-flat .no-zero-flat .ensures)
+    (after-no-zero-flat2 .no-zero-flat2 .ensures) (after-no-zero-flat3 .no-zero-flat3 .ensures) (c .no-zero-flat4 .ensures)
+  where
+    after-no-zero-flat3 : tie.After-no-zero-flat3
+    after-no-zero-flat3 = search
+
+    after-no-zero-flat2 : tie.After-no-zero-flat2
+    after-no-zero-flat2 = search after-no-zero-flat3
+
+    after-no-zero-flat : tie.After-no-zero-flat
+    after-no-zero-flat = search after-no-zero-flat2
 
 pub no-zero-64-spec : {M : Type 1} → statement M
 no-zero-64-spec =

@@ -27,7 +27,17 @@ no-zero-flat-requires : tie.Need-no-zero-flat-requires Inv-loop μ-loop
 no-zero-flat-requires c κs = omega arith
 
 returns : tie.Need-returns Inv-loop μ-loop
-returns c = clear-not _ _ _ _ (c .before .before .before .loop .inv .2) (c .before .before .before .loop .inv .0) _ _ (c .before .no-zero-flat .ensures) (c .if1 .taken) (c .before .before .loop-test .taken) (c .before .before .before .loop .inv .1)
+returns c =
+    clear-not _ _ _ _ (at-loop .loop .inv .2) (at-loop .loop .inv .0) _ _ (after-no-zero-flat .no-zero-flat .ensures) (c .if1 .taken) (in-loop .loop-test .taken) (at-loop .loop .inv .1)
+  where
+    after-no-zero-flat : tie.After-no-zero-flat Inv-loop μ-loop
+    after-no-zero-flat = search
+
+    in-loop : tie.In-loop Inv-loop μ-loop
+    in-loop = search after-no-zero-flat
+
+    at-loop : tie.At-loop Inv-loop μ-loop
+    at-loop = search in-loop
 
 add-i : tie.Need-add-i Inv-loop μ-loop
 add-i c = omega arith
@@ -36,7 +46,16 @@ loop-less : tie.Need-loop-less Inv-loop μ-loop
 loop-less c = omega arith
 
 loop-again : tie.Need-loop-again Inv-loop μ-loop
-loop-again c = (omega arith, omega arith, clear-more _ _ _ (c .before .before .before .before .before .args .end) (c .before .before .before .loop .inv .2) (c .before .before .before .loop .inv .0) _ _ (c .before .no-zero-flat .ensures) (c .if1 .left))
+loop-again c = (omega arith, omega arith, clear-more _ _ _ (start .args .end) (at-loop .loop .inv .2) (at-loop .loop .inv .0) _ _ (after-no-zero-flat .no-zero-flat .ensures) (c .if1 .left))
+  where
+    after-no-zero-flat : tie.After-no-zero-flat Inv-loop μ-loop
+    after-no-zero-flat = search
+
+    at-loop : tie.At-loop Inv-loop μ-loop
+    at-loop = search after-no-zero-flat
+
+    start : tie.Start Inv-loop μ-loop
+    start = search at-loop
 
 sub-no-zero-flat : tie.Need-sub-no-zero-flat Inv-loop μ-loop
 sub-no-zero-flat c = omega arith
@@ -45,7 +64,13 @@ no-zero-flat-requires-2 : tie.Need-no-zero-flat-requires-2 Inv-loop μ-loop
 no-zero-flat-requires-2 c κs = omega arith
 
 returns-2 : tie.Need-returns-2 Inv-loop μ-loop
-returns-2 c = clear-last _ _ _ _ (c .before .before .loop .inv .2) (c .before .before .loop .inv .0) _ _ (omega arith) (c .before .loop-test .left) (c .before .before .loop .inv .1) (c .no-zero-flat2 .ensures)
+returns-2 c = clear-last _ _ _ _ (at-loop .loop .inv .2) (at-loop .loop .inv .0) _ _ (omega arith) (after-loop .loop-test .left) (at-loop .loop .inv .1) (c .no-zero-flat2 .ensures)
+  where
+    after-loop : tie.After-loop Inv-loop μ-loop
+    after-loop = search
+
+    at-loop : tie.At-loop Inv-loop μ-loop
+    at-loop = search after-loop
 
 pub no-zero-long-spec : {M : Type 1} → statement M
 no-zero-long-spec =
