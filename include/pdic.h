@@ -10,8 +10,8 @@
  * optimise zeroes what it gives up.
  *
  * Insert, delete and optimise also borrow a working slice, at least as long as the image slice. What
- * it holds does not matter. It is all zero after the call, whatever the number returned, but 1 and 2
- * leave it untouched.
+ * it holds does not matter, but it is read: take it from calloc, and lend the same one again. It is all
+ * zero after the call, whatever the number returned, but 1 and 2 leave it untouched.
  *
  * Threads: reading calls (check, look up, walk) may share an image; a changing call (create, insert,
  * delete, optimise) needs it alone. Calls on different memory may run at the same time.

@@ -27,12 +27,12 @@ int begins_with(const entry *e, bytes front)
     return e->headword_len >= front.len && memcmp(e->headword, front.at, front.len) == 0;
 }
 
-/* Makes the slices `size` bytes long. What stood in the working slice does not matter. */
+/* Makes the slices `size` bytes long. The working slice starts as zeros, which a call leaves there. */
 static void book_resize(book *b, size_t size)
 {
     b->image = take_memory(b->image, size);
     free(b->work);
-    b->work = take_memory(NULL, size);
+    b->work = take_zeros(size);
     b->size = size;
 }
 

@@ -44,14 +44,23 @@ static int length_fault(size_t most)
     return -1;
 }
 
-void *take_memory(void *old, size_t size)
+static void *taken(void *memory)
 {
-    void *memory = realloc(old, size ? size : 1);
     if (!memory) {
         fputs("out of memory\n", stderr);
         exit(2);
     }
     return memory;
+}
+
+void *take_memory(void *old, size_t size)
+{
+    return taken(realloc(old, size ? size : 1));
+}
+
+void *take_zeros(size_t size)
+{
+    return taken(calloc(size ? size : 1, 1));
 }
 
 static char *copy_of(const char *s, size_t len)

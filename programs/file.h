@@ -8,6 +8,8 @@
 
 /* Memory of at least one byte, or old memory made longer; without memory the program ends with status 2. */
 void *take_memory(void *old, size_t size);
+/* The same, new and all zero. */
+void *take_zeros(size_t size);
 
 /* Reads a whole file of at most `most` bytes into memory that the caller frees; "-" is standard input. Gives 0 or -1;
  * nothing is read behind `most`, and a longer file is a fault. */
