@@ -1,7 +1,7 @@
 #!/bin/sh
 # together.sh FOLDER: 20 programs at once add an entry each to one dictionary, five times; no edit is lost. Then so many make
-# one file at once, and one of them does. Then a seal, and a new file, come while a change goes on. Works in the present folder,
-# which must be empty.
+# one file at once, and one of them does; a slow one finds it made. Then a seal, and a new file, come while a change goes on.
+# Works in the present folder, which must be empty.
 set -eu
 programs=$1
 # until_held FILE: waits until a program holds the file
@@ -35,6 +35,16 @@ done
 wait
 [ "$(wc -l <makers)" -eq 1 ] && [ "$("$programs/glossary" look made.dic maker)" = "$(cat makers)" ] ||
     { echo "together: $(wc -l <makers) programs made one file"; exit 1; }
+# a maker whose list comes late finds that another was faster
+mkfifo late
+"$programs/glossary" make raced.dic - <late >/dev/null 2>&1 &
+slow=$!
+exec 3>late
+sleep 0.5
+printf 'maker\tfast\n' | "$programs/glossary" make raced.dic - >/dev/null
+printf 'maker\tslow\n' >&3
+exec 3>&-
+! wait $slow && [ "$("$programs/glossary" look raced.dic maker)" = fast ] || { echo "together: a file was made over another"; exit 1; }
 # a change that takes long: a seal waits for it, and a file that came in the dictionary's place is not written over
 awk 'BEGIN { for (i = 0; i < 8000; i++) printf "term %05d\t%060d\n", i, i }' >many.tsv
 "$programs/glossary" merge shared.dic many.tsv >/dev/null 2>&1 &
