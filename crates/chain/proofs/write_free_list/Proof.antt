@@ -56,16 +56,32 @@ loop-less c = search chain-laws
 
 loop-again : tie.Need-loop-again Inv-loop μ-loop
 loop-again c =
-    let l = c .before .before .before .before .before .before .before .before .before .before .before .loop in
-    let n = c .before .before .before .before .before .before .before .before .before .next-marked2 in (
+    let l = at-loop .loop in
+    let n = after-next-marked2 .next-marked2 in (
       search needs,
       search needs,
       search needs,
       search needs,
       search (gap-next, needs),
-      chain-turn _ (l .area) _ _ _ _ _ (l .b) (n .result) _ (l .inv .5) (l .inv .4) (n .ensures .0) (c .before .before .before .link .ensures) (c .before .before .before .before .before .before .before .write-u16 .ensures .0) (c .before .before .write-u32 .ensures .0)
+      chain-turn _ (l .area) _ _ _ _ _ (l .b) (n .result) _ (l .inv .5) (l .inv .4) (n .ensures .0) (after-link .link .ensures)
+          (after-write-u16 .write-u16 .ensures .0) (after-write-u32 .write-u32 .ensures .0)
           (omega arith) (omega arith) (omega arith) (omega arith) (omega arith),
     )
+  where
+    after-write-u32 : tie.After-write-u32 Inv-loop μ-loop
+    after-write-u32 = search
+
+    after-link : tie.After-link Inv-loop μ-loop
+    after-link = search after-write-u32
+
+    after-write-u16 : tie.After-write-u16 Inv-loop μ-loop
+    after-write-u16 = search after-link
+
+    after-next-marked2 : tie.After-next-marked2 Inv-loop μ-loop
+    after-next-marked2 = search after-write-u16
+
+    at-loop : tie.At-loop Inv-loop μ-loop
+    at-loop = search after-next-marked2
 
 link-requires-2 : tie.Need-link-requires-2 Inv-loop μ-loop
 link-requires-2 c κs = search chain-laws

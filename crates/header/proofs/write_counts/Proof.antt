@@ -30,24 +30,38 @@ same-length : tie.Need-same-length
 same-length c = search needs
 
 returns : tie.Need-returns
-returns c =
-    let c₆ = c .before .before in
-    let c₅ = c₆ .before .before .before .before in
-    let c₄ = c₅ .before .before .before .before in
-    let c₃ = c₄ .before .before .before .before in
-    let c₂ = c₃ .before .before .before .before in
-    let c₁ = c₂ .before .before .before .before in
-    let c₀ = c₁ .before .before in (
-      counts-stored _ _ _ _ _ _ _ _ _ _ _ _ _
-          (c₀ .next-update .ensures)
-          (c₁ .write-u32 .ensures .0)
-          (c₂ .write-u322 .ensures .0)
-          (c₃ .write-u323 .ensures .0)
-          (c₄ .write-u324 .ensures .0)
-          (c₅ .write-u325 .ensures .0)
-          (c₆ .write-u16 .ensures .0),
-      omega arith,
-    )
+returns c = (
+  counts-stored _ _ _ _ _ _ _ _ _ _ _ _ _
+      (after-next-update .next-update .ensures)
+      (after-write-u32 .write-u32 .ensures .0)
+      (after-write-u322 .write-u322 .ensures .0)
+      (after-write-u323 .write-u323 .ensures .0)
+      (after-write-u324 .write-u324 .ensures .0)
+      (after-write-u325 .write-u325 .ensures .0)
+      (after-write-u16 .write-u16 .ensures .0),
+  omega arith,
+)
+  where
+    after-write-u16 : tie.After-write-u16
+    after-write-u16 = search
+
+    after-write-u325 : tie.After-write-u325
+    after-write-u325 = search after-write-u16
+
+    after-write-u324 : tie.After-write-u324
+    after-write-u324 = search after-write-u325
+
+    after-write-u323 : tie.After-write-u323
+    after-write-u323 = search after-write-u324
+
+    after-write-u322 : tie.After-write-u322
+    after-write-u322 = search after-write-u323
+
+    after-write-u32 : tie.After-write-u32
+    after-write-u32 = search after-write-u322
+
+    after-next-update : tie.After-next-update
+    after-next-update = search after-write-u32
 
 pub write-counts-spec : {M : Type 1} → statement M
 write-counts-spec =

@@ -88,8 +88,19 @@ loop-less c = search elements-laws
 
 loop-again : tie.Need-loop-again Inv-loop μ-loop
 loop-again c =
-    let so = c .before .before .before .before .before .before .before .before .before .loop .inv in
-    (search needs, search needs, search needs, element-good _ _ _ _ _ _ (so .3) (search) (search) _ (search) (search) _ (c .before .is-below .ensures) (search) (search), search end-turn)
+    let so = at-loop .loop .inv in (
+      search needs,
+      search needs,
+      search needs,
+      element-good _ _ _ _ _ _ (so .3) (search) (search) _ (search) (search) _ (after-is-below .is-below .ensures) (search) (search),
+      search end-turn,
+    )
+  where
+    after-is-below : tie.After-is-below Inv-loop μ-loop
+    after-is-below = search
+
+    at-loop : tie.At-loop Inv-loop μ-loop
+    at-loop = search after-is-below
 
 sub-if5 : tie.Need-sub-if5 Inv-loop μ-loop
 sub-if5 c = search elements-laws

@@ -18,7 +18,13 @@ loop-holds : tie.Need-loop-holds Inv-loop μ-loop
 loop-holds c = (omega arith, refl, search (copy-start, needs))
 
 copy-one-requires : tie.Need-copy-one-requires Inv-loop μ-loop
-copy-one-requires c κs = (search needs, copy-ready _ _ _ _ _ _ _ (c .before .before .loop .inv .2) (c .before .loop-test .taken) (c .before .before .loop .inv .1))
+copy-one-requires c κs = (search needs, copy-ready _ _ _ _ _ _ _ (at-loop .loop .inv .2) (in-loop .loop-test .taken) (at-loop .loop .inv .1))
+  where
+    in-loop : tie.In-loop Inv-loop μ-loop
+    in-loop = search
+
+    at-loop : tie.At-loop Inv-loop μ-loop
+    at-loop = search in-loop
 
 add-b : tie.Need-add-b Inv-loop μ-loop
 add-b c = search needs

@@ -22,22 +22,52 @@ shared-slice-read-p : tie.Need-shared-slice-read-p
 shared-slice-read-p c = search needs
 
 cast-p : tie.Need-cast-p
-cast-p c = omega (arith, ready-run _ _ _ _ _ (c .before .if1 .left) (c .before .before .before .before .before .before .pre .1))
+cast-p c = omega (arith, ready-run _ _ _ _ _ (else1 .if1 .left) (start .pre .1))
+  where
+    else1 : tie.Else1
+    else1 = search
+
+    start : tie.Start
+    start = search else1
 
 mul-copy : tie.Need-mul-copy
-mul-copy c = omega (arith, ready-run _ _ _ _ _ (c .before .before .if1 .left) (c .before .before .before .before .before .before .before .pre .1))
+mul-copy c = omega (arith, ready-run _ _ _ _ _ (else1 .if1 .left) (start .pre .1))
+  where
+    else1 : tie.Else1
+    else1 = search
+
+    start : tie.Start
+    start = search else1
 
 mul-copy-2 : tie.Need-mul-copy-2
-mul-copy-2 c = omega (arith, ready-run _ _ _ _ _ (c .before .before .if1 .left) (c .before .before .before .before .before .before .before .pre .1))
+mul-copy-2 c = omega (arith, ready-run _ _ _ _ _ (else1 .if1 .left) (start .pre .1))
+  where
+    else1 : tie.Else1
+    else1 = search
+
+    start : tie.Start
+    start = search else1
 
 size-at-requires : tie.Need-size-at-requires
-size-at-requires c κs = (search needs, search needs, omega (arith, ready-run _ _ _ _ _ (c .before .before .if1 .left) (c .before .before .before .before .before .before .before .pre .1)))
+size-at-requires c κs = (search needs, search needs, omega (arith, ready-run _ _ _ _ _ (else1 .if1 .left) (start .pre .1)))
+  where
+    else1 : tie.Else1
+    else1 = search
+
+    start : tie.Start
+    start = search else1
 
 mul-copy-3 : tie.Need-mul-copy-3
 mul-copy-3 c = search needs
 
 copy-requires : tie.Need-copy-requires
-copy-requires c κs = let r = ready-run _ _ _ _ _ (c .before .before .before .if1 .left) (c .before .before .before .before .before .before .before .before .pre .1) in (omega arith, omega arith)
+copy-requires c κs = let r = ready-run _ _ _ _ _ (else1 .if1 .left) (start .pre .1) in (omega arith, omega arith)
+  where
+    else1 : tie.Else1
+    else1 = search
+
+    start : tie.Start
+    start = search else1
 
 same-length : tie.Need-same-length
 same-length c = search needs

@@ -11,7 +11,9 @@ use Rattle.moves.proofs.note_starts.Statement.{statement}
 use Rattle.moves.proofs.note_starts.Tie as tie
 
 abbrev Inv-loop : tie.InvT-loop
-Inv-loop index from n numbers₀ g at₀ left₀ numbers at left = (length numbers ≡ length numbers₀) × (noted g (blocks (elements-at index at left)) numbers ≡ noted g (blocks (elements-at index from n)) numbers₀) × Inside index at left
+Inv-loop index from n numbers₀ g at₀ left₀ numbers at left =
+    (length numbers ≡ length numbers₀) × (noted g (blocks (elements-at index at left)) numbers ≡ noted g (blocks (elements-at index from n)) numbers₀)
+    × Inside index at left
 
 abbrev μ-loop : tie.MeasureT-loop
 μ-loop index from n numbers₀ g at₀ left₀ numbers at left = left

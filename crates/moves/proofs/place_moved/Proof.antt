@@ -10,7 +10,9 @@ use Rattle.moves.proofs.place_moved.Statement.{statement}
 use Rattle.moves.proofs.place_moved.Tie as tie
 
 abbrev Inv-loop : tie.InvT-loop
-Inv-loop area d numbers₀ g free₀ end limit last₀ b₀ numbers free last b = (b ≤ g) × (g ≤ last) × (end ≤ last) × (last ≤ limit) × (length free ≡ length free₀) × (length numbers ≡ length numbers₀) × Placing area d g end numbers₀ (marks free₀) last b numbers (marks free)
+Inv-loop area d numbers₀ g free₀ end limit last₀ b₀ numbers free last b =
+    (b ≤ g) × (g ≤ last) × (end ≤ last) × (last ≤ limit) × (length free ≡ length free₀) × (length numbers ≡ length numbers₀)
+    × Placing area d g end numbers₀ (marks free₀) last b numbers (marks free)
 
 abbrev μ-loop : tie.MeasureT-loop
 μ-loop area d numbers₀ g free₀ end limit last₀ b₀ numbers free last b = g - b
@@ -46,7 +48,12 @@ same-length-4 : tie.Need-same-length-4 Inv-loop μ-loop
 same-length-4 c = search needs
 
 returns-2 : tie.Need-returns-2 Inv-loop μ-loop
-returns-2 c = let r = place-end _ _ _ _ _ _ _ _ _ _ (c .before .loop .inv .6) (c .loop-test .left) in ((λ h. (r .0, r .1), λ h. absurd (omega arith)), (λ h. r .2, (omega arith, omega arith, omega arith)))
+returns-2 c =
+    let r = place-end _ _ _ _ _ _ _ _ _ _ (at-loop .loop .inv .6) (c .loop-test .left) in
+    ((λ h. (r .0, r .1), λ h. absurd (omega arith)), (λ h. r .2, (omega arith, omega arith, omega arith)))
+  where
+    at-loop : tie.At-loop Inv-loop μ-loop
+    at-loop = search
 
 pub place-moved-spec : {M : Type 1} → statement M
 place-moved-spec =

@@ -37,8 +37,14 @@ loop-less c = omega arith
 
 loop-again : tie.Need-loop-again Inv-loop μ-loop
 loop-again c =
-    let so = c .before .before .before .loop .inv in
-    (omega arith, omega arith, part-more _ _ _ (so .2) (so .0) _ _ (c .before .all-zero-flat .ensures) (c .if1 .left))
+    let so = at-loop .loop .inv in
+    (omega arith, omega arith, part-more _ _ _ (so .2) (so .0) _ _ (after-all-zero-flat .all-zero-flat .ensures) (c .if1 .left))
+  where
+    after-all-zero-flat : tie.After-all-zero-flat Inv-loop μ-loop
+    after-all-zero-flat = search
+
+    at-loop : tie.At-loop Inv-loop μ-loop
+    at-loop = search after-all-zero-flat
 
 all-zero-flat-requires-2 : tie.Need-all-zero-flat-requires-2 Inv-loop μ-loop
 all-zero-flat-requires-2 c κs = omega arith

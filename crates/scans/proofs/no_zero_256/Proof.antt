@@ -45,7 +45,8 @@ no-zero-flat-requires-4 c κs = search needs
 
 returns : tie.Need-returns
 returns c =
-    clear-four _ _ _ _ _ _ _ _ _ _ _ (omega arith) (omega arith) (omega arith) (omega arith) (omega arith) (omega arith) (omega arith) (after-no-zero-flat .no-zero-flat .ensures)
+    clear-four _ _ _ _ _ _ _ _ _ _ _ (omega arith) (omega arith) (omega arith) (omega arith) (omega arith) (omega arith) (omega arith)
+    (after-no-zero-flat .no-zero-flat .ensures)
     (after-no-zero-flat2 .no-zero-flat2 .ensures) (after-no-zero-flat3 .no-zero-flat3 .ensures) (c .no-zero-flat4 .ensures)
   where
     after-no-zero-flat3 : tie.After-no-zero-flat3

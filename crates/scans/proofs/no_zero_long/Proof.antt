@@ -28,7 +28,8 @@ no-zero-flat-requires c κs = omega arith
 
 returns : tie.Need-returns Inv-loop μ-loop
 returns c =
-    clear-not _ _ _ _ (at-loop .loop .inv .2) (at-loop .loop .inv .0) _ _ (after-no-zero-flat .no-zero-flat .ensures) (c .if1 .taken) (in-loop .loop-test .taken) (at-loop .loop .inv .1)
+    clear-not _ _ _ _ (at-loop .loop .inv .2) (at-loop .loop .inv .0) _ _ (after-no-zero-flat .no-zero-flat .ensures) (c .if1 .taken)
+    (in-loop .loop-test .taken) (at-loop .loop .inv .1)
   where
     after-no-zero-flat : tie.After-no-zero-flat Inv-loop μ-loop
     after-no-zero-flat = search
@@ -46,7 +47,11 @@ loop-less : tie.Need-loop-less Inv-loop μ-loop
 loop-less c = omega arith
 
 loop-again : tie.Need-loop-again Inv-loop μ-loop
-loop-again c = (omega arith, omega arith, clear-more _ _ _ (start .args .end) (at-loop .loop .inv .2) (at-loop .loop .inv .0) _ _ (after-no-zero-flat .no-zero-flat .ensures) (c .if1 .left))
+loop-again c = (
+  omega arith,
+  omega arith,
+  clear-more _ _ _ (start .args .end) (at-loop .loop .inv .2) (at-loop .loop .inv .0) _ _ (after-no-zero-flat .no-zero-flat .ensures) (c .if1 .left),
+)
   where
     after-no-zero-flat : tie.After-no-zero-flat Inv-loop μ-loop
     after-no-zero-flat = search
@@ -64,7 +69,9 @@ no-zero-flat-requires-2 : tie.Need-no-zero-flat-requires-2 Inv-loop μ-loop
 no-zero-flat-requires-2 c κs = omega arith
 
 returns-2 : tie.Need-returns-2 Inv-loop μ-loop
-returns-2 c = clear-last _ _ _ _ (at-loop .loop .inv .2) (at-loop .loop .inv .0) _ _ (omega arith) (after-loop .loop-test .left) (at-loop .loop .inv .1) (c .no-zero-flat2 .ensures)
+returns-2 c =
+    clear-last _ _ _ _ (at-loop .loop .inv .2) (at-loop .loop .inv .0) _ _ (omega arith) (after-loop .loop-test .left) (at-loop .loop .inv .1)
+    (c .no-zero-flat2 .ensures)
   where
     after-loop : tie.After-loop Inv-loop μ-loop
     after-loop = search

@@ -36,7 +36,8 @@ low-zeros-requires : tie.Need-low-zeros-requires
 low-zeros-requires c κs = search needs
 
 add-result : tie.Need-add-result
-add-result c = ⊎-elim (λ w. omega (arith, w .2)) (λ w. ⊎-elim (λ v. omega (arith, w .2, v .2)) (λ v. omega (arith, w .2, v .2)) (joined1 .if1 .came)) (joined2 .if2 .came)
+add-result c =
+    ⊎-elim (λ w. omega (arith, w .2)) (λ w. ⊎-elim (λ v. omega (arith, w .2, v .2)) (λ v. omega (arith, w .2, v .2)) (joined1 .if1 .came)) (joined2 .if2 .came)
   where
     joined2 : tie.Joined2
     joined2 = search
@@ -46,21 +47,30 @@ add-result c = ⊎-elim (λ w. omega (arith, w .2)) (λ w. ⊎-elim (λ v. omega
 
 returns : tie.Need-returns
 returns c =
-    ⊎-elim (λ w. by-first (start .args .s .now) (start .args .at) (after-zero-marks .zero-marks .result) (after-zero-marks2 .zero-marks2 .result) (after-zero-marks3 .zero-marks3 .result) _ _
-    _ (start .pre) (zero-eight (start .args .s .now) (start .args .at) _ _ (λ k. omega (arith, after-shared-slice-known .shared-slice-known .given k)) (omega arith)
-    (after-read-u64 .read-u64 .ensures) (after-zero-marks .zero-marks .ensures)) (after-low-zeros .low-zeros .ensures .0) (omega arith) (w .0 .taken) (w .1) (w .2))
+    ⊎-elim (λ w. by-first (start .args .s .now) (start .args .at) (after-zero-marks .zero-marks .result) (after-zero-marks2 .zero-marks2 .result)
+    (after-zero-marks3 .zero-marks3 .result) _ _
+    _ (start .pre)
+    (zero-eight (start .args .s .now) (start .args .at) _ _ (λ k. omega (arith, after-shared-slice-known .shared-slice-known .given k)) (omega arith)
+    (after-read-u64 .read-u64 .ensures) (after-zero-marks .zero-marks .ensures)) (after-low-zeros .low-zeros .ensures .0) (omega arith) (w .0 .taken) (w .1)
+    (w .2))
     (λ w. ⊎-elim (λ v. by-second (start .args .s .now) (start .args .at) (after-zero-marks .zero-marks .result) (after-zero-marks2 .zero-marks2 .result)
     (after-zero-marks3 .zero-marks3 .result) _ _ _ (start .pre) (zero-eight (start .args .s .now) (start .args .at) _ _
-    (λ k. omega (arith, after-shared-slice-known .shared-slice-known .given k)) (omega arith) (after-read-u64 .read-u64 .ensures) (after-zero-marks .zero-marks .ensures))
+    (λ k. omega (arith, after-shared-slice-known .shared-slice-known .given k)) (omega arith) (after-read-u64 .read-u64 .ensures)
+    (after-zero-marks .zero-marks .ensures))
     (after-low-zeros .low-zeros .ensures .0) (w .0 .left) (zero-eight (start .args .s .now) (start .args .at + 8) _ _
-    (λ k. omega (arith, after-shared-slice-known .shared-slice-known .given k)) (omega arith) (after-read-u642 .read-u642 .ensures) (after-zero-marks2 .zero-marks2 .ensures))
+    (λ k. omega (arith, after-shared-slice-known .shared-slice-known .given k)) (omega arith) (after-read-u642 .read-u642 .ensures)
+    (after-zero-marks2 .zero-marks2 .ensures))
     (omega arith) (v .0 .taken) (w .1 ∙ v .1) (w .2 ∙ v .2)) (λ v. by-third (start .args .s .now) (start .args .at) (after-zero-marks .zero-marks .result)
     (after-zero-marks2 .zero-marks2 .result) (after-zero-marks3 .zero-marks3 .result) _ _ _ (start .pre) (zero-eight (start .args .s .now) (start .args .at) _ _
-    (λ k. omega (arith, after-shared-slice-known .shared-slice-known .given k)) (omega arith) (after-read-u64 .read-u64 .ensures) (after-zero-marks .zero-marks .ensures))
+    (λ k. omega (arith, after-shared-slice-known .shared-slice-known .given k)) (omega arith) (after-read-u64 .read-u64 .ensures)
+    (after-zero-marks .zero-marks .ensures))
     (after-low-zeros .low-zeros .ensures .0) (w .0 .left) (zero-eight (start .args .s .now) (start .args .at + 8) _ _
-    (λ k. omega (arith, after-shared-slice-known .shared-slice-known .given k)) (omega arith) (after-read-u642 .read-u642 .ensures) (after-zero-marks2 .zero-marks2 .ensures))
-    (v .0 .left) (zero-eight (start .args .s .now) (start .args .at + 16) _ _ (λ k. omega (arith, after-shared-slice-known .shared-slice-known .given k)) (omega arith)
-    (after-read-u643 .read-u643 .ensures) (after-zero-marks3 .zero-marks3 .ensures)) (w .1 ∙ v .1) (w .2 ∙ v .2) (omega arith)) (joined1 .if1 .came)) (joined2 .if2 .came)
+    (λ k. omega (arith, after-shared-slice-known .shared-slice-known .given k)) (omega arith) (after-read-u642 .read-u642 .ensures)
+    (after-zero-marks2 .zero-marks2 .ensures))
+    (v .0 .left)
+    (zero-eight (start .args .s .now) (start .args .at + 16) _ _ (λ k. omega (arith, after-shared-slice-known .shared-slice-known .given k)) (omega arith)
+    (after-read-u643 .read-u643 .ensures) (after-zero-marks3 .zero-marks3 .ensures)) (w .1 ∙ v .1) (w .2 ∙ v .2) (omega arith)) (joined1 .if1 .came))
+    (joined2 .if2 .came)
   where
     after-low-zeros : tie.After-low-zeros
     after-low-zeros = search
