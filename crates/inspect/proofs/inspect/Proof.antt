@@ -14,7 +14,8 @@ enum-known-f-2 : tie.Need-enum-known-f-2
 enum-known-f-2 c = search needs
 
 inspect-areas-requires : tie.Need-inspect-areas-requires
-inspect-areas-requires c κs = (search frame-read, ((search (frame-length-is, frame-read), search areas-index-few, search areas-data-few, search needs), search needs))
+inspect-areas-requires c κs =
+    (search frame-read, ((search (frame-length-is, frame-read), search areas-index-few, search areas-data-few, search needs), search needs))
 
 returns : tie.Need-returns
 returns c = (search areas-frame, tt)

@@ -57,16 +57,28 @@ slice-aggregate-settle c = search needs
 
 settle-requires : tie.Need-settle-requires
 settle-requires c κs =
-    let runs = c .before .before .before .before .before .before in
-    let index = runs .before .before .before .before .before .before in
-    let start = index .before .before .before .before .before in
     let frame = start .pre .0 in
-    let number = index .before .nindex2 .ensures .0 in
-    let ends = index .read-index .ensures in
-    let end = runs .before .before .before .before .ended .given .0 .0 in (
-      areas-read _ _ _ frame _ number _ ends end (search) _ _ _ 65536 (runs .read-runs .ensures) (marks-zero 1024) (search) _ _ (search),
+    let number = after-nindex2 .nindex2 .ensures .0 in
+    let ends = after-read-index .read-index .ensures in
+    let end = after-ended .ended .given .0 .0 in (
+      areas-read _ _ _ frame _ number _ ends end (search) _ _ _ 65536 (after-read-runs .read-runs .ensures) (marks-zero 1024) (search) _ _ (search),
       ((search needs, search needs, search needs, search needs), (areas-end _ _ _ frame _ number _ ends end (search), search needs)),
     )
+  where
+    after-read-runs : tie.After-read-runs
+    after-read-runs = search
+
+    after-ended : tie.After-ended
+    after-ended = search after-read-runs
+
+    after-read-index : tie.After-read-index
+    after-read-index = search after-ended
+
+    after-nindex2 : tie.After-nindex2
+    after-nindex2 = search after-read-index
+
+    start : tie.Start
+    start = search after-nindex2
 
 returns : tie.Need-returns
 returns c = (search areas-index, tt)

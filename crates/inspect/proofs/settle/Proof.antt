@@ -81,16 +81,37 @@ same-length-10 c = search needs
 
 returns-6 : tie.Need-returns-6
 returns-6 c =
-    let counts = c .before .before .before in
-    let marks = counts .before .before in
-    let list = marks .before .before .before .before .before .before .before in
-    let start = list .before .before .before .before .before .before .before .before .before in
-    let read = list .read-free-list .ensures in (
-      settle-sound _ _ _ _ _ _ (start .pre .0) _ _ (search) _ (list .before .before .before .empty-block2 .ensures .0) _ (read .0) (marks .before .before .if2 .left)
+    let read = after-read-free-list .read-free-list .ensures in (
+      settle-sound _ _ _ _ _ _ (start .pre .0) _ _ (search) _ (after-empty-block2 .empty-block2 .ensures .0) _ (read .0) (else2 .if2 .left)
           _ (read .1 .0) _ (length-marks _) (search) _
-          (marks .next-unmarked .ensures .0) (counts .before .if3 .left) _ (counts .nword .ensures .0) (search) _ (c .before .nblock2 .ensures .0) (search) _ (search) (search) (read .1 .1) _,
+          (after-next-unmarked .next-unmarked .ensures .0) (else3 .if3 .left) _ (after-nword .nword .ensures .0) (search) _ (after-nblock2 .nblock2 .ensures .0)
+          (search) _ (search) (search) (read .1 .1) _,
       start .pre .1 .1 .0,
     )
+  where
+    after-nblock2 : tie.After-nblock2
+    after-nblock2 = search
+
+    after-nword : tie.After-nword
+    after-nword = search after-nblock2
+
+    else3 : tie.Else3
+    else3 = search after-nword
+
+    after-next-unmarked : tie.After-next-unmarked
+    after-next-unmarked = search else3
+
+    else2 : tie.Else2
+    else2 = search after-next-unmarked
+
+    after-read-free-list : tie.After-read-free-list
+    after-read-free-list = search else2
+
+    after-empty-block2 : tie.After-empty-block2
+    after-empty-block2 = search after-read-free-list
+
+    start : tie.Start
+    start = search after-empty-block2
 
 pub settle-spec : {M : Type 1} → statement M
 settle-spec =

@@ -8,10 +8,16 @@ first-line-requires : tie.Need-first-line-requires
 first-line-requires c κs = search needs
 
 mul-area : tie.Need-mul-area
-mul-area c = omega (arith, accepted-index _ _ _ _ _ (c .before .before .before .before .before .before .pre .0))
+mul-area c = omega (arith, accepted-index _ _ _ _ _ (start .pre .0))
+  where
+    start : tie.Start
+    start = search
 
 add-area : tie.Need-add-area
-add-area c = omega (arith, accepted-index _ _ _ _ _ (c .before .before .before .before .before .before .pre .0))
+add-area c = omega (arith, accepted-index _ _ _ _ _ (start .pre .0))
+  where
+    start : tie.Start
+    start = search
 
 sub-all-lines : tie.Need-sub-all-lines
 sub-all-lines c = search needs

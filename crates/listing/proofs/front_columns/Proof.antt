@@ -11,7 +11,8 @@ use Rattle.listing.proofs.front_columns.Statement.{statement}
 use Rattle.listing.proofs.front_columns.Tie as tie
 
 abbrev Inv-loop : tie.InvT-loop
-Inv-loop out₀ at w n left₀ rest₀ out left rest = (left ≤ w) × (length out ≡ length out₀) × (write at (digits false left rest) out ≡ write at (digits false w n) out₀)
+Inv-loop out₀ at w n left₀ rest₀ out left rest =
+    (left ≤ w) × (length out ≡ length out₀) × (write at (digits false left rest) out ≡ write at (digits false w n) out₀)
 
 abbrev μ-loop : tie.MeasureT-loop
 μ-loop out₀ at w n left₀ rest₀ out left rest = left

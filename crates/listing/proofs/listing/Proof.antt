@@ -6,7 +6,10 @@ use Rattle.listing.proofs.listing.Statement.{statement}
 use Rattle.listing.proofs.listing.Tie as tie
 
 returns : tie.Need-returns
-returns c = let k = listed-short _ (c .before .before .before .args .out .now) (c .if1 .taken) in ((k .0, omega arith), k .1)
+returns c = let k = listed-short _ (start .args .out .now) (c .if1 .taken) in ((k .0, omega arith), k .1)
+  where
+    start : tie.Start
+    start = search
 
 input-lines-requires : tie.Need-input-lines-requires
 input-lines-requires c κs = search needs

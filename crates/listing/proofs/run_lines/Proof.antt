@@ -5,12 +5,23 @@ use lib.ListN.{length}
 use borrow.Author.Needs.{needs}
 use Rattle.spec.specs.Header.{format4}
 use Rattle.runs.proofs.Laws.{inside-body, inside-run}
-use Rattle.listing.proofs.Entries.{Printing, printing-start, printing-broken, printing-end, printing-less, printing-fits, printing-word, printing-room, printing-next}
+use Rattle.listing.proofs.Entries.{
+  Printing,
+  printing-start,
+  printing-broken,
+  printing-end,
+  printing-less,
+  printing-fits,
+  printing-word,
+  printing-room,
+  printing-next,
+}
 use Rattle.listing.proofs.run_lines.Statement.{statement}
 use Rattle.listing.proofs.run_lines.Tie as tie
 
 abbrev Inv-loop : tie.InvT-loop
-Inv-loop out₀ start k block blocks run word₀ len₀ pos₀ at₀ ordinal₀ out word len pos at ordinal = Printing format4 run word len pos block blocks out₀ out start at k ordinal
+Inv-loop out₀ start k block blocks run word₀ len₀ pos₀ at₀ ordinal₀ out word len pos at ordinal =
+    Printing format4 run word len pos block blocks out₀ out start at k ordinal
 
 abbrev μ-loop : tie.MeasureT-loop
 μ-loop out₀ start k block blocks run word₀ len₀ pos₀ at₀ ordinal₀ out word len pos at ordinal = length run - pos

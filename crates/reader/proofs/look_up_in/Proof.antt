@@ -69,7 +69,24 @@ returns-2 : tie.Need-returns-2
 returns-2 c = search look-up-same
 
 returns-3 : tie.Need-returns-3
-returns-3 c = look-up-absent _ _ _ _ _ (c .before .before .before .before .before .before .before .before .before .before .before .before .before .pre .0) _ (c .before .before .before .before .before .before .before .before .before .headword-ok .ensures) (c .before .before .before .before .before .before .before .before .if1 .left) _ (c .before .before .before .before .before .before .nindex2 .ensures .0) _ _ (c .before .before .before .seek .ensures .0) (search)
+returns-3 c =
+    look-up-absent _ _ _ _ _ (start .pre .0) _ (after-headword-ok .headword-ok .ensures) (else1 .if1 .left) _ (after-nindex2 .nindex2 .ensures .0) _ _
+    (after-seek .seek .ensures .0) (search)
+  where
+    after-seek : tie.After-seek
+    after-seek = search
+
+    after-nindex2 : tie.After-nindex2
+    after-nindex2 = search after-seek
+
+    else1 : tie.Else1
+    else1 = search after-nindex2
+
+    after-headword-ok : tie.After-headword-ok
+    after-headword-ok = search else1
+
+    start : tie.Start
+    start = search after-headword-ok
 
 returns-4 : tie.Need-returns-4
 returns-4 c = search look-up-other

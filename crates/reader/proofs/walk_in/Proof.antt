@@ -60,7 +60,24 @@ give-entry-requires : tie.Need-give-entry-requires
 give-entry-requires c κs = (search spot-body, search spot-area)
 
 returns-2 : tie.Need-returns-2
-returns-2 c = walk-absent _ _ _ _ _ _ (c .before .before .before .before .before .before .before .before .before .before .before .before .before .before .pre .0) _ _ (c .before .before .before .before .before .before .before .before .before .start-ok .ensures) (c .before .before .before .before .before .before .before .before .if1 .left) _ (c .before .before .before .before .before .before .nindex2 .ensures .0) _ _ (c .before .before .before .seek .ensures .0) (search)
+returns-2 c =
+    walk-absent _ _ _ _ _ _ (start .pre .0) _ _ (after-start-ok .start-ok .ensures) (else1 .if1 .left) _ (after-nindex2 .nindex2 .ensures .0) _ _
+    (after-seek .seek .ensures .0) (search)
+  where
+    after-seek : tie.After-seek
+    after-seek = search
+
+    after-nindex2 : tie.After-nindex2
+    after-nindex2 = search after-seek
+
+    else1 : tie.Else1
+    else1 = search after-nindex2
+
+    after-start-ok : tie.After-start-ok
+    after-start-ok = search else1
+
+    start : tie.Start
+    start = search after-start-ok
 
 same-length : tie.Need-same-length
 same-length c = search needs

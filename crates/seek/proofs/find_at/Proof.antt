@@ -1,5 +1,17 @@
 use Rattle.seek.proofs.Laws.{absent-inside}
-use Rattle.seek.proofs.Returns.{at-unplaced, at-size-fits, at-stop-fits, at-area, at-count, at-broken, at-end, at-entry, at-inside, at-zero-fits, at-next-fits}
+use Rattle.seek.proofs.Returns.{
+  at-unplaced,
+  at-size-fits,
+  at-stop-fits,
+  at-area,
+  at-count,
+  at-broken,
+  at-end,
+  at-entry,
+  at-inside,
+  at-zero-fits,
+  at-next-fits,
+}
 use borrow.Author.Needs.{needs}
 use Rattle.seek.proofs.find_at.Statement.{statement}
 use Rattle.seek.proofs.find_at.Tie as tie

@@ -33,7 +33,16 @@ same-length-2 : tie.Need-same-length-2
 same-length-2 c = search needs
 
 returns-3 : tie.Need-returns-3
-returns-3 c = (seek-next _ _ _ _ _ _ (search) _ (search) (search) _ _ (c .before .before .find-next .ensures .0) _ _ (c .before .before .before .before .before .before .before .before .find-at .ensures .0) (search), (search needs, search needs))
+returns-3 c = (
+  seek-next _ _ _ _ _ _ (search) _ (search) (search) _ _ (after-find-next .find-next .ensures .0) _ _ (after-find-at .find-at .ensures .0) (search),
+  (search needs, search needs),
+)
+  where
+    after-find-next : tie.After-find-next
+    after-find-next = search
+
+    after-find-at : tie.After-find-at
+    after-find-at = search after-find-next
 
 pub seek-spec : {M : Type 1} → statement M
 seek-spec =

@@ -20,7 +20,8 @@ abbrev μ-loop : tie.MeasureT-loop
 
 abbrev Inv-walk : tie.InvT-walk
 Inv-walk index n area d used₀ word₀ words₀ blocks₀ at₀ left₀ end₀ used word words blocks at left end =
-    (length word ≡ 256) × (length used ≡ length used₀) × Walking format4 index area n d (marks used₀) words blocks at left (marks used) × Carried index at left end
+    (length word ≡ 256) × (length used ≡ length used₀) × Walking format4 index area n d (marks used₀) words blocks at left (marks used)
+    × Carried index at left end
 
 abbrev μ-walk : tie.MeasureT-walk
 μ-walk index n area d used₀ word₀ words₀ blocks₀ at₀ left₀ end₀ used word words blocks at left end = left
@@ -109,7 +110,8 @@ sub-len c = search runs-laws
 loop-holds : tie.Need-loop-holds Inv-loop μ-loop Inv-walk μ-walk
 loop-holds c = (
   search needs,
-  walk-reading _ _ _ _ _ _ _ _ _ _ (walk .walk .inv .2) (some .if1 .left) _ (number .read-u16 .ensures .0) _ (sized .run-size .ensures .0) (there .if2 .left) (search) _ (walk .walk .inv .3)
+  walk-reading _ _ _ _ _ _ _ _ _ _ (walk .walk .inv .2) (some .if1 .left) _ (number .read-u16 .ensures .0) _ (sized .run-size .ensures .0) (there .if2 .left)
+      (search) _ (walk .walk .inv .3)
       _ _ (first .first-entry .ensures .0) (search) (search) (search) (search),
 )
   where
