@@ -13,11 +13,18 @@ use Rattle.change.proofs.change.Tie as tie
 
 -- the start of the call, from where the run concerned is given up
 abbrev start : tie.After-mark-range → tie.Start
-start c = c .before .before .before .before .before .before .before .before .before
+start c = start-place
+  where
+    else1 : tie.Else1
+    else1 = search
+
+    start-place : tie.Start
+    start-place = search else1
 
 -- the change can begin then
 begun : (c : tie.After-mark-range)
-    → Begun (take (start c .args .len) (start c .args .image .now)) (start c .args .p .n) (start c .args .p .d) (start c .args .p) (marks (c .mark-range .last .0))
+    → Begun (take (start c .args .len) (start c .args .image .now)) (start c .args .p .n) (start c .args .p .d) (start c .args .p)
+    (marks (c .mark-range .last .0))
     (start c .args .h .now) (start c .args .body .now) (start c .args .fresh) (start c .args .words)
 begun c =
     let a = start c .args in
@@ -27,23 +34,44 @@ begun c =
 
 add-if1 : tie.Need-add-if1
 add-if1 c =
-    let k = c .before .before .before .before .before .before .pre .0 in
+    let k = start-place .pre .0 in
     omega (arith, accepted-few _ _ _ (k .accepted), k .growth-few)
+  where
+    start-place : tie.Start
+    start-place = search
 
 returns : tie.Need-returns
 returns c =
-    let a = c .before .before .before .before .before .before .before .args in
-    (change-index (a .image .now) (a .len) _ _ _ _ _ (a .p) (c .before .before .before .before .before .before .before .pre .0) (c .if1 .taken), (refl, refl))
+    let a = start-place .args in
+    (change-index (a .image .now) (a .len) _ _ _ _ _ (a .p) (start-place .pre .0) (c .if1 .taken), (refl, refl))
+  where
+    start-place : tie.Start
+    start-place = search
 
 mark-range-requires : tie.Need-mark-range-requires
 mark-range-requires c κs =
-    let p = c .before .before .before .before .before .before .before .before .pre in
+    let p = start-place .pre in
     omega (arith, p .0 .inside, accepted-blocks _ _ _ (p .0 .accepted), p .1 .0 .3)
+  where
+    start-place : tie.Start
+    start-place = search
 
 grow-requires : tie.Need-grow-requires
 grow-requires c κs =
-    let p = c .before .before .before .before .before .before .before .before .before .before .before .before .before .before .before .before .pre in
-    (begun (c .before .before .before .before .before .before .before), (c .before .before .before .if2 .taken, p .1 .0 .0, p .1 .0 .2, search needs))
+    let p = start-place .pre in
+    (begun after-mark-range, (then2 .if2 .taken, p .1 .0 .0, p .1 .0 .2, search needs))
+  where
+    then2 : tie.Then2
+    then2 = search
+
+    after-mark-range : tie.After-mark-range
+    after-mark-range = search then2
+
+    else1 : tie.Else1
+    else1 = search after-mark-range
+
+    start-place : tie.Start
+    start-place = search else1
 
 same-length : tie.Need-same-length
 same-length c = search needs

@@ -31,11 +31,29 @@ same-length-2 c = search needs
 
 returns : tie.Need-returns
 returns c =
-    let a = c .before .before .before .before .before .before .before .before .before .before .before .before .before .before .before .before .before .before .before .note-starts .ensures in
-    let b = c .before .before .before .before .before .before .before .before .before .before .before .before .before .before .before .note-starts2 .ensures in
-    let f = c .before .before .before .before .before .before .before .before .before .before .free-moved .ensures in
-    let m = c .before .before .before .before .place-moved .ensures in
-    (displaced _ _ _ _ (c .before .before .before .before .before .before .before .before .before .before .before .before .before .before .before .before .before .before .before .before .before .before .before .before .before .args .t) _ _ _ _ _ _ _ _ _ (a .0) (b .0) (f .0) (c .before .before .before .before .before .larger .ensures) (m .0) (m .1 .0), (omega arith, omega arith))
+    let a = after-note-starts .note-starts .ensures in
+    let b = after-note-starts2 .note-starts2 .ensures in
+    let f = after-free-moved .free-moved .ensures in
+    let m = after-place-moved .place-moved .ensures in
+    (displaced _ _ _ _ (start .args .t) _ _ _ _ _ _ _ _ _ (a .0) (b .0) (f .0) (after-larger .larger .ensures) (m .0) (m .1 .0), (omega arith, omega arith))
+  where
+    after-place-moved : tie.After-place-moved
+    after-place-moved = search
+
+    after-larger : tie.After-larger
+    after-larger = search after-place-moved
+
+    after-free-moved : tie.After-free-moved
+    after-free-moved = search after-larger
+
+    after-note-starts2 : tie.After-note-starts2
+    after-note-starts2 = search after-free-moved
+
+    after-note-starts : tie.After-note-starts
+    after-note-starts = search after-note-starts2
+
+    start : tie.Start
+    start = search after-note-starts
 
 pub displace-spec : {M : Type 1} → statement M
 displace-spec =

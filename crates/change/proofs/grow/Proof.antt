@@ -19,7 +19,10 @@ slice-reshare-prefix-old : tie.Need-slice-reshare-prefix-old
 slice-reshare-prefix-old c = search needs
 
 slice-aggregate-old : tie.Need-slice-aggregate-old
-slice-aggregate-old c = sym (length-take-le _ _ (c .before .before .before .before .before .before .before .pre .1 .1))
+slice-aggregate-old c = sym (length-take-le _ _ (start .pre .1 .1))
+  where
+    start : tie.Start
+    start = search
 
 sub-displace : tie.Need-sub-displace
 sub-displace c = search needs
@@ -44,14 +47,26 @@ slice-aggregate-displace c = search needs
 
 displace-requires : tie.Need-displace-requires
 displace-requires c κs =
-    let p = c .before .before .before .before .before .before .before .before .before .before .before .pre in
+    let p = start .pre in
     let b = p .0 in
     let t = told-here _ _ _ _ _ _ _ _ _ b in
     let l = length-replicate {A = ℕ} 32768 0 in
     (t .before-inside, (t .after-inside, (area-long _ _ _ _ _ _ _ _ _ b, few _ _ _ _ _ _ _ _ _ b, omega (arith, b .few-index), l, p .1 .3)))
+  where
+    after-old : tie.After-old
+    after-old = search
+
+    start : tie.Start
+    start = search after-old
 
 add-if1 : tie.Need-add-if1
-add-if1 c = omega (arith, c .before .before .before .before .before .before .before .before .before .before .before .before .before .before .before .before .pre .0 .few-index)
+add-if1 c = omega (arith, start .pre .0 .few-index)
+  where
+    after-displace-arg : tie.After-displace-arg
+    after-displace-arg = search
+
+    start : tie.Start
+    start = search after-displace-arg
 
 same-length : tie.Need-same-length
 same-length c = search needs
@@ -61,22 +76,44 @@ same-length-2 c = search needs
 
 returns : tie.Need-returns
 returns c =
-    let s = c .before .before .before .before .before .before .before .before .before .before .before .before .before .before .before .before .before in
-    let d = c .before .before .before .before .before .displace .ensures in
-    (grow-full _ _ _ _ _ _ _ _ _ (s .pre .0) (s .pre .1 .0) _ _ _ (d .0) (s .args .image .now) (s .args .len) refl (c .if1 .taken), (refl, refl))
+    let d = after-displace .displace .ensures in (
+      grow-full _ _ _ _ _ _ _ _ _ (start .pre .0) (start .pre .1 .0) _ _ _ (d .0) (start .args .image .now) (start .args .len) refl (c .if1 .taken),
+      (refl, refl),
+    )
+  where
+    after-displace : tie.After-displace
+    after-displace = search
+
+    after-old : tie.After-old
+    after-old = search after-displace
+
+    start : tie.Start
+    start = search after-old
 
 slice-aggregate-finish : tie.Need-slice-aggregate-finish
 slice-aggregate-finish c = search needs
 
 finish-requires : tie.Need-finish-requires
 finish-requires c κs =
-    let p = c .before .before .before .before .before .before .before .before .before .before .before .before .before .before .before .before .before .before .before .before .before .pre in
+    let p = start .pre in
     let b = p .0 in
-    let d = c .before .before .before .before .before .before .before .before .before .displace .ensures in
+    let d = after-displace .displace .ensures in
     let l = d .1 .0 ∙ length-replicate {A = ℕ} 32768 0 in (
-      grow-ready _ _ _ _ _ _ _ _ _ b (p .1 .0) _ _ _ (d .0) (c .before .before .before .before .if1 .left) (omega (arith, l, b .few-index)),
+      grow-ready _ _ _ _ _ _ _ _ _ b (p .1 .0) _ _ _ (d .0) (else1 .if1 .left) (omega (arith, l, b .few-index)),
       (p .1 .1, p .1 .2, d .1 .1 ∙ p .1 .3),
     )
+  where
+    else1 : tie.Else1
+    else1 = search
+
+    after-displace : tie.After-displace
+    after-displace = search else1
+
+    after-old : tie.After-old
+    after-old = search after-displace
+
+    start : tie.Start
+    start = search after-old
 
 same-length-3 : tie.Need-same-length-3
 same-length-3 c = search needs

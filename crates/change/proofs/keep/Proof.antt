@@ -20,8 +20,10 @@ slice-aggregate-plan-end c = sym (length-take-le _ _ (start .pre .1 .1))
 
 plan-end-requires : tie.Need-plan-end-requires
 plan-end-requires c κs =
-    let r = start .pre .0 in
-    ((r .whole, r .inside, run-few _ _ _ _ _ _ _ _ r, r .few-blocks), ((end-behind _ _ _ _ _ _ _ _ r, r .end-few, r .few-index, start .pre .1 .3), (r .headword, r .body-short)))
+    let r = start .pre .0 in (
+      (r .whole, r .inside, run-few _ _ _ _ _ _ _ _ r, r .few-blocks),
+      ((end-behind _ _ _ _ _ _ _ _ r, r .end-few, r .few-index, start .pre .1 .3), (r .headword, r .body-short)),
+    )
   where
     start : tie.Start
     start = search
@@ -37,7 +39,8 @@ same-length-2 c = search needs
 
 returns : tie.Need-returns
 returns c = (
-  finish-blocks (start .args .image .now) (start .args .len) _ _ _ _ _ _ _ (start .pre .0) _ (measured .plan-end .ensures .0) (marks-long _ (start .pre .1 .3)) (full .if1 .taken),
+  finish-blocks (start .args .image .now) (start .args .len) _ _ _ _ _ _ _ (start .pre .0) _ (measured .plan-end .ensures .0) (marks-long _ (start .pre .1 .3))
+      (full .if1 .taken),
   (refl, refl),
 )
   where
@@ -139,8 +142,10 @@ returns-3 : tie.Need-returns-3
 returns-3 c =
     let k = kept-ready (start .args .image .now) (start .args .len) _ _ _ _ _ _ _ (start .pre .0)
     _ (measured .plan-end .ensures .0) (start .pre .1 .3) (few .if1 .left) (roomy .if2 .left) (start .pre .1 .1) in
-    let w = kept-written _ _ _ _ _ _ _ _ (k .0) _ (k .1) (start .pre .1 .0) _ (k .2) _ _ _ (written .write-kept .ensures .0) (written .write-kept .ensures .1 .0) (sealed .write-rest .ensures .0) in (
-      finish-done (start .args .image .now) (start .args .len) _ _ _ _ _ _ _ (start .pre .0) _ (measured .plan-end .ensures .0) (marks-long _ (start .pre .1 .3))
+    let w = kept-written _ _ _ _ _ _ _ _ (k .0) _ (k .1) (start .pre .1 .0) _ (k .2) _ _ _ (written .write-kept .ensures .0)
+    (written .write-kept .ensures .1 .0) (sealed .write-rest .ensures .0) in (
+      finish-done (start .args .image .now) (start .args .len) _ _ _ _ _ _ _ (start .pre .0) _ (measured .plan-end .ensures .0)
+          (marks-long _ (start .pre .1 .3))
           (few .if1 .left) (roomy .if2 .left) (start .pre .1 .1) _ (k .3) _ w,
       (omega (arith, sealed .write-rest .ensures .1, written .write-kept .ensures .1 .1 .0), written .write-kept .ensures .1 .1 .1),
     )

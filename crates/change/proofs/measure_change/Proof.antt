@@ -8,10 +8,16 @@ use Rattle.change.proofs.measure_change.Statement.{statement}
 use Rattle.change.proofs.measure_change.Tie as tie
 
 mul-start : tie.Need-mul-start
-mul-start c = omega (arith, accepted-index _ _ _ (c .before .before .before .pre .0))
+mul-start c = omega (arith, accepted-index _ _ _ (start .pre .0))
+  where
+    start : tie.Start
+    start = search
 
 add-start : tie.Need-add-start
-add-start c = omega (arith, accepted-index _ _ _ (c .before .before .before .pre .0))
+add-start c = omega (arith, accepted-index _ _ _ (start .pre .0))
+  where
+    start : tie.Start
+    start = search
 
 sub-index : tie.Need-sub-index
 sub-index c = search needs
@@ -20,33 +26,59 @@ part-index-start : tie.Need-part-index-start
 part-index-start c = search needs
 
 part-index-end : tie.Need-part-index-end
-part-index-end c = accepted-index _ _ _ (c .before .before .before .pre .0)
+part-index-end c = accepted-index _ _ _ (start .pre .0)
+  where
+    start : tie.Start
+    start = search
 
 sub-area : tie.Need-sub-area
-sub-area c = accepted-index _ _ _ (c .before .before .before .before .pre .0)
+sub-area c = accepted-index _ _ _ (start .pre .0)
+  where
+    start : tie.Start
+    start = search
 
 part-area-start : tie.Need-part-area-start
-part-area-start c = accepted-index _ _ _ (c .before .before .before .before .pre .0)
+part-area-start c = accepted-index _ _ _ (start .pre .0)
+  where
+    start : tie.Start
+    start = search
 
 part-area-end : tie.Need-part-area-end
 part-area-end c = search needs
 
 nindex2-requires : tie.Need-nindex2-requires
-nindex2-requires c κs = omega (arith, accepted-index _ _ _ (c .before .before .before .before .before .pre .0))
+nindex2-requires c κs = omega (arith, accepted-index _ _ _ (start .pre .0))
+  where
+    start : tie.Start
+    start = search
 
 find-run-requires : tie.Need-find-run-requires
 find-run-requires c κs =
-    let a = c .before .before .before .before .before .before .pre .0 in
-    (accepted-inside _ _ _ a _ (c .nindex2 .ensures .0), (numbers-few _ _ _ a _ (c .nindex2 .ensures .0), (accepted-area _ _ _ a (c .before .before .before .before .before .before .pre .1 .0), accepted-blocks _ _ _ a)))
+    let a = start .pre .0 in (
+      accepted-inside _ _ _ a _ (c .nindex2 .ensures .0),
+      (numbers-few _ _ _ a _ (c .nindex2 .ensures .0), (accepted-area _ _ _ a (start .pre .1 .0), accepted-blocks _ _ _ a)),
+    )
+  where
+    start : tie.Start
+    start = search
 
 entries-start-requires : tie.Need-entries-start-requires
-entries-start-requires c κs = omega (arith, c .find-run .ensures .1 .0, accepted-blocks _ _ _ (c .before .before .before .before .before .before .before .pre .0))
+entries-start-requires c κs = omega (arith, c .find-run .ensures .1 .0, accepted-blocks _ _ _ (start .pre .0))
+  where
+    start : tie.Start
+    start = search
 
 add-measure : tie.Need-add-measure
 add-measure c = search needs
 
 mul-measure : tie.Need-mul-measure
-mul-measure c = omega (arith, c .before .before .find-run .ensures .1 .0, accepted-blocks _ _ _ (c .before .before .before .before .before .before .before .before .before .pre .0))
+mul-measure c = omega (arith, after-find-run .find-run .ensures .1 .0, accepted-blocks _ _ _ (start .pre .0))
+  where
+    after-find-run : tie.After-find-run
+    after-find-run = search
+
+    start : tie.Start
+    start = search after-find-run
 
 sub-measure : tie.Need-sub-measure
 sub-measure c = search needs
@@ -55,18 +87,43 @@ part-measure-start : tie.Need-part-measure-start
 part-measure-start c = search needs
 
 part-measure-end : tie.Need-part-measure-end
-part-measure-end c = omega (arith, c .before .before .find-run .ensures .1 .0, accepted-area _ _ _ (c .before .before .before .before .before .before .before .before .before .pre .0) (c .before .before .before .before .before .before .before .before .before .pre .1 .0))
+part-measure-end c = omega (arith, after-find-run .find-run .ensures .1 .0, accepted-area _ _ _ (start .pre .0) (start .pre .1 .0))
+  where
+    after-find-run : tie.After-find-run
+    after-find-run = search
+
+    start : tie.Start
+    start = search after-find-run
 
 measure-requires : tie.Need-measure-requires
-measure-requires c κs = (c .before .before .before .before .before .before .before .before .before .before .pre .1 .1, c .before .before .before .before .before .before .before .before .before .before .pre .1 .2, run-short _ _ _ _ (c .before .before .entries-start .ensures .0) (c .before .before .before .find-run .ensures .1 .1))
+measure-requires c κs =
+    (start .pre .1 .1, start .pre .1 .2, run-short _ _ _ _ (after-entries-start .entries-start .ensures .0) (after-find-run .find-run .ensures .1 .1))
+  where
+    after-entries-start : tie.After-entries-start
+    after-entries-start = search
+
+    after-find-run : tie.After-find-run
+    after-find-run = search after-entries-start
+
+    start : tie.Start
+    start = search after-find-run
 
 add-count : tie.Need-add-count
 add-count c = search needs
 
 add-count-2 : tie.Need-add-count-2
 add-count-2 c =
-    let m = c .before .before .measure .ensures .1 .0 in
-    omega (arith, m .0, c .before .before .before .before .before .before .find-run .ensures .1 .4, c .before .before .before .before .before .before .before .nindex2 .ensures .1)
+    let m = after-measure .measure .ensures .1 .0 in
+    omega (arith, m .0, after-find-run .find-run .ensures .1 .4, after-nindex2 .nindex2 .ensures .1)
+  where
+    after-measure : tie.After-measure
+    after-measure = search
+
+    after-find-run : tie.After-find-run
+    after-find-run = search after-measure
+
+    after-nindex2 : tie.After-nindex2
+    after-nindex2 = search after-find-run
 
 sub-bytes : tie.Need-sub-bytes
 sub-bytes c = search needs
@@ -158,8 +215,10 @@ returns : tie.Need-returns
 returns c =
     let a = start .args in
     let m = measured .measure .ensures in
-    drafted (a .old .now) (a .n) (a .d) (start .pre .0) _ (counted .nindex2 .ensures .0) (a .h .now) (found .find-run .result) (found .find-run .ensures .0) (a .body .now) (a .fresh)
-    _ _ _ _ _ _ _ _ (found .find-run .ensures .1 .0) (begun .entries-start .ensures .0) (m .0) (start .pre .1 .3) (held .nblock2 .ensures .0) (grown .growth .ensures) (m .1 .0 .1) (m .1 .1)
+    drafted (a .old .now) (a .n) (a .d) (start .pre .0) _ (counted .nindex2 .ensures .0) (a .h .now) (found .find-run .result) (found .find-run .ensures .0)
+    (a .body .now) (a .fresh)
+    _ _ _ _ _ _ _ _ (found .find-run .ensures .1 .0) (begun .entries-start .ensures .0) (m .0) (start .pre .1 .3) (held .nblock2 .ensures .0)
+    (grown .growth .ensures) (m .1 .0 .1) (m .1 .1)
   where
     held : tie.After-nblock2
     held = search

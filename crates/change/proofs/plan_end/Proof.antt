@@ -53,11 +53,39 @@ add-plan-parts-2 c = search needs
 
 plan-parts-requires : tie.Need-plan-parts-requires
 plan-parts-requires c κs =
-    let p = c .before .before .before .before .before .before .before .before .before .before .before .before .before .before .pre in
-    ((p .1 .1 .0, p .1 .1 .1, run-short _ _ _ _ (c .before .before .before .before .entries-start .ensures .0) (p .0 .2)), (p .1 .0 .0, p .1 .0 .1, omega (arith, p .1 .0 .2), omega arith))
+    let p = start .pre in (
+      (p .1 .1 .0, p .1 .1 .1, run-short _ _ _ _ (after-entries-start .entries-start .ensures .0) (p .0 .2)),
+      (p .1 .0 .0, p .1 .0 .1, omega (arith, p .1 .0 .2), omega arith),
+    )
+  where
+    after-entries-start : tie.After-entries-start
+    after-entries-start = search
+
+    after-copy-marks : tie.After-copy-marks
+    after-copy-marks = search after-entries-start
+
+    start : tie.Start
+    start = search after-copy-marks
 
 returns : tie.Need-returns
-returns c = (end-planned (c .before .before .before .before .before .before .before .before .before .before .before .before .before .before .before .before .args .old .now) (c .before .before .before .before .before .before .before .before .before .before .before .before .before .before .before .before .args .v) (c .before .before .before .before .before .before .before .before .before .before .before .before .before .before .before .before .args .free .now) _ (c .before .before .before .before .before .before .before .before .before .before .before .before .before .before .before .before .args .t) (c .before .before .before .before .before .before .before .before .before .before .before .before .before .before .before .before .args .h .now) (c .before .before .before .before .before .before .before .before .before .before .before .before .before .before .before .before .args .body .now) (c .before .before .before .before .before .before .before .before .before .before .before .before .before .before .before .before .args .fresh) (c .before .before .before .before .before .before .entries-start .result) (c .before .plan-parts .result) _ (c .before .before .before .before .before .before .before .before .before .before .copy-marks .ensures) (c .before .before .before .before .before .before .entries-start .ensures .0) (c .before .plan-parts .ensures .0), c .before .plan-parts .ensures .1 .1)
+returns c = (
+  end-planned (start .args .old .now) (start .args .v) (start .args .free .now) _ (start .args .t) (start .args .h .now) (start .args .body .now)
+      (start .args .fresh) (after-entries-start .entries-start .result) (after-plan-parts .plan-parts .result) _
+      (after-copy-marks .copy-marks .ensures) (after-entries-start .entries-start .ensures .0) (after-plan-parts .plan-parts .ensures .0),
+  after-plan-parts .plan-parts .ensures .1 .1,
+)
+  where
+    after-plan-parts : tie.After-plan-parts
+    after-plan-parts = search
+
+    after-entries-start : tie.After-entries-start
+    after-entries-start = search after-plan-parts
+
+    after-copy-marks : tie.After-copy-marks
+    after-copy-marks = search after-entries-start
+
+    start : tie.Start
+    start = search after-copy-marks
 
 pub plan-end-spec : {M : Type 1} → statement M
 plan-end-spec =

@@ -32,7 +32,8 @@ same-length-2 c = search needs
 
 returns-2 : tie.Need-returns-2
 returns-2 c = (
-  put-filled _ (first .copy2 .last .0) _ (start .args .saved .now) _ _ _ (first .copy2 .ensures .0) (second .fill-zero .ensures .0) refl (omega (arith, tested .if1 .left)) (omega (arith, start .pre)),
+  put-filled _ (first .copy2 .last .0) _ (start .args .saved .now) _ _ _ (first .copy2 .ensures .0) (second .fill-zero .ensures .0) refl
+      (omega (arith, tested .if1 .left)) (omega (arith, start .pre)),
   search needs,
 )
   where

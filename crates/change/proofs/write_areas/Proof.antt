@@ -7,107 +7,496 @@ use native.Mathlib.Omega.{arith}
 use borrow.Author.Needs.{needs}
 use Rattle.newruns.proofs.Laws.{length-lent}
 use Rattle.change.proofs.Laws.{areas-done}
-use Rattle.change.proofs.AreasLaws.{starts-inside, area-long, moved-asks, before-asks, run-asks, parts-asks, after-asks, index-end, start-room, run-inside, parts-bytes, parts-image, parts-marks}
+use Rattle.change.proofs.AreasLaws.{
+  starts-inside,
+  area-long,
+  moved-asks,
+  before-asks,
+  run-asks,
+  parts-asks,
+  after-asks,
+  index-end,
+  start-room,
+  run-inside,
+  parts-bytes,
+  parts-image,
+  parts-marks,
+}
 use Rattle.change.proofs.write_areas.Statement.{statement}
 use Rattle.change.proofs.write_areas.Tie as tie
 
+abbrev after-index-of-copy-moved : tie.After-copy-moved → tie.After-index
+after-index-of-copy-moved c = search
+
+abbrev start-of-copy-moved : tie.After-copy-moved → tie.Start
+start-of-copy-moved c = search (after-index-of-copy-moved c)
+
 -- the image keeps its length from call to call
 moved-kept : (c : tie.After-copy-moved)
-    → length (take (256 + 256 * c .before .before .before .before .before .before .before .before .before .before .before .args .v .n) (c .before .before .before .before .before .before .before .before .before .before .before .args .image .now) ++ (c .copy-moved .last .0 ++ drop (length (c .before .before .before .before .before .before .before .before .before .before .before .args .image .now) - (256 + 256 * c .before .before .before .before .before .before .before .before .before .before .before .args .v .n)) (drop (256 + 256 * c .before .before .before .before .before .before .before .before .before .before .before .args .v .n) (c .before .before .before .before .before .before .before .before .before .before .before .args .image .now)))) ≡ length (c .before .before .before .before .before .before .before .before .before .before .before .args .image .now)
-moved-kept c = length-lent (256 + 256 * c .before .before .before .before .before .before .before .before .before .before .before .args .v .n) (length (c .before .before .before .before .before .before .before .before .before .before .before .args .image .now) - (256 + 256 * c .before .before .before .before .before .before .before .before .before .before .before .args .v .n)) (c .before .before .before .before .before .before .before .before .before .before .before .args .image .now) (c .copy-moved .last .0) refl (start-room _ _ _ _ _ _ _ _ (c .before .before .before .before .before .before .before .before .before .before .before .pre .0) _ (c .before .before .before .before .before .before .before .before .before .before .before .pre .1)) (c .copy-moved .ensures .1)
+    → length (take (256 + 256 * start-of-copy-moved c .args .v .n) (start-of-copy-moved c .args .image .now) ++ (c .copy-moved .last .0 ++ drop
+    (length (start-of-copy-moved c .args .image .now) - (256 + 256 * start-of-copy-moved c .args .v .n))
+    (drop (256 + 256 * start-of-copy-moved c .args .v .n) (start-of-copy-moved c .args .image .now))))
+    ≡ length (start-of-copy-moved c .args .image .now)
+moved-kept c =
+    length-lent (256 + 256 * start .args .v .n) (length (start .args .image .now) - (256 + 256 * start .args .v .n)) (start .args .image .now)
+    (c .copy-moved .last .0) refl (start-room _ _ _ _ _ _ _ _ (start .pre .0) _ (start .pre .1)) (c .copy-moved .ensures .1)
+  where
+    after-index : tie.After-index
+    after-index = search
 
-before-kept : (c : tie.After-copy-elements) → length (c .copy-elements .last .0) ≡ length (c .before .before .before .before .before .before .before .before .before .before .before .before .before .before .before .before .before .before .args .image .now)
-before-kept c = c .copy-elements .ensures .1 .1 ∙ moved-kept (c .before .before .before .before .before .before .before)
+    start : tie.Start
+    start = search after-index
 
-parts-kept : (c : tie.After-write-parts) → length (c .write-parts .last .0) ≡ length (c .before .before .before .before .before .before .before .before .before .before .before .before .before .before .before .before .before .before .before .before .before .before .before .args .image .now)
-parts-kept c = c .write-parts .ensures .1 .1 .1 .0 ∙ before-kept (c .before .before .before .before .before)
+abbrev after-image-of-copy-elements : tie.After-copy-elements → tie.After-image
+after-image-of-copy-elements c = search
 
-after-kept : (c : tie.After-copy-elements2) → length (c .copy-elements2 .last .0) ≡ length (c .before .before .before .before .before .before .before .before .before .before .before .before .before .before .before .before .before .before .before .before .before .before .before .before .before .before .before .before .before .args .image .now)
-after-kept c = c .copy-elements2 .ensures .1 .1 ∙ parts-kept (c .before .before .before .before .before .before)
+abbrev after-index-of-copy-elements : tie.After-copy-elements → tie.After-index
+after-index-of-copy-elements c = search (after-image-of-copy-elements c)
+
+abbrev start-of-copy-elements : tie.After-copy-elements → tie.Start
+start-of-copy-elements c = search (after-index-of-copy-elements c)
+
+before-kept : (c : tie.After-copy-elements) → length (c .copy-elements .last .0) ≡ length (start-of-copy-elements c .args .image .now)
+before-kept c = c .copy-elements .ensures .1 .1 ∙ moved-kept after-copy-moved
+  where
+    after-copy-moved : tie.After-copy-moved
+    after-copy-moved = search
+
+abbrev after-run-of-write-parts : tie.After-write-parts → tie.After-run
+after-run-of-write-parts c = search
+
+abbrev after-index-of-write-parts : tie.After-write-parts → tie.After-index
+after-index-of-write-parts c = search (after-run-of-write-parts c)
+
+abbrev start-of-write-parts : tie.After-write-parts → tie.Start
+start-of-write-parts c = search (after-index-of-write-parts c)
+
+parts-kept : (c : tie.After-write-parts) → length (c .write-parts .last .0) ≡ length (start-of-write-parts c .args .image .now)
+parts-kept c = c .write-parts .ensures .1 .1 .1 .0 ∙ before-kept after-copy-elements
+  where
+    after-copy-elements : tie.After-copy-elements
+    after-copy-elements = search
+
+abbrev after-write-parts-of-copy-elements2 : tie.After-copy-elements2 → tie.After-write-parts
+after-write-parts-of-copy-elements2 c = search
+
+abbrev after-run-of-copy-elements2 : tie.After-copy-elements2 → tie.After-run
+after-run-of-copy-elements2 c = search (after-write-parts-of-copy-elements2 c)
+
+abbrev after-index-of-copy-elements2 : tie.After-copy-elements2 → tie.After-index
+after-index-of-copy-elements2 c = search (after-run-of-copy-elements2 c)
+
+abbrev start-of-copy-elements2 : tie.After-copy-elements2 → tie.Start
+start-of-copy-elements2 c = search (after-index-of-copy-elements2 c)
+
+after-kept : (c : tie.After-copy-elements2) → length (c .copy-elements2 .last .0) ≡ length (start-of-copy-elements2 c .args .image .now)
+after-kept c = c .copy-elements2 .ensures .1 .1 ∙ parts-kept after-write-parts
+  where
+    after-write-parts : tie.After-write-parts
+    after-write-parts = search
 
 mul-start : tie.Need-mul-start
-mul-start c = omega (arith, starts-inside _ _ _ _ _ _ _ _ (c .before .before .before .before .before .before .before .pre .0) _ (c .before .before .before .before .before .before .before .pre .1))
+mul-start c = omega (arith, starts-inside _ _ _ _ _ _ _ _ (start .pre .0) _ (start .pre .1))
+  where
+    start : tie.Start
+    start = search
 
 add-start : tie.Need-add-start
-add-start c = omega (arith, starts-inside _ _ _ _ _ _ _ _ (c .before .before .before .before .before .before .before .pre .0) _ (c .before .before .before .before .before .before .before .pre .1))
+add-start c = omega (arith, starts-inside _ _ _ _ _ _ _ _ (start .pre .0) _ (start .pre .1))
+  where
+    start : tie.Start
+    start = search
 
 sub-index : tie.Need-sub-index
-sub-index c = omega (arith, starts-inside _ _ _ _ _ _ _ _ (c .before .before .before .before .before .before .before .pre .0) _ (c .before .before .before .before .before .before .before .pre .1))
+sub-index c = omega (arith, starts-inside _ _ _ _ _ _ _ _ (start .pre .0) _ (start .pre .1))
+  where
+    start : tie.Start
+    start = search
 
 part-index-start : tie.Need-part-index-start
-part-index-start c = omega (arith, starts-inside _ _ _ _ _ _ _ _ (c .before .before .before .before .before .before .before .pre .0) _ (c .before .before .before .before .before .before .before .pre .1))
+part-index-start c = omega (arith, starts-inside _ _ _ _ _ _ _ _ (start .pre .0) _ (start .pre .1))
+  where
+    start : tie.Start
+    start = search
 
 part-index-end : tie.Need-part-index-end
-part-index-end c = omega (arith, starts-inside _ _ _ _ _ _ _ _ (c .before .before .before .before .before .before .before .pre .0) _ (c .before .before .before .before .before .before .before .pre .1))
+part-index-end c = omega (arith, starts-inside _ _ _ _ _ _ _ _ (start .pre .0) _ (start .pre .1))
+  where
+    start : tie.Start
+    start = search
 
 sub-area : tie.Need-sub-area
-sub-area c = omega (arith, starts-inside _ _ _ _ _ _ _ _ (c .before .before .before .before .before .before .before .before .pre .0) _ (c .before .before .before .before .before .before .before .before .pre .1))
+sub-area c = omega (arith, starts-inside _ _ _ _ _ _ _ _ (start .pre .0) _ (start .pre .1))
+  where
+    start : tie.Start
+    start = search
 
 part-area-start : tie.Need-part-area-start
-part-area-start c = omega (arith, starts-inside _ _ _ _ _ _ _ _ (c .before .before .before .before .before .before .before .before .pre .0) _ (c .before .before .before .before .before .before .before .before .pre .1))
+part-area-start c = omega (arith, starts-inside _ _ _ _ _ _ _ _ (start .pre .0) _ (start .pre .1))
+  where
+    start : tie.Start
+    start = search
 
 part-area-end : tie.Need-part-area-end
-part-area-end c = omega (arith, starts-inside _ _ _ _ _ _ _ _ (c .before .before .before .before .before .before .before .before .pre .0) _ (c .before .before .before .before .before .before .before .before .pre .1))
+part-area-end c = omega (arith, starts-inside _ _ _ _ _ _ _ _ (start .pre .0) _ (start .pre .1))
+  where
+    start : tie.Start
+    start = search
 
 sub-copy-moved : tie.Need-sub-copy-moved
-sub-copy-moved c = omega (arith, starts-inside _ _ _ _ _ _ _ _ (c .before .before .before .before .before .before .before .before .before .pre .0) _ (c .before .before .before .before .before .before .before .before .before .pre .1))
+sub-copy-moved c = omega (arith, starts-inside _ _ _ _ _ _ _ _ (start .pre .0) _ (start .pre .1))
+  where
+    after-index : tie.After-index
+    after-index = search
+
+    start : tie.Start
+    start = search after-index
 
 part-copy-moved-start : tie.Need-part-copy-moved-start
-part-copy-moved-start c = omega (arith, starts-inside _ _ _ _ _ _ _ _ (c .before .before .before .before .before .before .before .before .before .pre .0) _ (c .before .before .before .before .before .before .before .before .before .pre .1))
+part-copy-moved-start c = omega (arith, starts-inside _ _ _ _ _ _ _ _ (start .pre .0) _ (start .pre .1))
+  where
+    after-index : tie.After-index
+    after-index = search
+
+    start : tie.Start
+    start = search after-index
 
 part-copy-moved-end : tie.Need-part-copy-moved-end
-part-copy-moved-end c = omega (arith, starts-inside _ _ _ _ _ _ _ _ (c .before .before .before .before .before .before .before .before .before .pre .0) _ (c .before .before .before .before .before .before .before .before .before .pre .1))
+part-copy-moved-end c = omega (arith, starts-inside _ _ _ _ _ _ _ _ (start .pre .0) _ (start .pre .1))
+  where
+    after-index : tie.After-index
+    after-index = search
+
+    start : tie.Start
+    start = search after-index
 
 copy-moved-requires : tie.Need-copy-moved-requires
-copy-moved-requires c κs = moved-asks _ _ _ _ _ _ _ _ (c .before .before .before .before .before .before .before .before .before .before .pre .0) _ (c .before .before .before .before .before .before .before .before .before .before .pre .1)
+copy-moved-requires c κs = moved-asks _ _ _ _ _ _ _ _ (start .pre .0) _ (start .pre .1)
+  where
+    after-index : tie.After-index
+    after-index = search
+
+    start : tie.Start
+    start = search after-index
 
 entries-start-requires : tie.Need-entries-start-requires
-entries-start-requires c κs = run-asks _ _ _ _ _ _ _ _ (c .before .before .before .before .before .before .before .before .before .before .before .before .before .pre .0) _ (c .before .before .before .before .before .before .before .before .before .before .before .before .before .pre .1)
+entries-start-requires c κs = run-asks _ _ _ _ _ _ _ _ (start .pre .0) _ (start .pre .1)
+  where
+    after-index : tie.After-index
+    after-index = search
+
+    start : tie.Start
+    start = search after-index
 
 add-run : tie.Need-add-run
-add-run c = omega (arith, run-asks _ _ _ _ _ _ _ _ (c .before .before .before .before .before .before .before .before .before .before .before .before .before .before .before .pre .0) _ (c .before .before .before .before .before .before .before .before .before .before .before .before .before .before .before .pre .1), c .before .entries-start .ensures, run-inside _ _ _ _ _ _ _ _ (c .before .before .before .before .before .before .before .before .before .before .before .before .before .before .before .pre .0) _ (c .before .before .before .before .before .before .before .before .before .before .before .before .before .before .before .pre .1), area-long _ _ _ _ _ _ _ _ (c .before .before .before .before .before .before .before .before .before .before .before .before .before .before .before .pre .0) _ (c .before .before .before .before .before .before .before .before .before .before .before .before .before .before .before .pre .1))
+add-run c =
+    omega (
+      arith,
+      run-asks _ _ _ _ _ _ _ _ (start .pre .0) _ (start .pre .1),
+      after-entries-start .entries-start .ensures,
+      run-inside _ _ _ _ _ _ _ _ (start .pre .0) _ (start .pre .1),
+      area-long _ _ _ _ _ _ _ _ (start .pre .0) _ (start .pre .1),
+    )
+  where
+    after-entries-start : tie.After-entries-start
+    after-entries-start = search
+
+    after-index : tie.After-index
+    after-index = search after-entries-start
+
+    start : tie.Start
+    start = search after-index
 
 mul-run : tie.Need-mul-run
-mul-run c = omega (arith, run-asks _ _ _ _ _ _ _ _ (c .before .before .before .before .before .before .before .before .before .before .before .before .before .before .before .pre .0) _ (c .before .before .before .before .before .before .before .before .before .before .before .before .before .before .before .pre .1), c .before .entries-start .ensures, run-inside _ _ _ _ _ _ _ _ (c .before .before .before .before .before .before .before .before .before .before .before .before .before .before .before .pre .0) _ (c .before .before .before .before .before .before .before .before .before .before .before .before .before .before .before .pre .1), area-long _ _ _ _ _ _ _ _ (c .before .before .before .before .before .before .before .before .before .before .before .before .before .before .before .pre .0) _ (c .before .before .before .before .before .before .before .before .before .before .before .before .before .before .before .pre .1))
+mul-run c =
+    omega (
+      arith,
+      run-asks _ _ _ _ _ _ _ _ (start .pre .0) _ (start .pre .1),
+      after-entries-start .entries-start .ensures,
+      run-inside _ _ _ _ _ _ _ _ (start .pre .0) _ (start .pre .1),
+      area-long _ _ _ _ _ _ _ _ (start .pre .0) _ (start .pre .1),
+    )
+  where
+    after-entries-start : tie.After-entries-start
+    after-entries-start = search
+
+    after-index : tie.After-index
+    after-index = search after-entries-start
+
+    start : tie.Start
+    start = search after-index
 
 sub-run : tie.Need-sub-run
-sub-run c = omega (arith, run-asks _ _ _ _ _ _ _ _ (c .before .before .before .before .before .before .before .before .before .before .before .before .before .before .before .pre .0) _ (c .before .before .before .before .before .before .before .before .before .before .before .before .before .before .before .pre .1), c .before .entries-start .ensures, run-inside _ _ _ _ _ _ _ _ (c .before .before .before .before .before .before .before .before .before .before .before .before .before .before .before .pre .0) _ (c .before .before .before .before .before .before .before .before .before .before .before .before .before .before .before .pre .1), area-long _ _ _ _ _ _ _ _ (c .before .before .before .before .before .before .before .before .before .before .before .before .before .before .before .pre .0) _ (c .before .before .before .before .before .before .before .before .before .before .before .before .before .before .before .pre .1))
+sub-run c =
+    omega (
+      arith,
+      run-asks _ _ _ _ _ _ _ _ (start .pre .0) _ (start .pre .1),
+      after-entries-start .entries-start .ensures,
+      run-inside _ _ _ _ _ _ _ _ (start .pre .0) _ (start .pre .1),
+      area-long _ _ _ _ _ _ _ _ (start .pre .0) _ (start .pre .1),
+    )
+  where
+    after-entries-start : tie.After-entries-start
+    after-entries-start = search
+
+    after-index : tie.After-index
+    after-index = search after-entries-start
+
+    start : tie.Start
+    start = search after-index
 
 part-run-start : tie.Need-part-run-start
-part-run-start c = omega (arith, run-asks _ _ _ _ _ _ _ _ (c .before .before .before .before .before .before .before .before .before .before .before .before .before .before .before .pre .0) _ (c .before .before .before .before .before .before .before .before .before .before .before .before .before .before .before .pre .1), c .before .entries-start .ensures, run-inside _ _ _ _ _ _ _ _ (c .before .before .before .before .before .before .before .before .before .before .before .before .before .before .before .pre .0) _ (c .before .before .before .before .before .before .before .before .before .before .before .before .before .before .before .pre .1), area-long _ _ _ _ _ _ _ _ (c .before .before .before .before .before .before .before .before .before .before .before .before .before .before .before .pre .0) _ (c .before .before .before .before .before .before .before .before .before .before .before .before .before .before .before .pre .1))
+part-run-start c =
+    omega (
+      arith,
+      run-asks _ _ _ _ _ _ _ _ (start .pre .0) _ (start .pre .1),
+      after-entries-start .entries-start .ensures,
+      run-inside _ _ _ _ _ _ _ _ (start .pre .0) _ (start .pre .1),
+      area-long _ _ _ _ _ _ _ _ (start .pre .0) _ (start .pre .1),
+    )
+  where
+    after-entries-start : tie.After-entries-start
+    after-entries-start = search
+
+    after-index : tie.After-index
+    after-index = search after-entries-start
+
+    start : tie.Start
+    start = search after-index
 
 part-run-end : tie.Need-part-run-end
-part-run-end c = omega (arith, run-asks _ _ _ _ _ _ _ _ (c .before .before .before .before .before .before .before .before .before .before .before .before .before .before .before .pre .0) _ (c .before .before .before .before .before .before .before .before .before .before .before .before .before .before .before .pre .1), c .before .entries-start .ensures, run-inside _ _ _ _ _ _ _ _ (c .before .before .before .before .before .before .before .before .before .before .before .before .before .before .before .pre .0) _ (c .before .before .before .before .before .before .before .before .before .before .before .before .before .before .before .pre .1), area-long _ _ _ _ _ _ _ _ (c .before .before .before .before .before .before .before .before .before .before .before .before .before .before .before .pre .0) _ (c .before .before .before .before .before .before .before .before .before .before .before .before .before .before .before .pre .1))
+part-run-end c =
+    omega (
+      arith,
+      run-asks _ _ _ _ _ _ _ _ (start .pre .0) _ (start .pre .1),
+      after-entries-start .entries-start .ensures,
+      run-inside _ _ _ _ _ _ _ _ (start .pre .0) _ (start .pre .1),
+      area-long _ _ _ _ _ _ _ _ (start .pre .0) _ (start .pre .1),
+    )
+  where
+    after-entries-start : tie.After-entries-start
+    after-entries-start = search
+
+    after-index : tie.After-index
+    after-index = search after-entries-start
+
+    start : tie.Start
+    start = search after-index
 
 copy-elements-requires : tie.Need-copy-elements-requires
-copy-elements-requires c κs = before-asks _ _ _ _ _ _ _ _ (c .before .before .before .before .before .before .before .before .before .before .before .before .before .before .before .before .before .pre .0) _ (c .before .before .before .before .before .before .before .before .before .before .before .before .before .before .before .before .before .pre .1) _ (moved-kept (c .before .before .before .before .before .before))
+copy-elements-requires c κs = before-asks _ _ _ _ _ _ _ _ (start .pre .0) _ (start .pre .1) _ (moved-kept after-copy-moved)
+  where
+    after-copy-moved : tie.After-copy-moved
+    after-copy-moved = search
+
+    after-index : tie.After-index
+    after-index = search after-copy-moved
+
+    start : tie.Start
+    start = search after-index
 
 write-parts-requires : tie.Need-write-parts-requires
-write-parts-requires c κs = parts-asks _ _ _ _ _ _ _ _ (c .before .before .before .before .before .before .before .before .before .before .before .before .before .before .before .before .before .before .before .before .before .before .pre .0) _ (c .before .before .before .before .before .before .before .before .before .before .before .before .before .before .before .before .before .before .before .before .before .before .pre .1) _ _ _ (before-kept (c .before .before .before .before)) (c .before .before .before .before .before .before .before .before .entries-start .ensures .0) (c .before .before .before .before .copy-elements .ensures .1 .0)
+write-parts-requires c κs =
+    parts-asks _ _ _ _ _ _ _ _ (start .pre .0) _ (start .pre .1) _ _ _ (before-kept after-copy-elements) (after-entries-start .entries-start .ensures .0)
+    (after-copy-elements .copy-elements .ensures .1 .0)
+  where
+    after-copy-elements : tie.After-copy-elements
+    after-copy-elements = search
+
+    after-entries-start : tie.After-entries-start
+    after-entries-start = search after-copy-elements
+
+    after-index : tie.After-index
+    after-index = search after-entries-start
+
+    start : tie.Start
+    start = search after-index
 
 copy-elements-requires-2 : tie.Need-copy-elements-requires-2
-copy-elements-requires-2 c κs = after-asks _ _ _ _ _ _ _ _ (c .before .before .before .before .before .before .before .before .before .before .before .before .before .before .before .before .before .before .before .before .before .before .before .before .before .before .before .before .pre .0) _ (c .before .before .before .before .before .before .before .before .before .before .before .before .before .before .before .before .before .before .before .before .before .before .before .before .before .before .before .before .pre .1) _ _ _ (parts-kept (c .before .before .before .before .before)) (c .before .before .before .before .before .before .before .before .before .before .copy-elements .ensures .1 .0) (parts-bytes _ _ _ _ _ _ _ _ (c .before .before .before .before .before .before .before .before .before .before .before .before .before .before .before .before .before .before .before .before .before .before .before .before .before .before .before .before .pre .0) _ (c .before .before .before .before .before .before .before .before .before .before .before .before .before .before .before .before .before .before .before .before .before .before .before .before .before .before .before .before .pre .1) _ (c .before .before .before .before .before .before .before .before .before .before .before .before .before .before .entries-start .ensures .0) _ _ (c .before .before .before .before .before .write-parts .ensures .1 .0))
+copy-elements-requires-2 c κs =
+    after-asks _ _ _ _ _ _ _ _ (start .pre .0) _ (start .pre .1) _ _ _ (parts-kept after-write-parts) (after-copy-elements .copy-elements .ensures .1 .0)
+    (parts-bytes _ _ _ _ _ _ _ _ (start .pre .0) _ (start .pre .1) _ (after-entries-start .entries-start .ensures .0) _ _
+    (after-write-parts .write-parts .ensures .1 .0))
+  where
+    after-write-parts : tie.After-write-parts
+    after-write-parts = search
+
+    after-copy-elements : tie.After-copy-elements
+    after-copy-elements = search after-write-parts
+
+    after-entries-start : tie.After-entries-start
+    after-entries-start = search after-copy-elements
+
+    after-index : tie.After-index
+    after-index = search after-entries-start
+
+    start : tie.Start
+    start = search after-index
 
 mul-fill-zero : tie.Need-mul-fill-zero
-mul-fill-zero c = omega (arith, index-end _ _ _ _ _ _ _ _ (c .before .before .before .before .before .before .before .before .before .before .before .before .before .before .before .before .before .before .before .before .before .before .before .before .before .before .before .before .before .before .before .before .before .pre .0) _ (c .before .before .before .before .before .before .before .before .before .before .before .before .before .before .before .before .before .before .before .before .before .before .before .before .before .before .before .before .before .before .before .before .before .pre .1) _ _ _ (c .before .before .before .before .before .before .before .before .before .before .before .before .before .before .before .copy-elements .ensures .1 .0) (parts-bytes _ _ _ _ _ _ _ _ (c .before .before .before .before .before .before .before .before .before .before .before .before .before .before .before .before .before .before .before .before .before .before .before .before .before .before .before .before .before .before .before .before .before .pre .0) _ (c .before .before .before .before .before .before .before .before .before .before .before .before .before .before .before .before .before .before .before .before .before .before .before .before .before .before .before .before .before .before .before .before .before .pre .1) _ (c .before .before .before .before .before .before .before .before .before .before .before .before .before .before .before .before .before .before .before .entries-start .ensures .0) _ _ (c .before .before .before .before .before .before .before .before .before .before .write-parts .ensures .1 .0)) (c .before .before .before .before .copy-elements2 .ensures .1 .0), starts-inside _ _ _ _ _ _ _ _ (c .before .before .before .before .before .before .before .before .before .before .before .before .before .before .before .before .before .before .before .before .before .before .before .before .before .before .before .before .before .before .before .before .before .pre .0) _ (c .before .before .before .before .before .before .before .before .before .before .before .before .before .before .before .before .before .before .before .before .before .before .before .before .before .before .before .before .before .before .before .before .before .pre .1))
+mul-fill-zero c =
+    omega (
+      arith,
+      index-end _ _ _ _ _ _ _ _ (start .pre .0) _ (start .pre .1) _ _ _ (after-copy-elements .copy-elements .ensures .1 .0)
+          (parts-bytes _ _ _ _ _ _ _ _ (start .pre .0) _ (start .pre .1) _ (after-entries-start .entries-start .ensures .0) _ _
+          (after-write-parts .write-parts .ensures .1 .0)) (after-copy-elements2 .copy-elements2 .ensures .1 .0),
+      starts-inside _ _ _ _ _ _ _ _ (start .pre .0) _ (start .pre .1),
+    )
+  where
+    after-copy-elements2 : tie.After-copy-elements2
+    after-copy-elements2 = search
+
+    after-write-parts : tie.After-write-parts
+    after-write-parts = search after-copy-elements2
+
+    after-copy-elements : tie.After-copy-elements
+    after-copy-elements = search after-write-parts
+
+    after-entries-start : tie.After-entries-start
+    after-entries-start = search after-copy-elements
+
+    after-index : tie.After-index
+    after-index = search after-entries-start
+
+    start : tie.Start
+    start = search after-index
 
 add-fill-zero : tie.Need-add-fill-zero
-add-fill-zero c = omega (arith, index-end _ _ _ _ _ _ _ _ (c .before .before .before .before .before .before .before .before .before .before .before .before .before .before .before .before .before .before .before .before .before .before .before .before .before .before .before .before .before .before .before .before .before .pre .0) _ (c .before .before .before .before .before .before .before .before .before .before .before .before .before .before .before .before .before .before .before .before .before .before .before .before .before .before .before .before .before .before .before .before .before .pre .1) _ _ _ (c .before .before .before .before .before .before .before .before .before .before .before .before .before .before .before .copy-elements .ensures .1 .0) (parts-bytes _ _ _ _ _ _ _ _ (c .before .before .before .before .before .before .before .before .before .before .before .before .before .before .before .before .before .before .before .before .before .before .before .before .before .before .before .before .before .before .before .before .before .pre .0) _ (c .before .before .before .before .before .before .before .before .before .before .before .before .before .before .before .before .before .before .before .before .before .before .before .before .before .before .before .before .before .before .before .before .before .pre .1) _ (c .before .before .before .before .before .before .before .before .before .before .before .before .before .before .before .before .before .before .before .entries-start .ensures .0) _ _ (c .before .before .before .before .before .before .before .before .before .before .write-parts .ensures .1 .0)) (c .before .before .before .before .copy-elements2 .ensures .1 .0), starts-inside _ _ _ _ _ _ _ _ (c .before .before .before .before .before .before .before .before .before .before .before .before .before .before .before .before .before .before .before .before .before .before .before .before .before .before .before .before .before .before .before .before .before .pre .0) _ (c .before .before .before .before .before .before .before .before .before .before .before .before .before .before .before .before .before .before .before .before .before .before .before .before .before .before .before .before .before .before .before .before .before .pre .1))
+add-fill-zero c =
+    omega (
+      arith,
+      index-end _ _ _ _ _ _ _ _ (start .pre .0) _ (start .pre .1) _ _ _ (after-copy-elements .copy-elements .ensures .1 .0)
+          (parts-bytes _ _ _ _ _ _ _ _ (start .pre .0) _ (start .pre .1) _ (after-entries-start .entries-start .ensures .0) _ _
+          (after-write-parts .write-parts .ensures .1 .0)) (after-copy-elements2 .copy-elements2 .ensures .1 .0),
+      starts-inside _ _ _ _ _ _ _ _ (start .pre .0) _ (start .pre .1),
+    )
+  where
+    after-copy-elements2 : tie.After-copy-elements2
+    after-copy-elements2 = search
+
+    after-write-parts : tie.After-write-parts
+    after-write-parts = search after-copy-elements2
+
+    after-copy-elements : tie.After-copy-elements
+    after-copy-elements = search after-write-parts
+
+    after-entries-start : tie.After-entries-start
+    after-entries-start = search after-copy-elements
+
+    after-index : tie.After-index
+    after-index = search after-entries-start
+
+    start : tie.Start
+    start = search after-index
 
 sub-fill-zero : tie.Need-sub-fill-zero
-sub-fill-zero c = omega (arith, index-end _ _ _ _ _ _ _ _ (c .before .before .before .before .before .before .before .before .before .before .before .before .before .before .before .before .before .before .before .before .before .before .before .before .before .before .before .before .before .before .before .before .before .pre .0) _ (c .before .before .before .before .before .before .before .before .before .before .before .before .before .before .before .before .before .before .before .before .before .before .before .before .before .before .before .before .before .before .before .before .before .pre .1) _ _ _ (c .before .before .before .before .before .before .before .before .before .before .before .before .before .before .before .copy-elements .ensures .1 .0) (parts-bytes _ _ _ _ _ _ _ _ (c .before .before .before .before .before .before .before .before .before .before .before .before .before .before .before .before .before .before .before .before .before .before .before .before .before .before .before .before .before .before .before .before .before .pre .0) _ (c .before .before .before .before .before .before .before .before .before .before .before .before .before .before .before .before .before .before .before .before .before .before .before .before .before .before .before .before .before .before .before .before .before .pre .1) _ (c .before .before .before .before .before .before .before .before .before .before .before .before .before .before .before .before .before .before .before .entries-start .ensures .0) _ _ (c .before .before .before .before .before .before .before .before .before .before .write-parts .ensures .1 .0)) (c .before .before .before .before .copy-elements2 .ensures .1 .0), starts-inside _ _ _ _ _ _ _ _ (c .before .before .before .before .before .before .before .before .before .before .before .before .before .before .before .before .before .before .before .before .before .before .before .before .before .before .before .before .before .before .before .before .before .pre .0) _ (c .before .before .before .before .before .before .before .before .before .before .before .before .before .before .before .before .before .before .before .before .before .before .before .before .before .before .before .before .before .before .before .before .before .pre .1))
+sub-fill-zero c =
+    omega (
+      arith,
+      index-end _ _ _ _ _ _ _ _ (start .pre .0) _ (start .pre .1) _ _ _ (after-copy-elements .copy-elements .ensures .1 .0)
+          (parts-bytes _ _ _ _ _ _ _ _ (start .pre .0) _ (start .pre .1) _ (after-entries-start .entries-start .ensures .0) _ _
+          (after-write-parts .write-parts .ensures .1 .0)) (after-copy-elements2 .copy-elements2 .ensures .1 .0),
+      starts-inside _ _ _ _ _ _ _ _ (start .pre .0) _ (start .pre .1),
+    )
+  where
+    after-copy-elements2 : tie.After-copy-elements2
+    after-copy-elements2 = search
+
+    after-write-parts : tie.After-write-parts
+    after-write-parts = search after-copy-elements2
+
+    after-copy-elements : tie.After-copy-elements
+    after-copy-elements = search after-write-parts
+
+    after-entries-start : tie.After-entries-start
+    after-entries-start = search after-copy-elements
+
+    after-index : tie.After-index
+    after-index = search after-entries-start
+
+    start : tie.Start
+    start = search after-index
 
 fill-zero-requires : tie.Need-fill-zero-requires
-fill-zero-requires c κs = omega (arith, index-end _ _ _ _ _ _ _ _ (c .before .before .before .before .before .before .before .before .before .before .before .before .before .before .before .before .before .before .before .before .before .before .before .before .before .before .before .before .before .before .before .before .before .pre .0) _ (c .before .before .before .before .before .before .before .before .before .before .before .before .before .before .before .before .before .before .before .before .before .before .before .before .before .before .before .before .before .before .before .before .before .pre .1) _ _ _ (c .before .before .before .before .before .before .before .before .before .before .before .before .before .before .before .copy-elements .ensures .1 .0) (parts-bytes _ _ _ _ _ _ _ _ (c .before .before .before .before .before .before .before .before .before .before .before .before .before .before .before .before .before .before .before .before .before .before .before .before .before .before .before .before .before .before .before .before .before .pre .0) _ (c .before .before .before .before .before .before .before .before .before .before .before .before .before .before .before .before .before .before .before .before .before .before .before .before .before .before .before .before .before .before .before .before .before .pre .1) _ (c .before .before .before .before .before .before .before .before .before .before .before .before .before .before .before .before .before .before .before .entries-start .ensures .0) _ _ (c .before .before .before .before .before .before .before .before .before .before .write-parts .ensures .1 .0)) (c .before .before .before .before .copy-elements2 .ensures .1 .0), after-kept (c .before .before .before .before))
+fill-zero-requires c κs =
+    omega (
+      arith,
+      index-end _ _ _ _ _ _ _ _ (start .pre .0) _ (start .pre .1) _ _ _ (after-copy-elements .copy-elements .ensures .1 .0)
+          (parts-bytes _ _ _ _ _ _ _ _ (start .pre .0) _ (start .pre .1) _ (after-entries-start .entries-start .ensures .0) _ _
+          (after-write-parts .write-parts .ensures .1 .0)) (after-copy-elements2 .copy-elements2 .ensures .1 .0),
+      after-kept after-copy-elements2,
+    )
+  where
+    after-copy-elements2 : tie.After-copy-elements2
+    after-copy-elements2 = search
+
+    after-write-parts : tie.After-write-parts
+    after-write-parts = search after-copy-elements2
+
+    after-copy-elements : tie.After-copy-elements
+    after-copy-elements = search after-write-parts
+
+    after-entries-start : tie.After-entries-start
+    after-entries-start = search after-copy-elements
+
+    after-index : tie.After-index
+    after-index = search after-entries-start
+
+    start : tie.Start
+    start = search after-index
 
 same-length : tie.Need-same-length
-same-length c = c .before .before .fill-zero .ensures .1 ∙ after-kept (c .before .before .before .before .before .before .before)
+same-length c = after-fill-zero .fill-zero .ensures .1 ∙ after-kept after-copy-elements2
+  where
+    after-fill-zero : tie.After-fill-zero
+    after-fill-zero = search
+
+    after-copy-elements2 : tie.After-copy-elements2
+    after-copy-elements2 = search after-fill-zero
 
 same-length-2 : tie.Need-same-length-2
 same-length-2 c = search needs
 
 returns : tie.Need-returns
-returns c = (areas-done _ _ _ _ _ _ _ _ (c .before .before .before .before .before .before .before .before .before .before .before .before .before .before .before .before .before .before .before .before .before .before .before .before .before .before .before .before .before .before .before .before .before .before .before .before .pre .0) _ (c .before .before .before .before .before .before .before .before .before .before .before .before .before .before .before .before .before .before .before .before .before .before .before .before .before .before .before .before .before .before .before .before .before .before .before .before .pre .1) _ _ _ _ _ _ _ _ (ap (λ (x : List ℕ). take (256 + 256 * c .before .before .before .before .before .before .before .before .before .before .before .before .before .before .before .before .before .before .before .before .before .before .before .before .before .before .before .before .before .before .before .before .before .before .before .before .args .v .n) (c .before .before .before .before .before .before .before .before .before .before .before .before .before .before .before .before .before .before .before .before .before .before .before .before .before .before .before .before .before .before .before .before .before .before .before .before .args .image .now) ++ (x ++ drop (length (c .before .before .before .before .before .before .before .before .before .before .before .before .before .before .before .before .before .before .before .before .before .before .before .before .before .before .before .before .before .before .before .before .before .before .before .before .args .image .now) - (256 + 256 * c .before .before .before .before .before .before .before .before .before .before .before .before .before .before .before .before .before .before .before .before .before .before .before .before .before .before .before .before .before .before .before .before .before .before .before .before .args .v .n)) (drop (256 + 256 * c .before .before .before .before .before .before .before .before .before .before .before .before .before .before .before .before .before .before .before .before .before .before .before .before .before .before .before .before .before .before .before .before .before .before .before .before .args .v .n) (c .before .before .before .before .before .before .before .before .before .before .before .before .before .before .before .before .before .before .before .before .before .before .before .before .before .before .before .before .before .before .before .before .before .before .before .before .args .image .now)))) (c .before .before .before .before .before .before .before .before .before .before .before .before .before .before .before .before .before .before .before .before .before .before .before .before .before .copy-moved .ensures .0)) (c .before .before .before .before .before .before .before .before .before .before .before .before .before .before .before .before .before .before .copy-elements .ensures .0) (c .before .before .before .before .before .before .before .before .before .before .before .before .before .before .before .before .before .before .copy-elements .ensures .1 .0) (parts-image _ _ _ _ _ _ _ _ (c .before .before .before .before .before .before .before .before .before .before .before .before .before .before .before .before .before .before .before .before .before .before .before .before .before .before .before .before .before .before .before .before .before .before .before .before .pre .0) _ (c .before .before .before .before .before .before .before .before .before .before .before .before .before .before .before .before .before .before .before .before .before .before .before .before .before .before .before .before .before .before .before .before .before .before .before .before .pre .1) _ (c .before .before .before .before .before .before .before .before .before .before .before .before .before .before .before .before .before .before .before .before .before .before .entries-start .ensures .0) _ _ _ (c .before .before .before .before .before .before .before .before .before .before .before .before .before .write-parts .ensures .0)) (parts-bytes _ _ _ _ _ _ _ _ (c .before .before .before .before .before .before .before .before .before .before .before .before .before .before .before .before .before .before .before .before .before .before .before .before .before .before .before .before .before .before .before .before .before .before .before .before .pre .0) _ (c .before .before .before .before .before .before .before .before .before .before .before .before .before .before .before .before .before .before .before .before .before .before .before .before .before .before .before .before .before .before .before .before .before .before .before .before .pre .1) _ (c .before .before .before .before .before .before .before .before .before .before .before .before .before .before .before .before .before .before .before .before .before .before .entries-start .ensures .0) _ _ (c .before .before .before .before .before .before .before .before .before .before .before .before .before .write-parts .ensures .1 .0)) (c .before .before .before .before .before .before .before .copy-elements2 .ensures .0) (c .before .before .before .before .before .before .before .copy-elements2 .ensures .1 .0) (c .before .before .fill-zero .ensures .0), (parts-marks _ _ _ _ _ _ _ _ (c .before .before .before .before .before .before .before .before .before .before .before .before .before .before .before .before .before .before .before .before .before .before .before .before .before .before .before .before .before .before .before .before .before .before .before .before .pre .0) _ (c .before .before .before .before .before .before .before .before .before .before .before .before .before .before .before .before .before .before .before .before .before .before .before .before .before .before .before .before .before .before .before .before .before .before .before .before .pre .1) _ (c .before .before .before .before .before .before .before .before .before .before .before .before .before .before .before .before .before .before .before .before .before .before .entries-start .ensures .0) _ (c .before .before .before .before .before .before .before .before .before .before .before .before .before .write-parts .ensures .1 .1 .0), (c .before .before .fill-zero .ensures .1 ∙ after-kept (c .before .before .before .before .before .before .before), search needs)))
+returns c = (
+  areas-done _ _ _ _ _ _ _ _ (start .pre .0) _ (start .pre .1) _ _ _ _ _ _ _ _ (ap (λ (x : List ℕ). take (256 + 256 * start .args .v .n)
+      (start .args .image .now) ++ (x ++ drop (length (start .args .image .now) - (256 + 256 * start .args .v .n))
+      (drop (256 + 256 * start .args .v .n) (start .args .image .now)))) (after-copy-moved .copy-moved .ensures .0))
+      (after-copy-elements .copy-elements .ensures .0) (after-copy-elements .copy-elements .ensures .1 .0) (parts-image _ _ _ _ _ _ _ _
+      (start .pre .0) _ (start .pre .1) _ (after-entries-start .entries-start .ensures .0) _ _ _ (after-write-parts .write-parts .ensures .0))
+      (parts-bytes _ _ _ _ _ _ _ _ (start .pre .0) _ (start .pre .1) _ (after-entries-start .entries-start .ensures .0) _ _
+      (after-write-parts .write-parts .ensures .1 .0)) (after-copy-elements2 .copy-elements2 .ensures .0)
+      (after-copy-elements2 .copy-elements2 .ensures .1 .0) (after-fill-zero .fill-zero .ensures .0),
+  (
+    parts-marks _ _ _ _ _ _ _ _ (start .pre .0) _
+        (start .pre .1) _ (after-entries-start .entries-start .ensures .0) _ (after-write-parts .write-parts .ensures .1 .1 .0),
+    (after-fill-zero .fill-zero .ensures .1 ∙ after-kept after-copy-elements2, search needs),
+  ),
+)
+  where
+    after-fill-zero : tie.After-fill-zero
+    after-fill-zero = search
+
+    after-copy-elements2 : tie.After-copy-elements2
+    after-copy-elements2 = search after-fill-zero
+
+    after-write-parts : tie.After-write-parts
+    after-write-parts = search after-copy-elements2
+
+    after-copy-elements : tie.After-copy-elements
+    after-copy-elements = search after-write-parts
+
+    after-entries-start : tie.After-entries-start
+    after-entries-start = search after-copy-elements
+
+    after-copy-moved : tie.After-copy-moved
+    after-copy-moved = search after-entries-start
+
+    after-index : tie.After-index
+    after-index = search after-copy-moved
+
+    start : tie.Start
+    start = search after-index
 
 pub write-areas-spec : {M : Type 1} → statement M
 write-areas-spec =

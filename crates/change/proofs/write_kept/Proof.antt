@@ -28,7 +28,10 @@ sub-rest c = end-inside _ _ _ _ _ _ _ _ (start .pre .0) _ (start .pre .1 .0) (st
 save-old-requires : tie.Need-save-old-requires
 save-old-requires c κs = (
   (omega (arith, start .pre .0 .few-index), start .pre .0 .few-blocks, omega (arith, start .pre .0 .whole, start .pre .1 .0 .shorter), start .pre .1 .1 .1),
-  (start .pre .0 .inside, end-inside _ _ _ _ _ _ _ _ (start .pre .0) _ (start .pre .1 .0) (start .pre .1 .1 .0) (λ k. omega (arith, known .slice-known .given k))),
+  (
+    start .pre .0 .inside,
+    end-inside _ _ _ _ _ _ _ _ (start .pre .0) _ (start .pre .1 .0) (start .pre .1 .1 .0) (λ k. omega (arith, known .slice-known .given k)),
+  ),
 )
   where
     known : tie.After-slice-known
@@ -38,7 +41,12 @@ save-old-requires c κs = (
     start = search known
 
 add-write-parts : tie.Need-add-write-parts
-add-write-parts c = omega (arith, at-inside _ _ _ _ _ _ _ _ (start .pre .0) _ (start .pre .1 .0) (start .pre .1 .1 .0) (λ k. omega (arith, known .slice-known .given k)), start .pre .0 .few-index)
+add-write-parts c =
+    omega (
+      arith,
+      at-inside _ _ _ _ _ _ _ _ (start .pre .0) _ (start .pre .1 .0) (start .pre .1 .1 .0) (λ k. omega (arith, known .slice-known .given k)),
+      start .pre .0 .few-index,
+    )
   where
     known : tie.After-slice-known
     known = search
@@ -57,7 +65,8 @@ slice-aggregate-write-parts c = sym (length-take-le _ _ (omega (arith, save .sav
 
 write-parts-requires : tie.Need-write-parts-requires
 write-parts-requires c κs =
-    kept-asks _ _ _ _ _ _ _ _ (start .pre .0) _ (start .pre .1 .0) (start .pre .1 .1 .0) (λ k. omega (arith, known .slice-known .given k)) _ _ (save .save-old .ensures .0) _ refl
+    kept-asks _ _ _ _ _ _ _ _ (start .pre .0) _ (start .pre .1 .0) (start .pre .1 .1 .0) (λ k. omega (arith, known .slice-known .given k)) _ _
+    (save .save-old .ensures .0) _ refl
   where
     save : tie.After-save-old
     save = search
@@ -116,11 +125,16 @@ same-length-3 c = search needs
 returns : tie.Need-returns
 returns c = (
   kept-areas _ _ _ _ _ _ _ _ (start .pre .0) _ (start .pre .1 .0) (start .pre .1 .1 .0) (λ k. omega (arith, known .slice-known .given k))
-      _ _ (save .save-old .ensures .0) _ (parts .write-parts .ensures .1 .0) _ _ (parts .write-parts .ensures .0) (parts .write-parts .ensures .1 .1 .1 .0) (put .put-rest .ensures .0),
+      _ _ (save .save-old .ensures .0) _ (parts .write-parts .ensures .1 .0) _ _ (parts .write-parts .ensures .0) (parts .write-parts .ensures .1 .1 .1 .0)
+      (put .put-rest .ensures .0),
   (
     kept-marks _ _ _ _ _ _ _ _ (start .pre .0) _ (start .pre .1 .0) (start .pre .1 .1 .0) (λ k. omega (arith, known .slice-known .given k))
         _ _ (save .save-old .ensures .0) _ (parts .write-parts .ensures .1 .1 .0),
-    (omega (arith, put .put-rest .ensures .1, parts .write-parts .ensures .1 .1 .1 .0), omega (arith, save .save-old .ensures .1), omega (arith, parts .write-parts .ensures .1 .1 .1 .1)),
+    (
+      omega (arith, put .put-rest .ensures .1, parts .write-parts .ensures .1 .1 .1 .0),
+      omega (arith, save .save-old .ensures .1),
+      omega (arith, parts .write-parts .ensures .1 .1 .1 .1),
+    ),
   ),
 )
   where

@@ -27,8 +27,19 @@ same-length c = search needs
 
 returns : tie.Need-returns
 returns c =
-    let f = c .before .before .before .before .before .before .before .write-free-list .ensures in
-    (rest-sealed (c .before .before .before .before .before .before .before .before .before .before .before .args .image .now) _ _ _ (c .before .before .before .before .before .before .before .before .before .before .before .args .front) (c .before .before .before .before .before .before .before .before .before .before .before .args .v) _ (f .0) (f .1 .0) (c .before .before .write-counts .ensures .0), search needs)
+    let f = after-write-free-list .write-free-list .ensures in (
+      rest-sealed (start .args .image .now) _ _ _ (start .args .front) (start .args .v) _ (f .0) (f .1 .0) (after-write-counts .write-counts .ensures .0),
+      search needs,
+    )
+  where
+    after-write-counts : tie.After-write-counts
+    after-write-counts = search
+
+    after-write-free-list : tie.After-write-free-list
+    after-write-free-list = search after-write-counts
+
+    start : tie.Start
+    start = search after-write-free-list
 
 pub write-rest-spec : {M : Type 1} → statement M
 write-rest-spec =

@@ -14,7 +14,8 @@ use Rattle.newruns.proofs.plan_parts.Tie as tie
 
 abbrev Inv-loop : tie.InvT-loop
 Inv-loop run h body fresh free₀ g end limit word₀ part₀ cur₀ d₀ free word part cur d =
-    (length word ≡ 256) × (length part ≡ 3328) × CursorOk run word cur × (length free ≡ length free₀) × (g ≤ d) × (end ≤ d) × (d ≤ limit) × (limit ≤ 98304) × (2560 ≤ length free)
+    (length word ≡ 256) × (length part ≡ 3328) × CursorOk run word cur × (length free ≡ length free₀) × (g ≤ d) × (end ≤ d) × (d ≤ limit) × (limit ≤ 98304)
+    × (2560 ≤ length free)
     × Planning g end (marks free₀) (changed-entries run h body fresh) d (marks free) (todo run word h body cur)
 
 abbrev μ-loop : tie.MeasureT-loop
@@ -47,16 +48,34 @@ slice-aggregate-encode-part-2 : tie.Need-slice-aggregate-encode-part-2 Inv-loop 
 slice-aggregate-encode-part-2 c = omega arith
 
 encode-part-requires : tie.Need-encode-part-requires Inv-loop μ-loop
-encode-part-requires c κs = (c .before .before .loop .inv .2, (c .before .before .before .before .before .before .before .before .before .before .pre .0 .0, c .before .before .before .before .before .before .before .before .before .before .pre .0 .1, omega arith))
+encode-part-requires c κs = (at-loop .loop .inv .2, (start .pre .0 .0, start .pre .0 .1, omega arith))
+  where
+    at-loop : tie.At-loop Inv-loop μ-loop
+    at-loop = search
+
+    start : tie.Start Inv-loop μ-loop
+    start = search at-loop
 
 same-length : tie.Need-same-length Inv-loop μ-loop
 same-length c = omega arith
 
 returns : tie.Need-returns Inv-loop μ-loop
-returns c = (planned _ _ _ _ _ _ _ (c .before .before .before .before .before .before .before .loop .inv .9) _ (none-left _ _ (c .before .before .before .before .encode-part .ensures .1 .0) (c .if1 .taken)), (omega arith, omega arith, omega arith))
+returns c = (
+  planned _ _ _ _ _ _ _ (at-loop .loop .inv .9) _ (none-left _ _ (after-encode-part .encode-part .ensures .1 .0) (c .if1 .taken)),
+  (omega arith, omega arith, omega arith),
+)
+  where
+    after-encode-part : tie.After-encode-part Inv-loop μ-loop
+    after-encode-part = search
+
+    at-loop : tie.At-loop Inv-loop μ-loop
+    at-loop = search after-encode-part
 
 run-blocks-requires : tie.Need-run-blocks-requires Inv-loop μ-loop
-run-blocks-requires c κs = c .before .before .before .before .encode-part .ensures .1 .1 .1 .1 .0 .0
+run-blocks-requires c κs = after-encode-part .encode-part .ensures .1 .1 .1 .1 .0 .0
+  where
+    after-encode-part : tie.After-encode-part Inv-loop μ-loop
+    after-encode-part = search
 
 place-requires : tie.Need-place-requires Inv-loop μ-loop
 place-requires c κs = (omega arith, omega arith, omega arith)
@@ -72,26 +91,72 @@ same-length-2 c = omega arith
 
 returns-2 : tie.Need-returns-2 Inv-loop μ-loop
 returns-2 c = (
-  planned-over _ _ _ _ _ _ _ (planning-more _ _ (c .before .before .before .before .before .before .before .before .before .before .before .encode-part .ensures .1 .0) (c .before .before .before .before .before .before .before .if1 .left) _ (c .before .before .before .before .before .before .before .before .before .before .before .encode-part .ensures .1 .1 .0) _ _ _ _ _ _ _ (c .before .before .before .before .before .before .run-blocks .ensures .0) (c .before .before .before .before .place .ensures .0) (c .before .larger .ensures) (c .before .before .before .before .place .ensures .1 .1 .0) _ _ _ (c .before .before .before .before .before .before .before .before .before .before .before .before .before .before .loop .inv .9)) _ (c .if2 .taken),
+  planned-over _ _ _ _ _ _ _ (planning-more _ _ (after-encode-part .encode-part .ensures .1 .0) (else1 .if1 .left) _
+      (after-encode-part .encode-part .ensures .1 .1 .0) _ _ _ _ _ _ _ (after-run-blocks .run-blocks .ensures .0) (after-place .place .ensures .0)
+      (after-larger .larger .ensures) (after-place .place .ensures .1 .1 .0) _ _ _ (at-loop .loop .inv .9)) _ (c .if2 .taken),
   (omega arith, omega arith, omega arith),
 )
+  where
+    after-larger : tie.After-larger Inv-loop μ-loop
+    after-larger = search
+
+    after-place : tie.After-place Inv-loop μ-loop
+    after-place = search after-larger
+
+    after-run-blocks : tie.After-run-blocks Inv-loop μ-loop
+    after-run-blocks = search after-place
+
+    else1 : tie.Else1 Inv-loop μ-loop
+    else1 = search after-run-blocks
+
+    after-encode-part : tie.After-encode-part Inv-loop μ-loop
+    after-encode-part = search else1
+
+    at-loop : tie.At-loop Inv-loop μ-loop
+    at-loop = search after-encode-part
 
 loop-less : tie.Need-loop-less Inv-loop μ-loop
-loop-less c = fewer-left _ _ (c .before .before .before .before .before .before .before .before .before .before .before .before .encode-part .ensures .1 .0) (c .before .before .before .before .before .before .before .before .if1 .left) _ (c .before .before .before .before .before .before .before .before .before .before .before .before .encode-part .ensures .1 .1 .0)
+loop-less c = fewer-left _ _ (after-encode-part .encode-part .ensures .1 .0) (else1 .if1 .left) _ (after-encode-part .encode-part .ensures .1 .1 .0)
+  where
+    else1 : tie.Else1 Inv-loop μ-loop
+    else1 = search
+
+    after-encode-part : tie.After-encode-part Inv-loop μ-loop
+    after-encode-part = search else1
 
 loop-again : tie.Need-loop-again Inv-loop μ-loop
 loop-again c = (
   omega arith,
   omega arith,
-  c .before .before .before .before .before .before .before .before .before .before .before .before .encode-part .ensures .1 .1 .1 .0,
+  after-encode-part .encode-part .ensures .1 .1 .1 .0,
   omega arith,
   omega arith,
   omega arith,
   omega arith,
   omega arith,
   omega arith,
-  planning-more _ _ (c .before .before .before .before .before .before .before .before .before .before .before .before .encode-part .ensures .1 .0) (c .before .before .before .before .before .before .before .before .if1 .left) _ (c .before .before .before .before .before .before .before .before .before .before .before .before .encode-part .ensures .1 .1 .0) _ _ _ _ _ _ _ (c .before .before .before .before .before .before .before .run-blocks .ensures .0) (c .before .before .before .before .before .place .ensures .0) (c .before .before .larger .ensures) (c .before .before .before .before .before .place .ensures .1 .1 .0) _ _ _ (c .before .before .before .before .before .before .before .before .before .before .before .before .before .before .before .loop .inv .9),
+  planning-more _ _ (after-encode-part .encode-part .ensures .1 .0) (else1 .if1 .left) _ (after-encode-part .encode-part .ensures .1 .1 .0) _ _ _ _ _ _ _
+      (after-run-blocks .run-blocks .ensures .0) (after-place .place .ensures .0) (after-larger .larger .ensures) (after-place .place .ensures .1 .1 .0) _ _ _
+      (at-loop .loop .inv .9),
 )
+  where
+    after-larger : tie.After-larger Inv-loop μ-loop
+    after-larger = search
+
+    after-place : tie.After-place Inv-loop μ-loop
+    after-place = search after-larger
+
+    after-run-blocks : tie.After-run-blocks Inv-loop μ-loop
+    after-run-blocks = search after-place
+
+    else1 : tie.Else1 Inv-loop μ-loop
+    else1 = search after-run-blocks
+
+    after-encode-part : tie.After-encode-part Inv-loop μ-loop
+    after-encode-part = search else1
+
+    at-loop : tie.At-loop Inv-loop μ-loop
+    at-loop = search after-encode-part
 
 pub plan-parts-spec : {M : Type 1} → statement M
 plan-parts-spec =

@@ -13,14 +13,33 @@ use Rattle.parts.specs.Part.{part-of}
 use Rattle.parts.specs.Merge.{todo, changed-entries, CursorOk}
 use Rattle.parts.proofs.PartLaws.{none-left, used-some, fewer-left}
 use Rattle.parts.proofs.Laws.{first-bytes, none-zero, begun-todo, todo-short}
-use Rattle.newruns.proofs.Laws.{laid, elements-long, Writing, planning-under, planning-more, writing-start, writing-more, written-image, written-size, written-free, length-lent, run-room, element-fits, element-past, head-stands, part-stored}
+use Rattle.newruns.proofs.Laws.{
+  laid,
+  elements-long,
+  Writing,
+  planning-under,
+  planning-more,
+  writing-start,
+  writing-more,
+  written-image,
+  written-size,
+  written-free,
+  length-lent,
+  run-room,
+  element-fits,
+  element-past,
+  head-stands,
+  part-stored,
+}
 use Rattle.newruns.proofs.write_parts.Statement.{statement}
 use Rattle.newruns.proofs.write_parts.Tie as tie
 
 abbrev Inv-loop : tie.InvT-loop
 Inv-loop image₀ start at run h body fresh free₀ g end word₀ part₀ cur₀ d₀ out₀ image free word part cur d out =
-    (length word ≡ 256) × (length part ≡ 3328) × CursorOk run word cur × (length image ≡ length image₀) × (length free ≡ length free₀) × (2560 ≤ length free) × (g ≤ d)
-    × (laid g end (marks free₀) (changed-entries run h body fresh) .end ≤ 98304) × (start + 256 * laid g end (marks free₀) (changed-entries run h body fresh) .end ≤ length image₀)
+    (length word ≡ 256) × (length part ≡ 3328) × CursorOk run word cur × (length image ≡ length image₀) × (length free ≡ length free₀) × (2560 ≤ length free)
+    × (g ≤ d)
+    × (laid g end (marks free₀) (changed-entries run h body fresh) .end ≤ 98304)
+    × (start + 256 * laid g end (marks free₀) (changed-entries run h body fresh) .end ≤ length image₀)
     × (at + elements-long g (laid g end (marks free₀) (changed-entries run h body fresh) .places) (changed-entries run h body fresh) ≤ length image₀)
     × Writing start g at end (marks free₀) (changed-entries run h body fresh) image₀ out d (marks free) (todo run word h body cur) image
 
@@ -29,22 +48,133 @@ abbrev μ-loop : tie.MeasureT-loop
 
 -- the part fits its slice
 part-filled : (c : tie.After-encode-part Inv-loop μ-loop) → c .encode-part .result .used ≤ length (c .encode-part .last .1 .1 .1 .1 .1 .0)
-part-filled c = omega (arith, c .encode-part .ensures .1 .1 .1 .1 .0 .0, c .encode-part .ensures .1 .1 .1 .1 .0 .1, c .before .before .before .loop .inv .1)
+part-filled c = omega (arith, c .encode-part .ensures .1 .1 .1 .1 .0 .0, c .encode-part .ensures .1 .1 .1 .1 .0 .1, at-loop .loop .inv .1)
+  where
+    at-loop : tie.At-loop Inv-loop μ-loop
+    at-loop = search
+
+abbrev after-place-of-larger : tie.After-larger Inv-loop μ-loop → tie.After-place Inv-loop μ-loop
+after-place-of-larger c = search
+
+abbrev after-run-blocks-of-larger : tie.After-larger Inv-loop μ-loop → tie.After-run-blocks Inv-loop μ-loop
+after-run-blocks-of-larger c = search (after-place-of-larger c)
+
+abbrev at-loop-of-larger : tie.After-larger Inv-loop μ-loop → tie.At-loop Inv-loop μ-loop
+at-loop-of-larger c = search (after-run-blocks-of-larger c)
+
+abbrev after-advance-of-larger : tie.After-larger Inv-loop μ-loop → tie.After-advance Inv-loop μ-loop
+after-advance-of-larger c = search (at-loop-of-larger c)
+
+abbrev start-of-larger : tie.After-larger Inv-loop μ-loop → tie.Start Inv-loop μ-loop
+start-of-larger c = search (after-advance-of-larger c)
 
 -- its run fits the image
-run-fits : (c : tie.After-larger Inv-loop μ-loop) → c .before .before .before .before .before .before .before .before .before .before .before .before .before .before .before .before .before .before .before .before .before .before .args .start + 256 * c .before .before .before .place .result + 256 * c .before .before .before .before .before .run-blocks .result ≤ length (c .before .before .before .before .before .before .before .before .before .before .before .before .before .loop .image)
-run-fits c = omega (arith, c .before .before .before .before .before .before .before .before .before .before .before .before .before .loop .inv .3, c .before .before .before .before .before .before .before .before .before .before .before .before .before .loop .inv .7, c .before .before .before .before .before .before .before .before .before .before .before .before .before .loop .inv .8, planning-under _ _ _ _ _ _ _ (planning-more _ _ (c .before .before .before .before .before .before .before .before .before .before .encode-part .ensures .1 .0) (c .before .before .before .before .before .before .if1 .left) _ (c .before .before .before .before .before .before .before .before .before .before .encode-part .ensures .1 .1 .0) _ _ _ _ _ _ _ (c .before .before .before .before .before .run-blocks .ensures .0) (c .before .before .before .place .ensures .0) refl refl _ _ _ (c .before .before .before .before .before .before .before .before .before .before .before .before .before .loop .inv .10 .planning)))
+run-fits : (c : tie.After-larger Inv-loop μ-loop) → start-of-larger c .args .start + 256 * after-place-of-larger c .place .result + 256
+    * after-run-blocks-of-larger c .run-blocks .result ≤ length (at-loop-of-larger c .loop .image)
+run-fits c =
+    omega (
+      arith,
+      at-loop .loop .inv .3,
+      at-loop .loop .inv .7,
+      at-loop .loop .inv .8,
+      planning-under _ _ _ _ _ _ _ (planning-more _ _
+          (after-encode-part .encode-part .ensures .1 .0) (else1 .if1 .left) _ (after-encode-part .encode-part .ensures .1 .1 .0) _ _ _ _ _ _ _
+          (after-run-blocks .run-blocks .ensures .0) (after-place .place .ensures .0) refl refl _ _ _ (at-loop .loop .inv .10 .planning)),
+    )
+  where
+    after-place : tie.After-place Inv-loop μ-loop
+    after-place = search
 
-run-starts : (c : tie.After-larger Inv-loop μ-loop) → c .before .before .before .before .before .before .before .before .before .before .before .before .before .before .before .before .before .before .before .before .before .before .args .start + 256 * c .before .before .before .place .result ≤ length (c .before .before .before .before .before .before .before .before .before .before .before .before .before .loop .image)
+    after-run-blocks : tie.After-run-blocks Inv-loop μ-loop
+    after-run-blocks = search after-place
+
+    else1 : tie.Else1 Inv-loop μ-loop
+    else1 = search after-run-blocks
+
+    after-encode-part : tie.After-encode-part Inv-loop μ-loop
+    after-encode-part = search else1
+
+    at-loop : tie.At-loop Inv-loop μ-loop
+    at-loop = search after-encode-part
+
+run-starts : (c : tie.After-larger Inv-loop μ-loop)
+    → start-of-larger c .args .start + 256 * after-place-of-larger c .place .result ≤ length (at-loop-of-larger c .loop .image)
 run-starts c = omega (arith, run-fits c)
 
+abbrev after-place-of-write-run : tie.After-write-run Inv-loop μ-loop → tie.After-place Inv-loop μ-loop
+after-place-of-write-run c = search
+
+abbrev after-word4-of-write-run : tie.After-write-run Inv-loop μ-loop → tie.After-word4 Inv-loop μ-loop
+after-word4-of-write-run c = search (after-place-of-write-run c)
+
+abbrev at-loop-of-write-run : tie.After-write-run Inv-loop μ-loop → tie.At-loop Inv-loop μ-loop
+at-loop-of-write-run c = search (after-word4-of-write-run c)
+
+abbrev after-advance-of-write-run : tie.After-write-run Inv-loop μ-loop → tie.After-advance Inv-loop μ-loop
+after-advance-of-write-run c = search (at-loop-of-write-run c)
+
+abbrev start-of-write-run : tie.After-write-run Inv-loop μ-loop → tie.Start Inv-loop μ-loop
+start-of-write-run c = search (after-advance-of-write-run c)
+
 -- the image after it is as long
-run-kept : (c : tie.After-write-run Inv-loop μ-loop) → length (putMid (c .before .before .before .before .before .before .before .before .before .before .before .before .before .before .before .before .before .before .before .before .before .before .before .before .before .args .start + 256 * c .before .before .before .before .before .before .place .result) (length (c .before .before .before .before .before .before .before .before .before .before .before .before .before .before .before .before .loop .image) - (c .before .before .before .before .before .before .before .before .before .before .before .before .before .before .before .before .before .before .before .before .before .before .before .before .before .args .start + 256 * c .before .before .before .before .before .before .place .result)) (c .before .before .before .before .before .before .before .before .before .before .before .before .before .before .before .before .loop .image) (c .write-run .last .0)) ≡ length (c .before .before .before .before .before .before .before .before .before .before .before .before .before .before .before .before .loop .image)
-run-kept c = length-lent _ _ (c .before .before .before .before .before .before .before .before .before .before .before .before .before .before .before .before .loop .image) (c .write-run .last .0) refl (run-starts (c .before .before .before)) (c .write-run .ensures .1)
+run-kept : (c : tie.After-write-run Inv-loop μ-loop) → length (putMid (start-of-write-run c .args .start + 256 * after-place-of-write-run c .place .result)
+    (length (at-loop-of-write-run c .loop .image) - (start-of-write-run c .args .start + 256 * after-place-of-write-run c .place .result))
+    (at-loop-of-write-run c .loop .image) (c .write-run .last .0)) ≡ length (at-loop-of-write-run c .loop .image)
+run-kept c = length-lent _ _ (at-loop .loop .image) (c .write-run .last .0) refl (run-starts after-larger) (c .write-run .ensures .1)
+  where
+    after-larger : tie.After-larger Inv-loop μ-loop
+    after-larger = search
+
+    else1 : tie.Else1 Inv-loop μ-loop
+    else1 = search after-larger
+
+    at-loop : tie.At-loop Inv-loop μ-loop
+    at-loop = search else1
+
+abbrev after-write-run-of-head-end : tie.After-head-end Inv-loop μ-loop → tie.After-write-run Inv-loop μ-loop
+after-write-run-of-head-end c = search
+
+abbrev after-place-of-head-end : tie.After-head-end Inv-loop μ-loop → tie.After-place Inv-loop μ-loop
+after-place-of-head-end c = search (after-write-run-of-head-end c)
+
+abbrev after-encode-part-of-head-end : tie.After-head-end Inv-loop μ-loop → tie.After-encode-part Inv-loop μ-loop
+after-encode-part-of-head-end c = search (after-place-of-head-end c)
+
+abbrev at-loop-of-head-end : tie.After-head-end Inv-loop μ-loop → tie.At-loop Inv-loop μ-loop
+at-loop-of-head-end c = search (after-encode-part-of-head-end c)
+
+abbrev after-advance-of-head-end : tie.After-head-end Inv-loop μ-loop → tie.After-advance Inv-loop μ-loop
+after-advance-of-head-end c = search (at-loop-of-head-end c)
+
+abbrev start-of-head-end : tie.After-head-end Inv-loop μ-loop → tie.Start Inv-loop μ-loop
+start-of-head-end c = search (after-advance-of-head-end c)
 
 -- the element's headword is that of the part
-part-head : (c : tie.After-head-end Inv-loop μ-loop) → take (c .head-end .result - 3) (drop 3 (c .before .before .before .before .before .before .before .before .before .before .before .before .before .before .before .before .before .encode-part .last .1 .1 .1 .1 .1 .0)) ≡ first-headword (part-of 1024 0 [] (todo (now (c .before .before .before .before .before .before .before .before .before .before .before .before .before .before .before .before .before .before .before .before .before .before .before .before .before .before .before .before .before .args .run)) (c .before .before .before .before .before .before .before .before .before .before .before .before .before .before .before .before .before .before .before .before .loop .word) (now (c .before .before .before .before .before .before .before .before .before .before .before .before .before .before .before .before .before .before .before .before .before .before .before .before .before .before .before .before .before .args .h)) (now (c .before .before .before .before .before .before .before .before .before .before .before .before .before .before .before .before .before .before .before .before .before .before .before .before .before .before .before .before .before .args .body)) (c .before .before .before .before .before .before .before .before .before .before .before .before .before .before .before .before .before .before .before .before .loop .cur)))
-part-head c = head-stands _ _ _ _ (c .before .before .before .before .before .before .before .before .before .before .before .before .before .before .before .before .before .encode-part .ensures .1 .0) (c .before .before .before .before .before .before .before .before .before .before .before .before .before .before .before .before .before .encode-part .ensures .0) (c .before .before .before .before .before .before .before .before .before .before .before .before .before .if1 .left) (todo-short _ _ _ _ _ (c .before .before .before .before .before .before .before .before .before .before .before .before .before .before .before .before .before .before .before .before .loop .inv .2) (c .before .before .before .before .before .before .before .before .before .before .before .before .before .before .before .before .before .before .before .before .before .before .before .before .before .before .before .before .before .pre .0 .0) (c .before .before .before .before .before .before .before .before .before .before .before .before .before .before .before .before .before .before .before .before .before .before .before .before .before .before .before .before .before .pre .0 .1)) _ (c .head-end .ensures .1)
+part-head : (c : tie.After-head-end Inv-loop μ-loop)
+    → take (c .head-end .result - 3) (drop 3 (after-encode-part-of-head-end c .encode-part .last .1 .1 .1 .1 .1 .0)) ≡ first-headword
+    (part-of 1024 0 [] (todo (now (start-of-head-end c .args .run)) (at-loop-of-head-end c .loop .word) (now (start-of-head-end c .args .h))
+    (now (start-of-head-end c .args .body)) (at-loop-of-head-end c .loop .cur)))
+part-head c =
+    head-stands _ _ _ _ (after-encode-part .encode-part .ensures .1 .0) (after-encode-part .encode-part .ensures .0) (else1 .if1 .left)
+    (todo-short _ _ _ _ _ (at-loop .loop .inv .2) (start .pre .0 .0) (start .pre .0 .1)) _ (c .head-end .ensures .1)
+  where
+    after-larger : tie.After-larger Inv-loop μ-loop
+    after-larger = search
+
+    else1 : tie.Else1 Inv-loop μ-loop
+    else1 = search after-larger
+
+    after-encode-part : tie.After-encode-part Inv-loop μ-loop
+    after-encode-part = search else1
+
+    at-loop : tie.At-loop Inv-loop μ-loop
+    at-loop = search after-encode-part
+
+    after-advance : tie.After-advance Inv-loop μ-loop
+    after-advance = search at-loop
+
+    start : tie.Start Inv-loop μ-loop
+    start = search after-advance
 
 slice-aggregate-advance : tie.Need-slice-aggregate-advance Inv-loop μ-loop
 slice-aggregate-advance c = refl
@@ -54,18 +184,24 @@ advance-requires c κs = (omega arith, (omega arith, omega arith, none-zero))
 
 loop-holds : tie.Need-loop-holds Inv-loop μ-loop
 loop-holds c = (
-  c .before .advance .ensures .1 .1 .1,
+  after-advance .advance .ensures .1 .1 .1,
   refl,
-  c .before .advance .ensures .1 .1 .0,
+  after-advance .advance .ensures .1 .1 .0,
   refl,
   refl,
-  c .before .before .before .before .before .before .before .before .pre .1 .0 .1,
-  c .before .before .before .before .before .before .before .before .pre .1 .0 .0,
-  c .before .before .before .before .before .before .before .before .pre .1 .1 .0 .0,
-  c .before .before .before .before .before .before .before .before .pre .1 .1 .0 .1,
-  c .before .before .before .before .before .before .before .before .pre .1 .1 .1,
-  writing-start _ _ _ _ _ _ _ _ (begun-todo _ _ _ _ _ _ (c .before .advance .ensures .0) (c .before .advance .ensures .1 .0)),
+  start .pre .1 .0 .1,
+  start .pre .1 .0 .0,
+  start .pre .1 .1 .0 .0,
+  start .pre .1 .1 .0 .1,
+  start .pre .1 .1 .1,
+  writing-start _ _ _ _ _ _ _ _ (begun-todo _ _ _ _ _ _ (after-advance .advance .ensures .0) (after-advance .advance .ensures .1 .0)),
 )
+  where
+    after-advance : tie.After-advance Inv-loop μ-loop
+    after-advance = search
+
+    start : tie.Start Inv-loop μ-loop
+    start = search after-advance
 
 slice-aggregate-encode-part : tie.Need-slice-aggregate-encode-part Inv-loop μ-loop
 slice-aggregate-encode-part c = omega arith
@@ -74,7 +210,16 @@ slice-aggregate-encode-part-2 : tie.Need-slice-aggregate-encode-part-2 Inv-loop 
 slice-aggregate-encode-part-2 c = omega arith
 
 encode-part-requires : tie.Need-encode-part-requires Inv-loop μ-loop
-encode-part-requires c κs = (c .before .before .loop .inv .2, (c .before .before .before .before .before .before .before .before .before .before .before .pre .0 .0, c .before .before .before .before .before .before .before .before .before .before .before .pre .0 .1, omega arith))
+encode-part-requires c κs = (at-loop .loop .inv .2, (start .pre .0 .0, start .pre .0 .1, omega arith))
+  where
+    at-loop : tie.At-loop Inv-loop μ-loop
+    at-loop = search
+
+    after-advance : tie.After-advance Inv-loop μ-loop
+    after-advance = search at-loop
+
+    start : tie.Start Inv-loop μ-loop
+    start = search after-advance
 
 same-length : tie.Need-same-length Inv-loop μ-loop
 same-length c = omega arith
@@ -84,30 +229,80 @@ same-length-2 c = omega arith
 
 returns : tie.Need-returns Inv-loop μ-loop
 returns c =
-    let none = none-left _ _ (c .before .before .before .before .encode-part .ensures .1 .0) (c .if1 .taken) in
-    let w = c .before .before .before .before .before .before .before .loop .inv .10 in
-    (written-image _ _ _ _ _ _ _ _ _ _ _ _ w none, (written-size _ _ _ _ _ _ _ _ _ _ _ _ w none, (written-free _ _ _ _ _ _ _ _ _ _ _ _ w none, (omega arith, omega arith))))
+    let none = none-left _ _ (after-encode-part .encode-part .ensures .1 .0) (c .if1 .taken) in
+    let w = at-loop .loop .inv .10 in (
+      written-image _ _ _ _ _ _ _ _ _ _ _ _ w none,
+      (written-size _ _ _ _ _ _ _ _ _ _ _ _ w none, (written-free _ _ _ _ _ _ _ _ _ _ _ _ w none, (omega arith, omega arith))),
+    )
+  where
+    after-encode-part : tie.After-encode-part Inv-loop μ-loop
+    after-encode-part = search
+
+    at-loop : tie.At-loop Inv-loop μ-loop
+    at-loop = search after-encode-part
 
 run-blocks-requires : tie.Need-run-blocks-requires Inv-loop μ-loop
-run-blocks-requires c κs = c .before .before .before .before .encode-part .ensures .1 .1 .1 .1 .0 .0
+run-blocks-requires c κs = after-encode-part .encode-part .ensures .1 .1 .1 .1 .0 .0
+  where
+    after-encode-part : tie.After-encode-part Inv-loop μ-loop
+    after-encode-part = search
 
 place-requires : tie.Need-place-requires Inv-loop μ-loop
-place-requires c κs = (omega arith, omega (arith, planning-under _ _ _ _ _ _ _ (c .before .before .before .before .before .before .before .before .before .loop .inv .10 .planning)), omega arith)
+place-requires c κs = (omega arith, omega (arith, planning-under _ _ _ _ _ _ _ (at-loop .loop .inv .10 .planning)), omega arith)
+  where
+    after-word4 : tie.After-word4 Inv-loop μ-loop
+    after-word4 = search
+
+    at-loop : tie.At-loop Inv-loop μ-loop
+    at-loop = search after-word4
 
 add-larger : tie.Need-add-larger Inv-loop μ-loop
-add-larger c = omega (arith, planning-under _ _ _ _ _ _ _ (c .before .before .before .before .before .before .before .before .before .before .before .before .loop .inv .10 .planning))
+add-larger c = omega (arith, planning-under _ _ _ _ _ _ _ (at-loop .loop .inv .10 .planning))
+  where
+    after-part2 : tie.After-part2 Inv-loop μ-loop
+    after-part2 = search
+
+    at-loop : tie.At-loop Inv-loop μ-loop
+    at-loop = search after-part2
 
 larger-requires : tie.Need-larger-requires Inv-loop μ-loop
 larger-requires c κs = search needs
 
 mul-write-run : tie.Need-mul-write-run Inv-loop μ-loop
-mul-write-run c = omega (arith, run-starts c, c .before .before .before .before .before .before .before .before .before .before .before .before .before .before .before .before .before .before .before .before .before .before .good .0 .0)
+mul-write-run c = omega (arith, run-starts c, start .good .0 .0)
+  where
+    after-part2 : tie.After-part2 Inv-loop μ-loop
+    after-part2 = search
+
+    after-advance : tie.After-advance Inv-loop μ-loop
+    after-advance = search after-part2
+
+    start : tie.Start Inv-loop μ-loop
+    start = search after-advance
 
 add-write-run : tie.Need-add-write-run Inv-loop μ-loop
-add-write-run c = omega (arith, run-starts c, c .before .before .before .before .before .before .before .before .before .before .before .before .before .before .before .before .before .before .before .before .before .before .good .0 .0)
+add-write-run c = omega (arith, run-starts c, start .good .0 .0)
+  where
+    after-part2 : tie.After-part2 Inv-loop μ-loop
+    after-part2 = search
+
+    after-advance : tie.After-advance Inv-loop μ-loop
+    after-advance = search after-part2
+
+    start : tie.Start Inv-loop μ-loop
+    start = search after-advance
 
 sub-write-run : tie.Need-sub-write-run Inv-loop μ-loop
-sub-write-run c = omega (arith, run-starts c, c .before .before .before .before .before .before .before .before .before .before .before .before .before .before .before .before .before .before .before .before .before .before .good .0 .0)
+sub-write-run c = omega (arith, run-starts c, start .good .0 .0)
+  where
+    after-part2 : tie.After-part2 Inv-loop μ-loop
+    after-part2 = search
+
+    after-advance : tie.After-advance Inv-loop μ-loop
+    after-advance = search after-part2
+
+    start : tie.Start Inv-loop μ-loop
+    start = search after-advance
 
 part-write-run-start : tie.Need-part-write-run-start Inv-loop μ-loop
 part-write-run-start c = omega (arith, run-starts c)
@@ -116,27 +311,74 @@ part-write-run-end : tie.Need-part-write-run-end Inv-loop μ-loop
 part-write-run-end c = omega (arith, run-starts c)
 
 array-share-prefix-part : tie.Need-array-share-prefix-part Inv-loop μ-loop
-array-share-prefix-part c = omega (arith, c .before .before .before .before .before .before .before .before .before .before .before .encode-part .ensures .1 .1 .1 .1 .0 .0)
+array-share-prefix-part c = omega (arith, after-encode-part .encode-part .ensures .1 .1 .1 .1 .0 .0)
+  where
+    after-run-blocks : tie.After-run-blocks Inv-loop μ-loop
+    after-run-blocks = search
+
+    after-encode-part : tie.After-encode-part Inv-loop μ-loop
+    after-encode-part = search after-run-blocks
 
 slice-aggregate-write-run : tie.Need-slice-aggregate-write-run Inv-loop μ-loop
-slice-aggregate-write-run c = first-bytes _ _ (part-filled (c .before .before .before .before .before .before .before .before .before .before .before .before))
+slice-aggregate-write-run c = first-bytes _ _ (part-filled after-encode-part)
+  where
+    after-run-blocks : tie.After-run-blocks Inv-loop μ-loop
+    after-run-blocks = search
+
+    after-encode-part : tie.After-encode-part Inv-loop μ-loop
+    after-encode-part = search after-run-blocks
 
 write-run-requires : tie.Need-write-run-requires Inv-loop μ-loop
 write-run-requires c κs =
-    let e = c .before .before .before .before .before .before .before .before .before .before .before .before in
-    let n = c .before .before .before .before .before .before .before .run-blocks .ensures .0 in
-    run-room _ _ _ _ _ (e .before .before .before .loop .image) (e .encode-part .ensures .1 .1 .1 .1 .0 .0) (part-filled e) n refl (run-fits (c .before .before))
+    let n = after-run-blocks .run-blocks .ensures .0 in
+    run-room _ _ _ _ _ (at-loop .loop .image) (after-encode-part .encode-part .ensures .1 .1 .1 .1 .0 .0) (part-filled after-encode-part) n refl
+    (run-fits after-larger)
+  where
+    after-larger : tie.After-larger Inv-loop μ-loop
+    after-larger = search
+
+    after-run-blocks : tie.After-run-blocks Inv-loop μ-loop
+    after-run-blocks = search after-larger
+
+    after-encode-part : tie.After-encode-part Inv-loop μ-loop
+    after-encode-part = search after-run-blocks
+
+    at-loop : tie.At-loop Inv-loop μ-loop
+    at-loop = search after-encode-part
 
 slice-aggregate-head-end : tie.Need-slice-aggregate-head-end Inv-loop μ-loop
 slice-aggregate-head-end c =
-    let e = c .before .before .before .before .before .before .before .before .before .before .before .before .before .before .before .before in
-    sym (e .encode-part .ensures .1 .1 .1 .1 .0 .1 ∙ e .before .before .before .loop .inv .1)
+    sym (after-encode-part .encode-part .ensures .1 .1 .1 .1 .0 .1 ∙ at-loop .loop .inv .1)
+  where
+    after-free : tie.After-free Inv-loop μ-loop
+    after-free = search
+
+    after-encode-part : tie.After-encode-part Inv-loop μ-loop
+    after-encode-part = search after-free
+
+    at-loop : tie.At-loop Inv-loop μ-loop
+    at-loop = search after-encode-part
 
 head-end-requires : tie.Need-head-end-requires Inv-loop μ-loop
-head-end-requires c κs = (omega (arith, used-some _ _ (c .before .before .before .before .before .before .before .before .before .before .before .before .before .before .before .before .encode-part .ensures .1 .0) (c .before .before .before .before .before .before .before .before .before .before .before .before .if1 .left)), part-filled (c .before .before .before .before .before .before .before .before .before .before .before .before .before .before .before .before))
+head-end-requires c κs = (omega (arith, used-some _ _ (after-encode-part .encode-part .ensures .1 .0) (else1 .if1 .left)), part-filled after-encode-part)
+  where
+    after-larger : tie.After-larger Inv-loop μ-loop
+    after-larger = search
+
+    else1 : tie.Else1 Inv-loop μ-loop
+    else1 = search after-larger
+
+    after-encode-part : tie.After-encode-part Inv-loop μ-loop
+    after-encode-part = search else1
 
 sub-put-element : tie.Need-sub-put-element Inv-loop μ-loop
-sub-put-element c = omega (arith, c .before .before .before .before .before .before .before .before .before .before .before .place .ensures .1 .0 .0)
+sub-put-element c = omega (arith, after-place .place .ensures .1 .0 .0)
+  where
+    after-part3 : tie.After-part3 Inv-loop μ-loop
+    after-part3 = search
+
+    after-place : tie.After-place Inv-loop μ-loop
+    after-place = search after-part3
 
 sub-put-element-2 : tie.Need-sub-put-element-2 Inv-loop μ-loop
 sub-put-element-2 c = omega (arith, c .before .head-end .ensures .0 .0)
@@ -148,33 +390,109 @@ part-put-element-end : tie.Need-part-put-element-end Inv-loop μ-loop
 part-put-element-end c = omega (arith, c .before .before .head-end .ensures .0 .1)
 
 put-element-requires : tie.Need-put-element-requires Inv-loop μ-loop
-put-element-requires c κs = element-fits _ _ (c .before .before .before .before .before .before .before .before .before .before .before .before .before .before .before .before .before .before .before .before .encode-part .ensures .1 .0) (c .before .before .before .before .before .before .before .before .before .before .before .before .before .before .before .before .if1 .left) _ (c .before .before .before .before .before .before .before .before .before .before .before .before .before .before .before .before .before .before .before .before .encode-part .ensures .1 .1 .0) _ _ _ _ _ _ _ (c .before .before .before .before .before .before .before .before .before .before .before .before .before .before .before .run-blocks .ensures .0) (c .before .before .before .before .before .before .before .before .before .before .before .before .before .place .ensures .0) refl refl _ _ _ _ _ _ _ _ _ _ (part-head (c .before .before .before)) (c .before .before .before .before .before .before .before .before .before .before .before .before .before .before .before .before .before .before .before .before .before .before .before .loop .inv .10) (c .before .before .before .before .before .before .before .before .before .before .before .before .before .before .before .before .before .before .before .before .before .before .before .loop .inv .9) (c .before .before .before .before .before .before .before .before .before .before .before .before .before .before .before .before .before .before .before .before .before .before .before .loop .inv .3) (run-kept (c .before .before .before .before .before .before .before))
+put-element-requires c κs =
+    element-fits _ _ (after-encode-part .encode-part .ensures .1 .0) (else1 .if1 .left) _ (after-encode-part .encode-part .ensures .1 .1 .0) _ _ _ _ _ _ _
+    (after-run-blocks .run-blocks .ensures .0) (after-place .place .ensures .0) refl refl _ _ _ _ _ _ _ _ _ _ (part-head after-head-end)
+    (at-loop .loop .inv .10) (at-loop .loop .inv .9) (at-loop .loop .inv .3) (run-kept after-write-run)
+  where
+    after-head-end : tie.After-head-end Inv-loop μ-loop
+    after-head-end = search
+
+    after-write-run : tie.After-write-run Inv-loop μ-loop
+    after-write-run = search after-head-end
+
+    after-place : tie.After-place Inv-loop μ-loop
+    after-place = search after-write-run
+
+    after-run-blocks : tie.After-run-blocks Inv-loop μ-loop
+    after-run-blocks = search after-place
+
+    else1 : tie.Else1 Inv-loop μ-loop
+    else1 = search after-run-blocks
+
+    after-encode-part : tie.After-encode-part Inv-loop μ-loop
+    after-encode-part = search else1
+
+    at-loop : tie.At-loop Inv-loop μ-loop
+    at-loop = search after-encode-part
 
 loop-less : tie.Need-loop-less Inv-loop μ-loop
-loop-less c = fewer-left _ _ (c .before .before .before .before .before .before .before .before .before .before .before .before .before .before .before .before .before .before .before .before .before .before .before .before .encode-part .ensures .1 .0) (c .before .before .before .before .before .before .before .before .before .before .before .before .before .before .before .before .before .before .before .before .if1 .left) _ (c .before .before .before .before .before .before .before .before .before .before .before .before .before .before .before .before .before .before .before .before .before .before .before .before .encode-part .ensures .1 .1 .0)
+loop-less c = fewer-left _ _ (after-encode-part .encode-part .ensures .1 .0) (else1 .if1 .left) _ (after-encode-part .encode-part .ensures .1 .1 .0)
+  where
+    after-head-end : tie.After-head-end Inv-loop μ-loop
+    after-head-end = search
+
+    after-larger : tie.After-larger Inv-loop μ-loop
+    after-larger = search after-head-end
+
+    else1 : tie.Else1 Inv-loop μ-loop
+    else1 = search after-larger
+
+    after-encode-part : tie.After-encode-part Inv-loop μ-loop
+    after-encode-part = search else1
 
 -- where the part was encoded
 abbrev encoded : tie.After-cur Inv-loop μ-loop → tie.After-encode-part Inv-loop μ-loop
 encoded c =
-    c .before .before .before .before .before .before .before .before .before .before .before .before .before .before .before .before .before .before .before .before .before .before .before .before
+    after-encode-part
+  where
+    after-part4 : tie.After-part4 Inv-loop μ-loop
+    after-part4 = search
+
+    after-free : tie.After-free Inv-loop μ-loop
+    after-free = search after-part4
+
+    after-encode-part : tie.After-encode-part Inv-loop μ-loop
+    after-encode-part = search after-free
 
 loop-again : tie.Need-loop-again Inv-loop μ-loop
 loop-again c = (
-  encoded c .encode-part .ensures .1 .1 .1 .1 .0 .2 ∙ encoded c .before .before .before .loop .inv .0,
-  encoded c .encode-part .ensures .1 .1 .1 .1 .0 .1 ∙ encoded c .before .before .before .loop .inv .1,
-  c .before .before .before .before .before .before .before .before .before .before .before .before .before .before .before .before .before .before .before .before .before .before .before .before .encode-part .ensures .1 .1 .1 .0,
-  c .before .before .before .put-element .ensures .1 .1 ∙ run-kept (c .before .before .before .before .before .before .before .before .before .before .before) ∙ c .before .before .before .before .before .before .before .before .before .before .before .before .before .before .before .before .before .before .before .before .before .before .before .before .before .before .before .loop .inv .3,
-  c .before .before .before .before .before .before .before .before .before .before .before .before .before .before .before .before .before .place .ensures .1 .1 .1 ∙ c .before .before .before .before .before .before .before .before .before .before .before .before .before .before .before .before .before .before .before .before .before .before .before .before .before .before .before .loop .inv .4,
-  omega (arith, c .before .before .before .before .before .before .before .before .before .before .before .before .before .before .before .before .before .place .ensures .1 .1 .1, c .before .before .before .before .before .before .before .before .before .before .before .before .before .before .before .before .before .before .before .before .before .before .before .before .before .before .before .loop .inv .5),
-  omega (arith, c .before .before .before .before .before .before .before .before .before .before .before .before .before .before .larger .ensures, c .before .before .before .before .before .before .before .before .before .before .before .before .before .before .before .before .before .before .before .before .before .before .before .before .before .before .before .loop .inv .6),
-  c .before .before .before .before .before .before .before .before .before .before .before .before .before .before .before .before .before .before .before .before .before .before .before .before .before .before .before .loop .inv .7,
-  c .before .before .before .before .before .before .before .before .before .before .before .before .before .before .before .before .before .before .before .before .before .before .before .before .before .before .before .loop .inv .8,
-  c .before .before .before .before .before .before .before .before .before .before .before .before .before .before .before .before .before .before .before .before .before .before .before .before .before .before .before .loop .inv .9,
-  writing-more _ _ (c .before .before .before .before .before .before .before .before .before .before .before .before .before .before .before .before .before .before .before .before .before .before .before .before .encode-part .ensures .1 .0) (c .before .before .before .before .before .before .before .before .before .before .before .before .before .before .before .before .before .before .before .before .if1 .left) _ (c .before .before .before .before .before .before .before .before .before .before .before .before .before .before .before .before .before .before .before .before .before .before .before .before .encode-part .ensures .1 .1 .0) _ _ _ _ _ _ _ (c .before .before .before .before .before .before .before .before .before .before .before .before .before .before .before .before .before .before .before .run-blocks .ensures .0) (c .before .before .before .before .before .before .before .before .before .before .before .before .before .before .before .before .before .place .ensures .0) (c .before .before .before .before .before .before .before .before .before .before .before .before .before .before .larger .ensures) (c .before .before .before .before .before .before .before .before .before .before .before .before .before .before .before .before .before .place .ensures .1 .1 .0) _ _ _ _ _ _ _ _ _ _
-      (part-stored _ _ _ _ (c .before .before .before .before .before .before .before .before .before .before .before .before .before .before .before .before .before .before .before .before .before .before .before .before .encode-part .ensures .1 .0) (c .before .before .before .before .before .before .before .before .before .before .before .before .before .before .before .before .before .before .before .before .before .before .before .before .encode-part .ensures .0) _ _ _ _ _ _ _ _ _ (c .before .before .before .before .before .before .before .before .before .before .before .before .before .before .before .before .before .before .before .run-blocks .ensures .0) refl (run-fits (c .before .before .before .before .before .before .before .before .before .before .before .before .before .before)) (c .before .before .before .before .before .before .before .before .before .before .before .write-run .ensures .0) (part-head (c .before .before .before .before .before .before .before)) (c .before .before .before .put-element .ensures .0))
-      (element-past _ _ _ _ _ (part-head (c .before .before .before .before .before .before .before)) (c .before .before .before .put-element .ensures .1 .0))
-      (c .before .before .before .before .before .before .before .before .before .before .before .before .before .before .before .before .before .before .before .before .before .before .before .before .before .before .before .loop .inv .10),
+  after-encode-part .encode-part .ensures .1 .1 .1 .1 .0 .2 ∙ at-loop .loop .inv .0,
+  after-encode-part .encode-part .ensures .1 .1 .1 .1 .0 .1 ∙ at-loop .loop .inv .1,
+  after-encode-part .encode-part .ensures .1 .1 .1 .0,
+  after-put-element .put-element .ensures .1 .1 ∙ run-kept after-write-run ∙ at-loop .loop .inv .3,
+  after-place .place .ensures .1 .1 .1 ∙ at-loop .loop .inv .4,
+  omega (arith, after-place .place .ensures .1 .1 .1, at-loop .loop .inv .5),
+  omega (arith, after-larger .larger .ensures, at-loop .loop .inv .6),
+  at-loop .loop .inv .7,
+  at-loop .loop .inv .8,
+  at-loop .loop .inv .9,
+  writing-more _ _ (after-encode-part .encode-part .ensures .1 .0) (else1 .if1 .left) _ (after-encode-part .encode-part .ensures .1 .1 .0) _ _ _ _ _ _ _
+      (after-run-blocks .run-blocks .ensures .0) (after-place .place .ensures .0) (after-larger .larger .ensures) (after-place .place .ensures .1 .1 .0) _ _ _ _
+      _ _ _ _ _ _
+      (part-stored _ _ _ _ (after-encode-part .encode-part .ensures .1 .0) (after-encode-part .encode-part .ensures .0) _ _ _ _ _ _ _ _ _
+      (after-run-blocks .run-blocks .ensures .0) refl (run-fits after-larger) (after-write-run .write-run .ensures .0) (part-head after-head-end)
+      (after-put-element .put-element .ensures .0))
+      (element-past _ _ _ _ _ (part-head after-head-end) (after-put-element .put-element .ensures .1 .0))
+      (at-loop .loop .inv .10),
 )
+  where
+    after-put-element : tie.After-put-element Inv-loop μ-loop
+    after-put-element = search
+
+    after-head-end : tie.After-head-end Inv-loop μ-loop
+    after-head-end = search after-put-element
+
+    after-write-run : tie.After-write-run Inv-loop μ-loop
+    after-write-run = search after-head-end
+
+    after-larger : tie.After-larger Inv-loop μ-loop
+    after-larger = search after-write-run
+
+    after-place : tie.After-place Inv-loop μ-loop
+    after-place = search after-larger
+
+    after-run-blocks : tie.After-run-blocks Inv-loop μ-loop
+    after-run-blocks = search after-place
+
+    else1 : tie.Else1 Inv-loop μ-loop
+    else1 = search after-run-blocks
+
+    after-encode-part : tie.After-encode-part Inv-loop μ-loop
+    after-encode-part = search else1
+
+    at-loop : tie.At-loop Inv-loop μ-loop
+    at-loop = search after-encode-part
 
 pub write-parts-spec : {M : Type 1} → statement M
 write-parts-spec =

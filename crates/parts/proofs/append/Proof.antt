@@ -27,11 +27,23 @@ same-length c = search needs
 
 returns : tie.Need-returns
 returns c =
-    let p : 1020 < c .before .before .before .before .before .before .before .before .args .used + c .before .before .entry-size .result = omega arith in
+    let p : 1020 < start .args .used + after-entry-size .entry-size .result = omega arith in
     (search append-full, search needs)
+  where
+    after-entry-size : tie.After-entry-size
+    after-entry-size = search
+
+    start : tie.Start
+    start = search after-entry-size
+
+abbrev after-entry-size-of-joined1 : tie.Joined1 → tie.After-entry-size
+after-entry-size-of-joined1 c = search
+
+abbrev start-of-joined1 : tie.Joined1 → tie.Start
+start-of-joined1 c = search (after-entry-size-of-joined1 c)
 
 -- by which way the entry has room
-room : (c : tie.Joined1) → (c .before .before .before .before .before .before .before .args .used ≡ 0) ⊎ (c .before .before .before .before .before .before .before .args .used + c .before .entry-size .result ≤ 1020)
+room : (c : tie.Joined1) → (start-of-joined1 c .args .used ≡ 0) ⊎ (start-of-joined1 c .args .used + after-entry-size-of-joined1 c .entry-size .result ≤ 1020)
 room c = ⊎-elim (λ w. inr (omega arith)) (λ w. inl (omega arith)) (c .if1 .came)
 
 slice-reshare-prefix-put-entry : tie.Need-slice-reshare-prefix-put-entry
@@ -55,15 +67,31 @@ same-length-2 c = search needs
 same-length-3 : tie.Need-same-length-3
 same-length-3 c = search needs
 
+abbrev after-copy-of-slice-known4 : tie.After-slice-known4 → tie.After-copy
+after-copy-of-slice-known4 c = search
+
+abbrev after-entry-size-of-slice-known4 : tie.After-slice-known4 → tie.After-entry-size
+after-entry-size-of-slice-known4 c = search (after-copy-of-slice-known4 c)
+
+abbrev start-of-slice-known4 : tie.After-slice-known4 → tie.Start
+start-of-slice-known4 c = search (after-entry-size-of-slice-known4 c)
+
 -- the headword just appended is the one that the next entry shares its front with
-renewed : (c : tie.After-slice-known4) → take (length (now (c .before .before .before .before .before .before .before .before .before .before .before .before .before .before .before .before .args .headword))) (c .before .before .copy .last .0) ≡ now (c .before .before .before .before .before .before .before .before .before .before .before .before .before .before .before .before .args .headword)
+renewed : (c : tie.After-slice-known4) → take (length (now (start-of-slice-known4 c .args .headword))) (after-copy-of-slice-known4 c .copy .last .0)
+    ≡ now (start-of-slice-known4 c .args .headword)
 renewed c = search last-renewed
 
 returns-2 : tie.Need-returns-2
 returns-2 c =
-    let r = room (c .before .before .before .before .before .before .before .before .before) in
+    let r = room joined1 in
     let k = renewed c in
     (search append-done, (omega arith, omega arith, ⊎-elim (λ w. omega arith) (λ w. omega arith) r))
+  where
+    after-part : tie.After-part
+    after-part = search
+
+    joined1 : tie.Joined1
+    joined1 = search after-part
 
 pub append-spec : {M : Type 1} → statement M
 append-spec =
