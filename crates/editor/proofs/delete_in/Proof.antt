@@ -17,8 +17,16 @@ same-length c = search needs
 
 returns : tie.Need-returns
 returns c =
-    let r = delete-eleven (c .before .before .before .before .before .before .before .args .image .now) (c .before .before .before .before .before .before .before .args .len) (c .before .before .before .before .before .before .before .args .work .now) (c .before .before .before .before .before .before .before .pre .1 .0 .0) (c .before .before .before .before .before .before .before .pre .1 .0 .1) (c .before .before .before .before .before .before .before .pre .1 .0 .2) (c .before .before .before .before .before .before .before .pre .1 .0 .3) _ _ (c .before .before .before .before .before .before .before .pre .0) _ (c .before .writable .ensures) (c .before .before .before .before .before .before .before .args .headword .now) (c .if1 .taken) in
+    let r = delete-eleven (start-place .args .image .now) (start-place .args .len) (start-place .args .work .now) (start-place .pre .1 .0 .0)
+    (start-place .pre .1 .0 .1) (start-place .pre .1 .0 .2) (start-place .pre .1 .0 .3) _ _ (start-place .pre .0) _ (after-writable .writable .ensures)
+    (start-place .args .headword .now) (c .if1 .taken) in
     (r .0, (r .1, refl))
+  where
+    after-writable : tie.After-writable
+    after-writable = search
+
+    start-place : tie.Start
+    start-place = search after-writable
 
 headword-ok-requires : tie.Need-headword-ok-requires
 headword-ok-requires c κs = search needs
@@ -28,8 +36,22 @@ same-length-2 c = search needs
 
 returns-2 : tie.Need-returns-2
 returns-2 c =
-    let r = delete-twelve (c .before .before .before .before .before .before .before .before .before .args .image .now) (c .before .before .before .before .before .before .before .before .before .args .len) (c .before .before .before .before .before .before .before .before .before .args .work .now) (c .before .before .before .before .before .before .before .before .before .pre .1 .0 .0) (c .before .before .before .before .before .before .before .before .before .pre .1 .0 .1) (c .before .before .before .before .before .before .before .before .before .pre .1 .0 .2) (c .before .before .before .before .before .before .before .before .before .pre .1 .0 .3) _ _ (c .before .before .before .before .before .before .before .before .before .pre .0) _ (c .before .before .before .writable .ensures) (c .before .before .before .before .before .before .before .before .before .args .headword .now) (c .before .before .if1 .left) _ (c .before .headword-ok .ensures) (c .if2 .taken) in
+    let r = delete-twelve (start-place .args .image .now) (start-place .args .len) (start-place .args .work .now) (start-place .pre .1 .0 .0)
+    (start-place .pre .1 .0 .1) (start-place .pre .1 .0 .2) (start-place .pre .1 .0 .3) _ _ (start-place .pre .0) _ (after-writable .writable .ensures)
+    (start-place .args .headword .now) (else1 .if1 .left) _ (after-headword-ok .headword-ok .ensures) (c .if2 .taken) in
     (r .0, (r .1, refl))
+  where
+    after-headword-ok : tie.After-headword-ok
+    after-headword-ok = search
+
+    else1 : tie.Else1
+    else1 = search after-headword-ok
+
+    after-writable : tie.After-writable
+    after-writable = search else1
+
+    start-place : tie.Start
+    start-place = search after-writable
 
 slice-reshare-prefix-measure-change : tie.Need-slice-reshare-prefix-measure-change
 slice-reshare-prefix-measure-change c = search needs
@@ -42,7 +64,13 @@ slice-aggregate-measure-change-2 c = search needs
 
 -- where the headword passed its test, from the start of the call on
 abbrev start : tie.Else2 → tie.Start
-start c = c .before .before .before .before .before .before .before .before .before
+start c = start-place
+  where
+    else1 : tie.Else1
+    else1 = search
+
+    start-place : tie.Start
+    start-place = search else1
 
 -- it is a headword
 good : (c : tie.Else2) → headword-ok (start c .args .headword .now) ≡ true
@@ -58,30 +86,73 @@ same-length-3 c = search needs
 
 returns-3 : tie.Need-returns-3
 returns-3 c =
-    let e = c .before .before .before .before .before in
-    let s = start e in
-    let p = s .pre in
-    let k = c .before .before .measure-change .ensures in
-    let r = delete-absent (s .args .image .now) (s .args .len) (s .args .work .now) (p .1 .0 .0) (p .1 .0 .1) (p .1 .0 .2) (p .1 .0 .3) _ _ (p .0)
-    _ (e .before .before .before .writable .ensures) (s .args .headword .now) (e .before .before .if1 .left) _ (e .before .headword-ok .ensures) (e .if2 .left)
+    let p = start-place .pre in
+    let k = after-measure-change .measure-change .ensures in
+    let r = delete-absent (start-place .args .image .now) (start-place .args .len) (start-place .args .work .now) (p .1 .0 .0) (p .1 .0 .1) (p .1 .0 .2)
+    (p .1 .0 .3) _ _ (p .0)
+    _ (after-writable .writable .ensures) (start-place .args .headword .now) (else1 .if1 .left) _ (after-headword-ok .headword-ok .ensures) (else2 .if2 .left)
     _ (k .found-is) (c .if3 .taken) in
     (r .0, (r .1, refl))
+  where
+    after-measure-change : tie.After-measure-change
+    after-measure-change = search
+
+    else2 : tie.Else2
+    else2 = search after-measure-change
+
+    after-headword-ok : tie.After-headword-ok
+    after-headword-ok = search else2
+
+    else1 : tie.Else1
+    else1 = search after-headword-ok
+
+    after-writable : tie.After-writable
+    after-writable = search else1
+
+    start-place : tie.Start
+    start-place = search after-writable
 
 slice-aggregate-change : tie.Need-slice-aggregate-change
 slice-aggregate-change c = search needs
 
 sub-change : tie.Need-sub-change
 sub-change c =
-    let p = start (c .before .before .before .before .before .before .before .before .before) .pre in
-    delete-some _ _ _ (p .1 .1 .1) _ (c .before .before .before .before .before .before .measure-change .ensures .found-is) (c .before .before .before .before .if3 .left) _ _ (p .0)
+    let p = start-place .pre in
+    delete-some _ _ _ (p .1 .1 .1) _ (after-measure-change .measure-change .ensures .found-is) (else3 .if3 .left) _ _ (p .0)
+  where
+    else3 : tie.Else3
+    else3 = search
+
+    after-measure-change : tie.After-measure-change
+    after-measure-change = search else3
+
+    else1 : tie.Else1
+    else1 = search after-measure-change
+
+    start-place : tie.Start
+    start-place = search else1
 
 change-requires : tie.Need-change-requires
 change-requires c κs =
-    let e = c .before .before .before .before .before .before .before .before .before in
-    let p = start e .pre in
-    let k = c .before .before .before .before .before .before .measure-change .ensures in
-    let f = c .before .before .before .before .if3 .left in
-    (k, ((p .1 .0 .2, p .1 .0 .1, p .1 .0 .3, p .1 .0 .4), (p .1 .1 .0, ((good e, search needs), delete-ready _ _ _ (p .1 .1 .1) _ (k .found-is) f _))))
+    let p = start-place .pre in
+    let k = after-measure-change .measure-change .ensures in
+    let f = else3 .if3 .left in
+    (k, ((p .1 .0 .2, p .1 .0 .1, p .1 .0 .3, p .1 .0 .4), (p .1 .1 .0, ((good else2, search needs), delete-ready _ _ _ (p .1 .1 .1) _ (k .found-is) f _))))
+  where
+    else3 : tie.Else3
+    else3 = search
+
+    after-measure-change : tie.After-measure-change
+    after-measure-change = search else3
+
+    else2 : tie.Else2
+    else2 = search after-measure-change
+
+    else1 : tie.Else1
+    else1 = search else2
+
+    start-place : tie.Start
+    start-place = search else1
 
 same-length-4 : tie.Need-same-length-4
 same-length-4 c = search needs
@@ -94,15 +165,38 @@ same-length-6 c = search needs
 
 returns-4 : tie.Need-returns-4
 returns-4 c =
-    let e = c .before .before .before .before .before .before .before .before .before .before .before .before .before .before .before .before .before in
-    let s = start e in
-    let p = s .pre in
-    let k = c .before .before .before .before .before .before .before .before .before .before .before .before .before .before .measure-change .ensures in
-    let q = c .before .before .before .before .before .before .before .change .ensures in
-    let r = delete-fifteen (s .args .image .now) (s .args .len) (s .args .work .now) (p .1 .0 .0) (p .1 .0 .1) (p .1 .0 .2) (p .1 .0 .3) _ _ (p .0)
-    _ (e .before .before .before .writable .ensures) (s .args .headword .now) (e .before .before .if1 .left) _ (e .before .headword-ok .ensures) (e .if2 .left)
-    _ (k .found-is) (c .before .before .before .before .before .before .before .before .before .before .before .before .if3 .left) _ _ _ (q .0) (c .if4 .taken) in
+    let p = start-place .pre in
+    let k = after-measure-change .measure-change .ensures in
+    let q = after-change .change .ensures in
+    let r = delete-fifteen (start-place .args .image .now) (start-place .args .len) (start-place .args .work .now) (p .1 .0 .0) (p .1 .0 .1) (p .1 .0 .2)
+    (p .1 .0 .3) _ _ (p .0)
+    _ (after-writable .writable .ensures) (start-place .args .headword .now) (else1 .if1 .left) _ (after-headword-ok .headword-ok .ensures) (else2 .if2 .left)
+    _ (k .found-is) (else3 .if3 .left) _ _ _ (q .0) (c .if4 .taken) in
     (r .0, (r .1, q .1 .1))
+  where
+    after-change : tie.After-change
+    after-change = search
+
+    else3 : tie.Else3
+    else3 = search after-change
+
+    after-measure-change : tie.After-measure-change
+    after-measure-change = search else3
+
+    else2 : tie.Else2
+    else2 = search after-measure-change
+
+    after-headword-ok : tie.After-headword-ok
+    after-headword-ok = search else2
+
+    else1 : tie.Else1
+    else1 = search after-headword-ok
+
+    after-writable : tie.After-writable
+    after-writable = search else1
+
+    start-place : tie.Start
+    start-place = search after-writable
 
 same-length-7 : tie.Need-same-length-7
 same-length-7 c = search needs
@@ -115,15 +209,38 @@ same-length-9 c = search needs
 
 returns-5 : tie.Need-returns-5
 returns-5 c =
-    let e = c .before .before .before .before .before .before .before .before .before .before .before .before .before .before .before .before .before in
-    let s = start e in
-    let p = s .pre in
-    let k = c .before .before .before .before .before .before .before .before .before .before .before .before .before .before .measure-change .ensures in
-    let q = c .before .before .before .before .before .before .before .change .ensures in
-    let r = delete-done (s .args .image .now) (s .args .len) (s .args .work .now) (p .1 .0 .0) (p .1 .0 .1) (p .1 .0 .2) (p .1 .0 .3) _ _ (p .0)
-    _ (e .before .before .before .writable .ensures) (s .args .headword .now) (e .before .before .if1 .left) _ (e .before .headword-ok .ensures) (e .if2 .left)
-    _ (k .found-is) (c .before .before .before .before .before .before .before .before .before .before .before .before .if3 .left) _ _ _ (q .0) (c .if4 .left) in
+    let p = start-place .pre in
+    let k = after-measure-change .measure-change .ensures in
+    let q = after-change .change .ensures in
+    let r = delete-done (start-place .args .image .now) (start-place .args .len) (start-place .args .work .now) (p .1 .0 .0) (p .1 .0 .1) (p .1 .0 .2)
+    (p .1 .0 .3) _ _ (p .0)
+    _ (after-writable .writable .ensures) (start-place .args .headword .now) (else1 .if1 .left) _ (after-headword-ok .headword-ok .ensures) (else2 .if2 .left)
+    _ (k .found-is) (else3 .if3 .left) _ _ _ (q .0) (c .if4 .left) in
     (r .0, (r .1, q .1 .1))
+  where
+    after-change : tie.After-change
+    after-change = search
+
+    else3 : tie.Else3
+    else3 = search after-change
+
+    after-measure-change : tie.After-measure-change
+    after-measure-change = search else3
+
+    else2 : tie.Else2
+    else2 = search after-measure-change
+
+    after-headword-ok : tie.After-headword-ok
+    after-headword-ok = search else2
+
+    else1 : tie.Else1
+    else1 = search after-headword-ok
+
+    after-writable : tie.After-writable
+    after-writable = search else1
+
+    start-place : tie.Start
+    start-place = search after-writable
 
 pub delete-in-spec : {M : Type 1} → statement M
 delete-in-spec =

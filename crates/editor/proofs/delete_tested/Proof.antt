@@ -23,7 +23,8 @@ abbrev start-of-known-told2 : tie.After-known-told2 → tie.Start
 start-of-known-told2 c = search (at-match-keys2-of-known-told2 c)
 
 -- the image is accepted
-accepted : (c : tie.After-known-told2) → AcceptedImage (take (start-of-known-told2 c .args .len) (start-of-known-told2 c .args .image .now)) (after-r2-of-known-told2 c .r2 .given .0 .1 .0)
+accepted : (c : tie.After-known-told2)
+    → AcceptedImage (take (start-of-known-told2 c .args .len) (start-of-known-told2 c .args .image .now)) (after-r2-of-known-told2 c .r2 .given .0 .1 .0)
     (after-r2-of-known-told2 c .r2 .given .0 .1 .1 .0)
 accepted c = search is-accepted
 
@@ -59,8 +60,10 @@ slice-aggregate-delete-in : tie.Need-slice-aggregate-delete-in
 slice-aggregate-delete-in c = search needs
 
 delete-in-requires : tie.Need-delete-in-requires
-delete-in-requires c κs =
-    (accepted after-known-told2, ((start .pre .0, start .pre .1, start .pre .2, start .pre .3, search needs, ends after-known-told2), (search free-are, counted after-known-told2)))
+delete-in-requires c κs = (
+  accepted after-known-told2,
+  ((start .pre .0, start .pre .1, start .pre .2, start .pre .3, search needs, ends after-known-told2), (search free-are, counted after-known-told2)),
+)
   where
     after-known-told2 : tie.After-known-told2
     after-known-told2 = search
@@ -77,7 +80,8 @@ same-length c = search needs
 returns : tie.Need-returns
 returns c =
     let p = start .pre in
-    let r = delete-refused (start .args .image .now) (start .args .len) (start .args .work .now) (p .0) (p .1) (p .2) (p .3) _ _ _ (after-inspect .inspect .ensures .0)
+    let r = delete-refused (start .args .image .now) (start .args .len) (start .args .work .now) (p .0) (p .1) (p .2) (p .3) _ _ _
+    (after-inspect .inspect .ensures .0)
     (after-r .r .given .0 .0) (search needs) (start .args .headword .now) in
     (r .0, (r .1, refl))
   where

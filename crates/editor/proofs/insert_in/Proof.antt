@@ -8,7 +8,19 @@ use lib.ListN.{length, take}
 use Rattle.spec.specs.Entry.{headword-ok}
 use Rattle.parts.proofs.Laws.{first-bytes}
 use Rattle.change.proofs.FinishLaws.{front-blocks}
-use Rattle.editor.proofs.Changes.{text-short, head-good, body-made, body-few, insert-ready, insert-eleven, insert-twelve, insert-thirteen, insert-attribute, insert-fifteen, insert-done}
+use Rattle.editor.proofs.Changes.{
+  text-short,
+  head-good,
+  body-made,
+  body-few,
+  insert-ready,
+  insert-eleven,
+  insert-twelve,
+  insert-thirteen,
+  insert-attribute,
+  insert-fifteen,
+  insert-done,
+}
 use borrow.Author.Needs.{needs}
 use Rattle.editor.proofs.insert_in.Statement.{statement}
 use Rattle.editor.proofs.insert_in.Tie as tie
@@ -21,8 +33,16 @@ same-length c = search needs
 
 returns : tie.Need-returns
 returns c =
-    let r = insert-eleven (c .before .before .before .before .before .before .before .before .args .image .now) (c .before .before .before .before .before .before .before .before .args .len) (c .before .before .before .before .before .before .before .before .args .work .now) (c .before .before .before .before .before .before .before .before .pre .1 .0 .0) (c .before .before .before .before .before .before .before .before .pre .1 .0 .1) (c .before .before .before .before .before .before .before .before .pre .1 .0 .2) (c .before .before .before .before .before .before .before .before .pre .1 .0 .3) _ _ (c .before .before .before .before .before .before .before .before .pre .0) _ (c .before .writable .ensures) (c .before .before .before .before .before .before .before .before .args .headword .now) (c .if1 .taken) _ _ in
+    let r = insert-eleven (start-place .args .image .now) (start-place .args .len) (start-place .args .work .now) (start-place .pre .1 .0 .0)
+    (start-place .pre .1 .0 .1) (start-place .pre .1 .0 .2) (start-place .pre .1 .0 .3) _ _ (start-place .pre .0) _ (after-writable .writable .ensures)
+    (start-place .args .headword .now) (c .if1 .taken) _ _ in
     (r .0, (r .1, refl))
+  where
+    after-writable : tie.After-writable
+    after-writable = search
+
+    start-place : tie.Start
+    start-place = search after-writable
 
 headword-ok-requires : tie.Need-headword-ok-requires
 headword-ok-requires c κs = search needs
@@ -32,8 +52,22 @@ same-length-2 c = search needs
 
 returns-2 : tie.Need-returns-2
 returns-2 c =
-    let r = insert-twelve (c .before .before .before .before .before .before .before .before .before .before .args .image .now) (c .before .before .before .before .before .before .before .before .before .before .args .len) (c .before .before .before .before .before .before .before .before .before .before .args .work .now) (c .before .before .before .before .before .before .before .before .before .before .pre .1 .0 .0) (c .before .before .before .before .before .before .before .before .before .before .pre .1 .0 .1) (c .before .before .before .before .before .before .before .before .before .before .pre .1 .0 .2) (c .before .before .before .before .before .before .before .before .before .before .pre .1 .0 .3) _ _ (c .before .before .before .before .before .before .before .before .before .before .pre .0) _ (c .before .before .before .writable .ensures) (c .before .before .before .before .before .before .before .before .before .before .args .headword .now) (c .before .before .if1 .left) _ (c .before .headword-ok .ensures) (c .if2 .taken) _ _ in
+    let r = insert-twelve (start-place .args .image .now) (start-place .args .len) (start-place .args .work .now) (start-place .pre .1 .0 .0)
+    (start-place .pre .1 .0 .1) (start-place .pre .1 .0 .2) (start-place .pre .1 .0 .3) _ _ (start-place .pre .0) _ (after-writable .writable .ensures)
+    (start-place .args .headword .now) (else1 .if1 .left) _ (after-headword-ok .headword-ok .ensures) (c .if2 .taken) _ _ in
     (r .0, (r .1, refl))
+  where
+    after-headword-ok : tie.After-headword-ok
+    after-headword-ok = search
+
+    else1 : tie.Else1
+    else1 = search after-headword-ok
+
+    after-writable : tie.After-writable
+    after-writable = search else1
+
+    start-place : tie.Start
+    start-place = search after-writable
 
 text-ok-requires : tie.Need-text-ok-requires
 text-ok-requires c κs = search needs
@@ -43,8 +77,29 @@ same-length-3 c = search needs
 
 returns-3 : tie.Need-returns-3
 returns-3 c =
-    let r = insert-thirteen (c .before .before .before .before .before .before .before .before .before .before .before .before .args .image .now) (c .before .before .before .before .before .before .before .before .before .before .before .before .args .len) (c .before .before .before .before .before .before .before .before .before .before .before .before .args .work .now) (c .before .before .before .before .before .before .before .before .before .before .before .before .pre .1 .0 .0) (c .before .before .before .before .before .before .before .before .before .before .before .before .pre .1 .0 .1) (c .before .before .before .before .before .before .before .before .before .before .before .before .pre .1 .0 .2) (c .before .before .before .before .before .before .before .before .before .before .before .before .pre .1 .0 .3) _ _ (c .before .before .before .before .before .before .before .before .before .before .before .before .pre .0) _ (c .before .before .before .before .before .writable .ensures) (c .before .before .before .before .before .before .before .before .before .before .before .before .args .headword .now) (c .before .before .before .before .if1 .left) _ (c .before .before .before .headword-ok .ensures) (c .before .before .if2 .left) (c .before .before .before .before .before .before .before .before .before .before .before .before .args .attribute) (c .before .before .before .before .before .before .before .before .before .before .before .before .args .text .now) _ (c .before .text-ok .ensures) (c .if3 .taken) in
+    let r = insert-thirteen (start-place .args .image .now) (start-place .args .len) (start-place .args .work .now) (start-place .pre .1 .0 .0)
+    (start-place .pre .1 .0 .1) (start-place .pre .1 .0 .2) (start-place .pre .1 .0 .3) _ _ (start-place .pre .0) _ (after-writable .writable .ensures)
+    (start-place .args .headword .now) (else1 .if1 .left) _ (after-headword-ok .headword-ok .ensures) (else2 .if2 .left) (start-place .args .attribute)
+    (start-place .args .text .now) _ (after-text-ok .text-ok .ensures) (c .if3 .taken) in
     (r .0, (r .1, refl))
+  where
+    after-text-ok : tie.After-text-ok
+    after-text-ok = search
+
+    else2 : tie.Else2
+    else2 = search after-text-ok
+
+    after-headword-ok : tie.After-headword-ok
+    after-headword-ok = search else2
+
+    else1 : tie.Else1
+    else1 = search after-headword-ok
+
+    after-writable : tie.After-writable
+    after-writable = search else1
+
+    start-place : tie.Start
+    start-place = search after-writable
 
 attribute-ok-requires : tie.Need-attribute-ok-requires
 attribute-ok-requires c κs = search needs
@@ -54,8 +109,35 @@ same-length-4 c = search needs
 
 returns-4 : tie.Need-returns-4
 returns-4 c =
-    let r = insert-attribute (c .before .before .before .before .before .before .before .before .before .before .before .before .before .before .args .image .now) (c .before .before .before .before .before .before .before .before .before .before .before .before .before .before .args .len) (c .before .before .before .before .before .before .before .before .before .before .before .before .before .before .args .work .now) (c .before .before .before .before .before .before .before .before .before .before .before .before .before .before .pre .1 .0 .0) (c .before .before .before .before .before .before .before .before .before .before .before .before .before .before .pre .1 .0 .1) (c .before .before .before .before .before .before .before .before .before .before .before .before .before .before .pre .1 .0 .2) (c .before .before .before .before .before .before .before .before .before .before .before .before .before .before .pre .1 .0 .3) _ _ (c .before .before .before .before .before .before .before .before .before .before .before .before .before .before .pre .0) _ (c .before .before .before .before .before .before .before .writable .ensures) (c .before .before .before .before .before .before .before .before .before .before .before .before .before .before .args .headword .now) (c .before .before .before .before .before .before .if1 .left) _ (c .before .before .before .before .before .headword-ok .ensures) (c .before .before .before .before .if2 .left) (c .before .before .before .before .before .before .before .before .before .before .before .before .before .before .args .attribute) (c .before .before .before .before .before .before .before .before .before .before .before .before .before .before .args .text .now) _ (c .before .before .before .text-ok .ensures) (c .before .before .if3 .left) _ (c .before .attribute-ok .ensures) (c .if4 .taken) in
+    let r = insert-attribute (start-place .args .image .now) (start-place .args .len) (start-place .args .work .now) (start-place .pre .1 .0 .0)
+    (start-place .pre .1 .0 .1) (start-place .pre .1 .0 .2) (start-place .pre .1 .0 .3) _ _ (start-place .pre .0) _ (after-writable .writable .ensures)
+    (start-place .args .headword .now) (else1 .if1 .left) _ (after-headword-ok .headword-ok .ensures) (else2 .if2 .left) (start-place .args .attribute)
+    (start-place .args .text .now) _ (after-text-ok .text-ok .ensures) (else3 .if3 .left) _ (after-attribute-ok .attribute-ok .ensures) (c .if4 .taken) in
     (r .0, (r .1, refl))
+  where
+    after-attribute-ok : tie.After-attribute-ok
+    after-attribute-ok = search
+
+    else3 : tie.Else3
+    else3 = search after-attribute-ok
+
+    after-text-ok : tie.After-text-ok
+    after-text-ok = search else3
+
+    else2 : tie.Else2
+    else2 = search after-text-ok
+
+    after-headword-ok : tie.After-headword-ok
+    after-headword-ok = search else2
+
+    else1 : tie.Else1
+    else1 = search after-headword-ok
+
+    after-writable : tie.After-writable
+    after-writable = search else1
+
+    start-place : tie.Start
+    start-place = search after-writable
 
 slice-aggregate-write-u8 : tie.Need-slice-aggregate-write-u8
 slice-aggregate-write-u8 c = search needs
@@ -67,21 +149,68 @@ slice-aggregate-copy : tie.Need-slice-aggregate-copy
 slice-aggregate-copy c = search needs
 
 copy-requires : tie.Need-copy-requires
-copy-requires c κs = (omega (arith, text-short (c .before .before .before .before .before .before .before .before .before .before .before .before .before .before .before .before .before .before .args .text .now) _ (c .before .before .before .before .before .before .before .text-ok .ensures) (c .before .before .before .before .before .before .if3 .left)), omega arith)
+copy-requires c κs = (omega (arith, text-short (start-place .args .text .now) _ (after-text-ok .text-ok .ensures) (else3 .if3 .left)), omega arith)
+  where
+    else3 : tie.Else3
+    else3 = search
+
+    after-text-ok : tie.After-text-ok
+    after-text-ok = search else3
+
+    after-writable : tie.After-writable
+    after-writable = search after-text-ok
+
+    start-place : tie.Start
+    start-place = search after-writable
 
 -- where the body is made, from the start of the call on
 abbrev start : tie.After-body4 → tie.Start
-start c = c .before .before .before .before .before .before .before .before .before .before .before .before .before .before .before .before .before .before .before .before
+start c = start-place
+  where
+    else4 : tie.Else4
+    else4 = search
+
+    after-writable : tie.After-writable
+    after-writable = search else4
+
+    start-place : tie.Start
+    start-place = search after-writable
 
 -- the text is short
 text-few : (c : tie.After-body4) → length (start c .args .text .now) ≤ 3000
 text-few c =
-    let q = c .before .before .before .before .before .before .before .before .before .text-ok .ensures in
-    text-short (start c .args .text .now) _ q (c .before .before .before .before .before .before .before .before .if3 .left)
+    let q = after-text-ok .text-ok .ensures in
+    text-short (start-place .args .text .now) _ q (else3 .if3 .left)
+  where
+    else3 : tie.Else3
+    else3 = search
+
+    after-text-ok : tie.After-text-ok
+    after-text-ok = search else3
+
+    after-writable : tie.After-writable
+    after-writable = search after-text-ok
+
+    start-place : tie.Start
+    start-place = search after-writable
 
 -- the body is the attribute and the text
 made : (c : tie.After-body4) → take (1 + length (start c .args .text .now)) (c .before .copy .last .0) ≡ start c .args .attribute ∷ start c .args .text .now
-made c = body-made (start c .args .attribute) (start c .args .text .now) _ _ _ (omega (arith, text-few c)) (c .before .before .before .before .write-u8 .ensures .0) (c .before .copy .ensures .0)
+made c =
+    body-made (start-place .args .attribute) (start-place .args .text .now) _ _ _ (omega (arith, text-few c)) (after-write-u8 .write-u8 .ensures .0)
+    (after-copy .copy .ensures .0)
+  where
+    after-copy : tie.After-copy
+    after-copy = search
+
+    after-write-u8 : tie.After-write-u8
+    after-write-u8 = search after-copy
+
+    else1 : tie.Else1
+    else1 = search after-write-u8
+
+    start-place : tie.Start
+    start-place = search else1
 
 add-body : tie.Need-add-body
 add-body c = omega (arith, text-few c)
@@ -98,11 +227,30 @@ slice-reshare-prefix-measure-change c = search needs
 slice-aggregate-measure-change : tie.Need-slice-aggregate-measure-change
 slice-aggregate-measure-change c = search first-bytes
 
+abbrev after-copy-of-body4 : tie.After-body4 → tie.After-copy
+after-copy-of-body4 c = search
+
 -- what measuring asks of the entry, and the change too
-entry-good : (c : tie.After-body4) → (headword-ok (start c .args .headword .now) ≡ true) × (length (take (1 + length (start c .args .text .now)) (c .before .copy .last .0)) ≤ 3001)
+entry-good : (c : tie.After-body4) → (headword-ok (start c .args .headword .now) ≡ true)
+    × (length (take (1 + length (start c .args .text .now)) (after-copy-of-body4 c .copy .last .0)) ≤ 3001)
 entry-good c =
-    let q = c .before .before .before .before .before .before .before .before .before .before .before .headword-ok .ensures in
-    (head-good (start c .args .headword .now) _ q (c .before .before .before .before .before .before .before .before .before .before .if2 .left), body-few _ _ _ (made c) (text-few c))
+    let q = after-headword-ok .headword-ok .ensures in
+    (head-good (start-place .args .headword .now) _ q (else2 .if2 .left), body-few _ _ _ (made c) (text-few c))
+  where
+    after-body : tie.After-body
+    after-body = search
+
+    else2 : tie.Else2
+    else2 = search after-body
+
+    after-headword-ok : tie.After-headword-ok
+    after-headword-ok = search else2
+
+    after-writable : tie.After-writable
+    after-writable = search after-headword-ok
+
+    start-place : tie.Start
+    start-place = search after-writable
 
 measure-change-requires : tie.Need-measure-change-requires
 measure-change-requires c κs =
@@ -110,22 +258,63 @@ measure-change-requires c κs =
     (p .0, (front-blocks _ _ (p .1 .0 .2) (p .1 .0 .1), entry-good (c .before .before) .0, entry-good (c .before .before) .1, p .1 .0 .5))
 
 words-after-requires : tie.Need-words-after-requires
-words-after-requires c κs = start (c .before .before .before) .pre .1 .1 .1 .1
+words-after-requires c κs = start-place .pre .1 .1 .1 .1
+  where
+    after-body : tie.After-body
+    after-body = search
+
+    after-writable : tie.After-writable
+    after-writable = search after-body
+
+    start-place : tie.Start
+    start-place = search after-writable
 
 change-requires : tie.Need-change-requires
 change-requires c κs =
-    let b = c .before .before .before .before .before .before .before in
-    let a = start b .args in
-    let p = start b .pre in
-    let m = c .before .before .before .before .measure-change .ensures in
-    let h = b .before .before .before .before .before .before .before .before .before .before .before .headword-ok .ensures in
-    let t = b .before .before .before .before .before .before .before .before .before .text-ok .ensures in
-    let w = c .before .before .before .words-after .ensures in
-    let ready = insert-ready _ (a .headword .now) _ h (b .before .before .before .before .before .before .before .before .before .before .if2 .left)
-    (a .text .now) _ t (b .before .before .before .before .before .before .before .before .if3 .left)
-    (a .attribute) _ (b .before .before .before .before .before .before .before .attribute-ok .ensures) (b .before .before .before .before .before .before .if4 .left)
-    _ (p .1 .1 .1 .0) _ (m .found-is) _ w _ (made b) in
-    (m, ((p .1 .0 .2, p .1 .0 .1, p .1 .0 .3, p .1 .0 .4), (p .1 .1 .0, (entry-good b, ready))))
+    let a = start-place .args in
+    let p = start-place .pre in
+    let m = after-measure-change .measure-change .ensures in
+    let h = after-headword-ok .headword-ok .ensures in
+    let t = after-text-ok .text-ok .ensures in
+    let w = after-words-after .words-after .ensures in
+    let ready = insert-ready _ (a .headword .now) _ h (else2 .if2 .left)
+    (a .text .now) _ t (else3 .if3 .left)
+    (a .attribute) _ (after-attribute-ok .attribute-ok .ensures) (else4 .if4 .left)
+    _ (p .1 .1 .1 .0) _ (m .found-is) _ w _ (made after-body4) in
+    (m, ((p .1 .0 .2, p .1 .0 .1, p .1 .0 .3, p .1 .0 .4), (p .1 .1 .0, (entry-good after-body4, ready))))
+  where
+    after-words-after : tie.After-words-after
+    after-words-after = search
+
+    after-measure-change : tie.After-measure-change
+    after-measure-change = search after-words-after
+
+    after-body4 : tie.After-body4
+    after-body4 = search after-measure-change
+
+    else4 : tie.Else4
+    else4 = search after-body4
+
+    after-attribute-ok : tie.After-attribute-ok
+    after-attribute-ok = search else4
+
+    else3 : tie.Else3
+    else3 = search after-attribute-ok
+
+    after-text-ok : tie.After-text-ok
+    after-text-ok = search else3
+
+    else2 : tie.Else2
+    else2 = search after-text-ok
+
+    after-headword-ok : tie.After-headword-ok
+    after-headword-ok = search else2
+
+    after-writable : tie.After-writable
+    after-writable = search after-headword-ok
+
+    start-place : tie.Start
+    start-place = search after-writable
 
 same-length-5 : tie.Need-same-length-5
 same-length-5 c = search needs
@@ -138,19 +327,51 @@ same-length-7 c = search needs
 
 returns-5 : tie.Need-returns-5
 returns-5 c =
-    let b = c .before .before .before .before .before .before .before .before .before .before .before .before .before .before .before in
-    let s = start b in
-    let p = s .pre in
-    let v = b .before .before .before .before .before .before .before .before .before .before .before .before .before .writable .ensures in
-    let h = b .before .before .before .before .before .before .before .before .before .before .before .headword-ok .ensures in
-    let t = b .before .before .before .before .before .before .before .before .before .text-ok .ensures in
-    let q = c .before .before .before .before .before .before .before .change .ensures in
-    let r = insert-fifteen (s .args .image .now) (s .args .len) (s .args .work .now) (p .1 .0 .0) (p .1 .0 .1) (p .1 .0 .2) (p .1 .0 .3) _ _ (p .0) _ v
-    (s .args .headword .now) (b .before .before .before .before .before .before .before .before .before .before .before .before .if1 .left)
-    _ h (b .before .before .before .before .before .before .before .before .before .before .if2 .left)
-    (s .args .attribute) (s .args .text .now) _ t (b .before .before .before .before .before .before .before .before .if3 .left)
-    _ (b .before .before .before .before .before .before .before .attribute-ok .ensures) (b .before .before .before .before .before .before .if4 .left) _ (made b) _ _ (q .0) (c .if5 .taken) in
+    let p = start-place .pre in
+    let v = after-writable .writable .ensures in
+    let h = after-headword-ok .headword-ok .ensures in
+    let t = after-text-ok .text-ok .ensures in
+    let q = after-change .change .ensures in
+    let r = insert-fifteen (start-place .args .image .now) (start-place .args .len) (start-place .args .work .now) (p .1 .0 .0) (p .1 .0 .1) (p .1 .0 .2)
+    (p .1 .0 .3) _ _ (p .0) _ v
+    (start-place .args .headword .now) (else1 .if1 .left)
+    _ h (else2 .if2 .left)
+    (start-place .args .attribute) (start-place .args .text .now) _ t (else3 .if3 .left)
+    _ (after-attribute-ok .attribute-ok .ensures) (else4 .if4 .left) _ (made after-body4) _ _ (q .0) (c .if5 .taken) in
     (r .0, (r .1, q .1 .1))
+  where
+    after-change : tie.After-change
+    after-change = search
+
+    after-body4 : tie.After-body4
+    after-body4 = search after-change
+
+    else4 : tie.Else4
+    else4 = search after-body4
+
+    after-attribute-ok : tie.After-attribute-ok
+    after-attribute-ok = search else4
+
+    else3 : tie.Else3
+    else3 = search after-attribute-ok
+
+    after-text-ok : tie.After-text-ok
+    after-text-ok = search else3
+
+    else2 : tie.Else2
+    else2 = search after-text-ok
+
+    after-headword-ok : tie.After-headword-ok
+    after-headword-ok = search else2
+
+    else1 : tie.Else1
+    else1 = search after-headword-ok
+
+    after-writable : tie.After-writable
+    after-writable = search else1
+
+    start-place : tie.Start
+    start-place = search after-writable
 
 same-length-8 : tie.Need-same-length-8
 same-length-8 c = search needs
@@ -163,19 +384,51 @@ same-length-10 c = search needs
 
 returns-6 : tie.Need-returns-6
 returns-6 c =
-    let b = c .before .before .before .before .before .before .before .before .before .before .before .before .before .before .before in
-    let s = start b in
-    let p = s .pre in
-    let v = b .before .before .before .before .before .before .before .before .before .before .before .before .before .writable .ensures in
-    let h = b .before .before .before .before .before .before .before .before .before .before .before .headword-ok .ensures in
-    let t = b .before .before .before .before .before .before .before .before .before .text-ok .ensures in
-    let q = c .before .before .before .before .before .before .before .change .ensures in
-    let r = insert-done (s .args .image .now) (s .args .len) (s .args .work .now) (p .1 .0 .0) (p .1 .0 .1) (p .1 .0 .2) (p .1 .0 .3) _ _ (p .0) _ v
-    (s .args .headword .now) (b .before .before .before .before .before .before .before .before .before .before .before .before .if1 .left)
-    _ h (b .before .before .before .before .before .before .before .before .before .before .if2 .left)
-    (s .args .attribute) (s .args .text .now) _ t (b .before .before .before .before .before .before .before .before .if3 .left)
-    _ (b .before .before .before .before .before .before .before .attribute-ok .ensures) (b .before .before .before .before .before .before .if4 .left) _ (made b) _ _ (q .0) (c .if5 .left) in
+    let p = start-place .pre in
+    let v = after-writable .writable .ensures in
+    let h = after-headword-ok .headword-ok .ensures in
+    let t = after-text-ok .text-ok .ensures in
+    let q = after-change .change .ensures in
+    let r = insert-done (start-place .args .image .now) (start-place .args .len) (start-place .args .work .now) (p .1 .0 .0) (p .1 .0 .1) (p .1 .0 .2)
+    (p .1 .0 .3) _ _ (p .0) _ v
+    (start-place .args .headword .now) (else1 .if1 .left)
+    _ h (else2 .if2 .left)
+    (start-place .args .attribute) (start-place .args .text .now) _ t (else3 .if3 .left)
+    _ (after-attribute-ok .attribute-ok .ensures) (else4 .if4 .left) _ (made after-body4) _ _ (q .0) (c .if5 .left) in
     (r .0, (r .1, q .1 .1))
+  where
+    after-change : tie.After-change
+    after-change = search
+
+    after-body4 : tie.After-body4
+    after-body4 = search after-change
+
+    else4 : tie.Else4
+    else4 = search after-body4
+
+    after-attribute-ok : tie.After-attribute-ok
+    after-attribute-ok = search else4
+
+    else3 : tie.Else3
+    else3 = search after-attribute-ok
+
+    after-text-ok : tie.After-text-ok
+    after-text-ok = search else3
+
+    else2 : tie.Else2
+    else2 = search after-text-ok
+
+    after-headword-ok : tie.After-headword-ok
+    after-headword-ok = search else2
+
+    else1 : tie.Else1
+    else1 = search after-headword-ok
+
+    after-writable : tie.After-writable
+    after-writable = search else1
+
+    start-place : tie.Start
+    start-place = search after-writable
 
 pub insert-in-spec : {M : Type 1} → statement M
 insert-in-spec =

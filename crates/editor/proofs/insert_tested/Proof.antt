@@ -24,7 +24,8 @@ abbrev start-of-known-told2 : tie.After-known-told2 → tie.Start
 start-of-known-told2 c = search (after-inspect-of-known-told2 c)
 
 -- the image is accepted
-accepted : (c : tie.After-known-told2) → AcceptedImage (take (start-of-known-told2 c .args .len) (start-of-known-told2 c .args .image .now)) (after-r2-of-known-told2 c .r2 .given .0 .1 .0)
+accepted : (c : tie.After-known-told2)
+    → AcceptedImage (take (start-of-known-told2 c .args .len) (start-of-known-told2 c .args .image .now)) (after-r2-of-known-told2 c .r2 .given .0 .1 .0)
     (after-r2-of-known-told2 c .r2 .given .0 .1 .1 .0)
 accepted c = search is-accepted
 
@@ -93,7 +94,8 @@ same-length c = search needs
 returns : tie.Need-returns
 returns c =
     let p = start .pre in
-    let r = insert-refused (start .args .image .now) (start .args .len) (start .args .work .now) (p .0) (p .1) (p .2) (p .3) _ _ _ (after-inspect .inspect .ensures .0)
+    let r = insert-refused (start .args .image .now) (start .args .len) (start .args .work .now) (p .0) (p .1) (p .2) (p .3) _ _ _
+    (after-inspect .inspect .ensures .0)
     (after-r .r .given .0 .0) (search needs) (start .args .headword .now) (start .args .attribute) (start .args .text .now) in
     (r .0, (r .1, refl))
   where

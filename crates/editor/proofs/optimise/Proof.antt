@@ -21,7 +21,20 @@ returns-2 : tie.Need-returns-2
 returns-2 c = search optimise-short
 
 optimise-tested-requires : tie.Need-optimise-tested-requires
-optimise-tested-requires c κs = now-tested (c .before .before .before .before .before .before .before .before .args .image .now) (c .before .before .before .before .before .before .before .before .args .len) (c .before .before .before .before .before .before .before .before .args .work .now) _ (c .before .before .before .before .slice-ok .ensures) (c .before .before .before .if1 .left) (c .before .before .if2 .left)
+optimise-tested-requires c κs =
+    now-tested (start .args .image .now) (start .args .len) (start .args .work .now) _ (after-slice-ok .slice-ok .ensures) (else1 .if1 .left) (else2 .if2 .left)
+  where
+    else2 : tie.Else2
+    else2 = search
+
+    else1 : tie.Else1
+    else1 = search else2
+
+    after-slice-ok : tie.After-slice-ok
+    after-slice-ok = search else1
+
+    start : tie.Start
+    start = search after-slice-ok
 
 clear-requires : tie.Need-clear-requires
 clear-requires c κs = search needs
@@ -34,14 +47,32 @@ same-length-4 c = search needs
 
 returns-3 : tie.Need-returns-3
 returns-3 c =
-    let after = c .before .before .before .before .before .before .before .before in
-    let tests = after .before .before .before in
-    let first = tests .before .before .before .before .before in
-    let start = first .before in
-    let call = after .optimise-tested in
-    optimise-whole (start .args .image .now) (start .args .len) (start .args .work .now) _ (tests .before .before .slice-ok .ensures) (tests .before .if1 .left) (tests .if2 .left)
-    (λ k. omega (arith, first .slice-known .given k)) (call .last .1 .1 .0) _ (call .ensures .1 .1) (c .before .before .clear .ensures .0) _
+    let call = after-optimise-tested .optimise-tested in
+    optimise-whole (start .args .image .now) (start .args .len) (start .args .work .now) _ (after-slice-ok .slice-ok .ensures) (else1 .if1 .left)
+    (else2 .if2 .left)
+    (λ k. omega (arith, after-slice-known .slice-known .given k)) (call .last .1 .1 .0) _ (call .ensures .1 .1) (after-clear .clear .ensures .0) _
     _ (call .ensures .0) (call .ensures .1 .0)
+  where
+    after-clear : tie.After-clear
+    after-clear = search
+
+    after-optimise-tested : tie.After-optimise-tested
+    after-optimise-tested = search after-clear
+
+    else2 : tie.Else2
+    else2 = search after-optimise-tested
+
+    else1 : tie.Else1
+    else1 = search else2
+
+    after-slice-ok : tie.After-slice-ok
+    after-slice-ok = search else1
+
+    after-slice-known : tie.After-slice-known
+    after-slice-known = search after-slice-ok
+
+    start : tie.Start
+    start = search after-slice-known
 
 pub optimise-spec : {M : Type 1} → statement M
 optimise-spec =

@@ -19,8 +19,13 @@ use Rattle.editor.proofs.optimise_tested.Tie as tie
 -- the image
 abbrev lent : tie.After-known-told2 → List ℕ
 lent c =
-    let start = c .before .before .before .before .before .before .before .before .before in
     take (start .args .len) (start .args .image .now)
+  where
+    at-match-keys2 : tie.At-match-keys2
+    at-match-keys2 = search
+
+    start : tie.Start
+    start = search at-match-keys2
 
 -- it is accepted
 accepted : (c : tie.After-known-told2) → AcceptedImage (lent c) (c .before .r2 .given .0 .1 .0) (c .before .r2 .given .0 .1 .1 .0)
@@ -60,8 +65,21 @@ same-length c = search needs
 
 returns : tie.Need-returns
 returns c =
-    let r = optimise-eleven _ _ _ (c .before .before .before .before .before .before .before .before .before .before .before .before .pre .0) (c .before .before .before .before .before .before .before .before .before .before .before .before .pre .1) (c .before .before .before .before .before .before .before .before .before .before .before .before .pre .2) (c .before .before .before .before .before .before .before .before .before .before .before .before .pre .3) _ _ (accepted (c .before .before .before)) _ (c .before .writable .ensures) (c .if1 .taken) in
+    let r = optimise-eleven _ _ _ (start .pre .0) (start .pre .1) (start .pre .2) (start .pre .3) _ _ (accepted after-known-told2) _
+    (after-writable .writable .ensures) (c .if1 .taken) in
     (r .0, (r .1, refl))
+  where
+    after-writable : tie.After-writable
+    after-writable = search
+
+    after-known-told2 : tie.After-known-told2
+    after-known-told2 = search after-writable
+
+    at-match-keys2 : tie.At-match-keys2
+    at-match-keys2 = search after-known-told2
+
+    start : tie.Start
+    start = search at-match-keys2
 
 copy-requires : tie.Need-copy-requires
 copy-requires c κs = search needs
@@ -70,31 +88,63 @@ slice-reshare-prefix-pack : tie.Need-slice-reshare-prefix-pack
 slice-reshare-prefix-pack c = search needs
 
 slice-aggregate-pack : tie.Need-slice-aggregate-pack
-slice-aggregate-pack c = first-bytes (c .before .before .before .before .copy .last .0) (c .before .before .before .before .before .before .before .before .before .before .before .before .before .before .before .before .before .before .before .args .len) (omega arith)
+slice-aggregate-pack c = first-bytes (after-copy .copy .last .0) (start .args .len) (omega arith)
+  where
+    after-copy : tie.After-copy
+    after-copy = search
+
+    at-match-keys2 : tie.At-match-keys2
+    at-match-keys2 = search after-copy
+
+    start : tie.Start
+    start = search at-match-keys2
 
 pack-requires : tie.Need-pack-requires
 pack-requires c κs =
-    let copied = c .before .before .before .before .copy .ensures .0 in
-    let told = c .before .before .before .before .before .before .before .before .before .before in
-    let p = told .before .before .before .before .before .before .before .before .before .pre in
-    let a = accepted told in (
+    let copied = after-copy .copy .ensures .0 in
+    let p = start .pre in
+    let a = accepted after-known-told2 in (
       copy-accepted _ _ (p .2) _ _ copied _ _ a,
       (
         (copy-whole _ _ (p .2) _ _ copied _ _ a (p .1), copy-inside _ _ (p .2) _ _ copied),
-        (copy-end _ _ (p .2) _ _ copied (told .before .r2 .given .0 .1 .0) _ (ends told), copy-words _ _ (p .2) _ _ copied _ (counted told)),
+        (
+          copy-end _ _ (p .2) _ _ copied (after-r2 .r2 .given .0 .1 .0) _ (ends after-known-told2),
+          copy-words _ _ (p .2) _ _ copied _ (counted after-known-told2),
+        ),
       ),
     )
+  where
+    after-copy : tie.After-copy
+    after-copy = search
+
+    after-known-told2 : tie.After-known-told2
+    after-known-told2 = search after-copy
+
+    after-r2 : tie.After-r2
+    after-r2 = search after-known-told2
+
+    start : tie.Start
+    start = search after-r2
 
 same-length-2 : tie.Need-same-length-2
 same-length-2 c = search needs
 
 returns-2 : tie.Need-returns-2
 returns-2 c =
-    let start = c .before .before .before .before .before .before .before .before .before in
     let p = start .pre in
-    let seen = c .before .before .before .before .inspect .ensures .0 in
-    let r = optimise-refused (start .args .image .now) (start .args .len) (start .args .work .now) (p .0) (p .1) (p .2) (p .3) _ _ _ seen (c .before .r .given .0 .0) (search needs) in
+    let seen = after-inspect .inspect .ensures .0 in
+    let r = optimise-refused (start .args .image .now) (start .args .len) (start .args .work .now) (p .0) (p .1) (p .2) (p .3) _ _ _ seen
+    (after-r .r .given .0 .0) (search needs) in
     (r .0, (r .1, refl))
+  where
+    after-r : tie.After-r
+    after-r = search
+
+    after-inspect : tie.After-inspect
+    after-inspect = search after-r
+
+    start : tie.Start
+    start = search after-inspect
 
 same-length-3 : tie.Need-same-length-3
 same-length-3 c = search needs
@@ -104,8 +154,31 @@ same-length-4 c = search needs
 
 returns-3 : tie.Need-returns-3
 returns-3 c =
-    let r = optimise-done (c .before .before .before .before .before .before .before .before .before .before .before .before .before .before .before .before .before .before .before .before .before .before .args .image .now) (c .before .before .before .before .before .before .before .before .before .before .before .before .before .before .before .before .before .before .before .before .before .before .args .len) (c .before .before .before .before .before .before .before .before .before .before .before .before .before .before .before .before .before .before .before .before .before .before .args .work .now) (c .before .before .before .before .before .before .before .before .before .before .before .before .before .before .before .before .before .before .before .before .before .before .pre .0) (c .before .before .before .before .before .before .before .before .before .before .before .before .before .before .before .before .before .before .before .before .before .before .pre .1) (c .before .before .before .before .before .before .before .before .before .before .before .before .before .before .before .before .before .before .before .before .before .before .pre .2) (c .before .before .before .before .before .before .before .before .before .before .before .before .before .before .before .before .before .before .before .before .before .before .pre .3) _ _ (accepted (c .before .before .before .before .before .before .before .before .before .before .before .before .before)) _ (c .before .before .before .before .before .before .before .before .before .before .before .writable .ensures) (c .before .before .before .before .before .before .before .before .before .before .if1 .left) (λ k. omega (arith, c .before .before .before .before .before .before .before .before .before .before .before .before .before .before .before .before .before .before .before .before .before .slice-known .given k)) _ _ (copy-is _ _ (c .before .before .before .before .before .before .before .before .before .before .before .before .before .before .before .before .before .before .before .before .before .before .pre .2) _ _ (c .before .before .before .before .before .before .before .copy .ensures .0)) _ (c .before .before .pack .ensures .1 .0) (c .before .before .pack .ensures .0) in
-    (r .0, (r .1, c .before .before .before .before .before .before .before .copy .ensures .1))
+    let r = optimise-done (start .args .image .now) (start .args .len) (start .args .work .now) (start .pre .0) (start .pre .1) (start .pre .2) (start .pre .3)
+    _ _ (accepted after-known-told2) _ (after-writable .writable .ensures) (else1 .if1 .left) (λ k. omega (arith, after-slice-known .slice-known .given k))
+    _ _ (copy-is _ _ (start .pre .2) _ _ (after-copy .copy .ensures .0)) _ (after-pack .pack .ensures .1 .0) (after-pack .pack .ensures .0) in
+    (r .0, (r .1, after-copy .copy .ensures .1))
+  where
+    after-pack : tie.After-pack
+    after-pack = search
+
+    after-copy : tie.After-copy
+    after-copy = search after-pack
+
+    else1 : tie.Else1
+    else1 = search after-copy
+
+    after-writable : tie.After-writable
+    after-writable = search else1
+
+    after-known-told2 : tie.After-known-told2
+    after-known-told2 = search after-writable
+
+    after-slice-known : tie.After-slice-known
+    after-slice-known = search after-known-told2
+
+    start : tie.Start
+    start = search after-slice-known
 
 pub optimise-tested-spec : {M : Type 1} → statement M
 optimise-tested-spec =

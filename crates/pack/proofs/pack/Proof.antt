@@ -15,27 +15,52 @@ use borrow.Author.Needs.{needs}
 use Rattle.pack.proofs.pack.Statement.{statement}
 use Rattle.pack.proofs.pack.Tie as tie
 
+abbrev start-of-need : tie.After-need → tie.Start
+start-of-need c = search
+
 -- the new index is no longer than the old one
-fewer : (c : tie.After-need) → c .need .result ≤ c .before .before .before .before .before .before .args .n
+fewer : (c : tie.After-need) → c .need .result ≤ start-of-need c .args .n
 fewer c =
-    let start = c .before .before .before .before .before .before in
-    index-fewer _ _ _ (start .pre .0) (start .pre .1 .0 .0) _ (c .before .before .nindex2 .ensures .0) _ _ (start .pre .1 .1 .0) (c .need .ensures)
+    index-fewer _ _ _ (start .pre .0) (start .pre .1 .0 .0) _ (after-nindex2 .nindex2 .ensures .0) _ _ (start .pre .1 .1 .0) (c .need .ensures)
+  where
+    after-nindex2 : tie.After-nindex2
+    after-nindex2 = search
+
+    start : tie.Start
+    start = search after-nindex2
+
+abbrev start-of-nblock2 : tie.After-nblock2 → tie.Start
+start-of-nblock2 c = search
 
 -- nor has it more data blocks
-few : (c : tie.After-nblock2) → c .nblock2 .result ≤ c .before .before .before .before .before .args .d
-few c = blocks-fewer _ _ _ (c .before .before .before .before .before .pre .0) (c .before .before .before .before .before .pre .1 .0 .0) _ (c .nblock2 .ensures .0)
+few : (c : tie.After-nblock2) → c .nblock2 .result ≤ start-of-nblock2 c .args .d
+few c = blocks-fewer _ _ _ (start .pre .0) (start .pre .1 .0 .0) _ (c .nblock2 .ensures .0)
+  where
+    start : tie.Start
+    start = search
 
 -- the old index
 abbrev old-index : tie.After-need → List ℕ
 old-index c =
-    let start = c .before .before .before .before .before .before in
     index-part (now (start .args .old)) (start .args .n)
+  where
+    start : tie.Start
+    start = search
+
+abbrev after-nindex2-of-need : tie.After-need → tie.After-nindex2
+after-nindex2-of-need c = search
 
 -- its elements fit in the new one
-holds : (c : tie.After-need) → 256 + length (elements-bytes format4 (elements-at (old-index c) 0 (c .before .before .nindex2 .result))) ≤ 256 + 256 * c .need .result
+holds : (c : tie.After-need)
+    → 256 + length (elements-bytes format4 (elements-at (old-index c) 0 (after-nindex2-of-need c .nindex2 .result))) ≤ 256 + 256 * c .need .result
 holds c =
-    let start = c .before .before .before .before .before .before in
-    index-holds _ _ _ (start .pre .0) (start .pre .1 .0 .0) _ (c .before .before .nindex2 .ensures .0) _ _ (start .pre .1 .1 .0) (c .need .ensures)
+    index-holds _ _ _ (start .pre .0) (start .pre .1 .0 .0) _ (after-nindex2 .nindex2 .ensures .0) _ _ (start .pre .1 .1 .0) (c .need .ensures)
+  where
+    after-nindex2 : tie.After-nindex2
+    after-nindex2 = search
+
+    start : tie.Start
+    start = search after-nindex2
 
 mul-start : tie.Need-mul-start
 mul-start c = search needs
@@ -60,8 +85,10 @@ nblock2-requires c κs = search needs
 
 need-requires : tie.Need-need-requires
 need-requires c κs =
-    let start = c .before .before .before .before .before in
     end-short _ _ _ (start .pre .0) (start .pre .1 .0 .0) _ (start .pre .1 .1 .0)
+  where
+    start : tie.Start
+    start = search
 
 mul-data : tie.Need-mul-data
 mul-data c = omega (arith, fewer c)
@@ -80,25 +107,41 @@ part-write-runs-end c = search needs
 
 write-runs-requires : tie.Need-write-runs-requires
 write-runs-requires c κs =
-    let blocks = c .before .before .before in
-    let start = blocks .before .before .before .before .before in
     let a = start .pre .0 in
     let whole = start .pre .1 .0 .0 in
-    let number = blocks .before .nindex2 .ensures .0 in
-    let g = blocks-counted _ _ _ a whole _ (blocks .nblock2 .ensures .0) in
-    let less = fewer (c .before .before) in (
+    let number = after-nindex2 .nindex2 .ensures .0 in
+    let g = blocks-counted _ _ _ a whole _ (after-nblock2 .nblock2 .ensures .0) in
+    let less = fewer after-need in (
       accepted-inside _ _ _ a _ number,
       (
         (data-long (now (start .args .old)) (start .args .n) (start .args .d) whole, accepted-blocks _ _ _ a),
-        runs-fit _ _ _ a whole _ number _ _ (omega (arith, holds (c .before .before), less)) (omega (arith, g, few blocks, less)),
+        runs-fit _ _ _ a whole _ number _ _ (omega (arith, holds after-need, less)) (omega (arith, g, few after-nblock2, less)),
       ),
     )
+  where
+    after-need : tie.After-need
+    after-need = search
+
+    after-nblock2 : tie.After-nblock2
+    after-nblock2 = search after-need
+
+    after-nindex2 : tie.After-nindex2
+    after-nindex2 = search after-nblock2
+
+    start : tie.Start
+    start = search after-nindex2
 
 sub-fill-zero : tie.Need-sub-fill-zero
-sub-fill-zero c = omega (arith, holds (c .before .before .before .before .before .before), fewer (c .before .before .before .before .before .before))
+sub-fill-zero c = omega (arith, holds after-need, fewer after-need)
+  where
+    after-need : tie.After-need
+    after-need = search
 
 fill-zero-requires : tie.Need-fill-zero-requires
-fill-zero-requires c κs = omega (arith, holds (c .before .before .before .before .before .before), fewer (c .before .before .before .before .before .before))
+fill-zero-requires c κs = omega (arith, holds after-need, fewer after-need)
+  where
+    after-need : tie.After-need
+    after-need = search
 
 write-counts-requires : tie.Need-write-counts-requires
 write-counts-requires c κs = search needs
@@ -108,41 +151,86 @@ mul-len c = search needs
 
 add-len : tie.Need-add-len
 add-len c =
-    let need = c .before .before .before .before .before .before .before .before .before .before .before .before .before in
-    omega (arith, few (need .before), fewer need)
+    omega (arith, few after-nblock2, fewer after-need)
+  where
+    after-fill-zero : tie.After-fill-zero
+    after-fill-zero = search
+
+    after-need : tie.After-need
+    after-need = search after-fill-zero
+
+    after-nblock2 : tie.After-nblock2
+    after-nblock2 = search after-need
 
 sub-fill-zero-2 : tie.Need-sub-fill-zero-2
 sub-fill-zero-2 c =
-    let need = c .before .before .before .before .before .before .before .before .before .before .before .before .before .before in
-    omega (arith, few (need .before), fewer need)
+    omega (arith, few after-nblock2, fewer after-need)
+  where
+    after-fill-zero : tie.After-fill-zero
+    after-fill-zero = search
+
+    after-need : tie.After-need
+    after-need = search after-fill-zero
+
+    after-nblock2 : tie.After-nblock2
+    after-nblock2 = search after-need
 
 fill-zero-requires-2 : tie.Need-fill-zero-requires-2
 fill-zero-requires-2 c κs =
-    let need = c .before .before .before .before .before .before .before .before .before .before .before .before .before .before in
-    omega (arith, few (need .before), fewer need)
+    omega (arith, few after-nblock2, fewer after-need)
+  where
+    after-fill-zero : tie.After-fill-zero
+    after-fill-zero = search
+
+    after-need : tie.After-need
+    after-need = search after-fill-zero
+
+    after-nblock2 : tie.After-nblock2
+    after-nblock2 = search after-need
 
 same-length : tie.Need-same-length
 same-length c = search needs
 
 returns : tie.Need-returns
 returns c =
-    let runs = c .before .before .before .before .before .before .before .before .before .before .before .before .before .before in
-    let need = runs .before .before .before in
-    let blocks = need .before in
-    let start = blocks .before .before .before .before .before in
     let a = start .pre .0 in
     let whole = start .pre .1 .0 .0 in
-    let number = blocks .before .nindex2 .ensures .0 in
-    let counted = blocks .nblock2 .ensures .0 in
+    let number = after-nindex2 .nindex2 .ensures .0 in
+    let counted = after-nblock2 .nblock2 .ensures .0 in
     let ends = start .pre .1 .1 .0 in
-    let needed = need .need .ensures in
-    let written = runs .write-runs .ensures in
-    let zeroed = c .before .before .before .before .before .before .before .before .before .before .fill-zero .ensures in
-    let headed = c .before .before .before .before .before .before .write-counts .ensures in
-    let last = c .before .before .fill-zero2 .ensures in (
-      packed-image _ _ _ a whole _ number _ counted _ _ ends needed _ _ _ _ _ _ _ (start .pre .1 .0 .1) (written .0) (written .1 .0) (zeroed .0) (start .pre .1 .1 .1) (headed .0) (last .0),
+    let needed = after-need .need .ensures in
+    let written = after-write-runs .write-runs .ensures in
+    let zeroed = after-fill-zero .fill-zero .ensures in
+    let headed = after-write-counts .write-counts .ensures in
+    let last = after-fill-zero2 .fill-zero2 .ensures in (
+      packed-image _ _ _ a whole _ number _ counted _ _ ends needed _ _ _ _ _ _ _ (start .pre .1 .0 .1) (written .0) (written .1 .0) (zeroed .0)
+          (start .pre .1 .1 .1) (headed .0) (last .0),
       (packed-length _ _ _ a whole _ number _ counted _ _ ends needed, last .1 ∙ headed .1 ∙ zeroed .1 ∙ written .1 .1),
     )
+  where
+    after-fill-zero2 : tie.After-fill-zero2
+    after-fill-zero2 = search
+
+    after-write-counts : tie.After-write-counts
+    after-write-counts = search after-fill-zero2
+
+    after-fill-zero : tie.After-fill-zero
+    after-fill-zero = search after-write-counts
+
+    after-write-runs : tie.After-write-runs
+    after-write-runs = search after-fill-zero
+
+    after-need : tie.After-need
+    after-need = search after-write-runs
+
+    after-nblock2 : tie.After-nblock2
+    after-nblock2 = search after-need
+
+    after-nindex2 : tie.After-nindex2
+    after-nindex2 = search after-nblock2
+
+    start : tie.Start
+    start = search after-nindex2
 
 pub pack-spec : {M : Type 1} → statement M
 pack-spec =

@@ -36,12 +36,22 @@ same-length c = search needs
 
 returns : tie.Need-returns
 returns c =
-    let worded = c .before .before .before .before in
-    let known = worded .before .before .before .before in
-    let start = known .before .before .args in
-    let bytes = known .slice-known .given in
-    let e = worded .wide .ensures .0 in
-    performed-0 _ (start .s .now) (start .image .now) (start .len) (λ k. omega (arith, bytes k)) _ e (c .before .before .if1 .taken) _ (c .look-up .ensures)
+    let start = start-place .args in
+    let bytes = after-slice-known .slice-known .given in
+    let e = after-wide .wide .ensures .0 in
+    performed-0 _ (start .s .now) (start .image .now) (start .len) (λ k. omega (arith, bytes k)) _ e (then1 .if1 .taken) _ (c .look-up .ensures)
+  where
+    then1 : tie.Then1
+    then1 = search
+
+    after-wide : tie.After-wide
+    after-wide = search then1
+
+    after-slice-known : tie.After-slice-known
+    after-slice-known = search after-wide
+
+    start-place : tie.Start
+    start-place = search after-slice-known
 
 walk-requires : tie.Need-walk-requires
 walk-requires c κs = search needs
@@ -51,12 +61,22 @@ same-length-2 c = search needs
 
 returns-2 : tie.Need-returns-2
 returns-2 c =
-    let worded = c .before .before .before .before .before in
-    let known = worded .before .before .before .before in
-    let start = known .before .before .args in
-    let bytes = known .slice-known .given in
-    let e = worded .wide .ensures .0 in
-    performed-1 _ (start .s .now) (start .image .now) (start .len) (λ k. omega (arith, bytes k)) _ e (c .before .before .if2 .taken) _ (c .walk .ensures)
+    let start = start-place .args in
+    let bytes = after-slice-known .slice-known .given in
+    let e = after-wide .wide .ensures .0 in
+    performed-1 _ (start .s .now) (start .image .now) (start .len) (λ k. omega (arith, bytes k)) _ e (then2 .if2 .taken) _ (c .walk .ensures)
+  where
+    then2 : tie.Then2
+    then2 = search
+
+    after-wide : tie.After-wide
+    after-wide = search then2
+
+    after-slice-known : tie.After-slice-known
+    after-slice-known = search after-wide
+
+    start-place : tie.Start
+    start-place = search after-slice-known
 
 walk-requires-2 : tie.Need-walk-requires-2
 walk-requires-2 c κs = search needs
@@ -66,12 +86,22 @@ same-length-3 c = search needs
 
 returns-3 : tie.Need-returns-3
 returns-3 c =
-    let worded = c .before .before .before .before .before .before in
-    let known = worded .before .before .before .before in
-    let start = known .before .before .args in
-    let bytes = known .slice-known .given in
-    let e = worded .wide .ensures .0 in
-    performed-2 _ (start .s .now) (start .image .now) (start .len) (λ k. omega (arith, bytes k)) _ e (c .before .before .if3 .taken) _ (c .walk2 .ensures)
+    let start = start-place .args in
+    let bytes = after-slice-known .slice-known .given in
+    let e = after-wide .wide .ensures .0 in
+    performed-2 _ (start .s .now) (start .image .now) (start .len) (λ k. omega (arith, bytes k)) _ e (then3 .if3 .taken) _ (c .walk2 .ensures)
+  where
+    then3 : tie.Then3
+    then3 = search
+
+    after-wide : tie.After-wide
+    after-wide = search then3
+
+    after-slice-known : tie.After-slice-known
+    after-slice-known = search after-wide
+
+    start-place : tie.Start
+    start-place = search after-slice-known
 
 read-u16-requires : tie.Need-read-u16-requires
 read-u16-requires c κs = search needs
@@ -102,14 +132,29 @@ same-length-5 c = search needs
 
 returns-4 : tie.Need-returns-4
 returns-4 c =
-    let called = c .before .before .before .before in
-    let read = called .before .before .before .before .before in
-    let worded = read .before .before .before .before .before .before in
-    let known = worded .before .before .before .before in
-    let start = known .before .before .args in
-    let bytes = known .slice-known .given in
-    let e = worded .wide .ensures .0 in
-    performed-3 _ (start .s .now) (start .image .now) (start .len) (λ k. omega (arith, bytes k)) _ e (read .before .if4 .taken) _ (read .read-u16 .ensures .0) _ (called .insert .ensures)
+    let start = start-place .args in
+    let bytes = after-slice-known .slice-known .given in
+    let e = after-wide .wide .ensures .0 in
+    performed-3 _ (start .s .now) (start .image .now) (start .len) (λ k. omega (arith, bytes k)) _ e (then4 .if4 .taken) _
+    (after-read-u16 .read-u16 .ensures .0) _ (after-insert .insert .ensures)
+  where
+    after-insert : tie.After-insert
+    after-insert = search
+
+    after-read-u16 : tie.After-read-u16
+    after-read-u16 = search after-insert
+
+    then4 : tie.Then4
+    then4 = search after-read-u16
+
+    after-wide : tie.After-wide
+    after-wide = search then4
+
+    after-slice-known : tie.After-slice-known
+    after-slice-known = search after-wide
+
+    start-place : tie.Start
+    start-place = search after-slice-known
 
 delete-requires : tie.Need-delete-requires
 delete-requires c κs = search needs
@@ -122,13 +167,25 @@ same-length-7 c = search needs
 
 returns-5 : tie.Need-returns-5
 returns-5 c =
-    let called = c .before .before .before .before in
-    let worded = called .before .before .before .before .before .before .before .before .before in
-    let known = worded .before .before .before .before in
-    let start = known .before .before .args in
-    let bytes = known .slice-known .given in
-    let e = worded .wide .ensures .0 in
-    performed-4 _ (start .s .now) (start .image .now) (start .len) (λ k. omega (arith, bytes k)) _ e (called .before .before .before .if5 .taken) _ (called .delete .ensures)
+    let start = start-place .args in
+    let bytes = after-slice-known .slice-known .given in
+    let e = after-wide .wide .ensures .0 in
+    performed-4 _ (start .s .now) (start .image .now) (start .len) (λ k. omega (arith, bytes k)) _ e (then5 .if5 .taken) _ (after-delete .delete .ensures)
+  where
+    after-delete : tie.After-delete
+    after-delete = search
+
+    then5 : tie.Then5
+    then5 = search after-delete
+
+    after-wide : tie.After-wide
+    after-wide = search then5
+
+    after-slice-known : tie.After-slice-known
+    after-slice-known = search after-wide
+
+    start-place : tie.Start
+    start-place = search after-slice-known
 
 optimise-requires : tie.Need-optimise-requires
 optimise-requires c κs = search needs
@@ -141,13 +198,23 @@ same-length-9 c = search needs
 
 returns-6 : tie.Need-returns-6
 returns-6 c =
-    let kind : getD (c .before .before .before .before .before .before .before .before .before .before .before .before .before .before .before .before .before .before .before .args .s .now) 0 0 ≡ 5 =
+    let kind : getD (start-place .args .s .now) 0 0 ≡ 5 =
     omega arith in
-    let called = c .before .before .before .before in
-    let known = called .before .before .before .before .before .before .before .before .before .before .before .before .before in
-    let start = known .before .before .args in
-    let bytes = known .slice-known .given in
-    performed-5 _ (start .s .now) (start .image .now) (start .len) (λ k. omega (arith, bytes k)) kind _ (called .optimise .ensures)
+    let start = start-place .args in
+    let bytes = after-slice-known .slice-known .given in
+    performed-5 _ (start .s .now) (start .image .now) (start .len) (λ k. omega (arith, bytes k)) kind _ (after-optimise .optimise .ensures)
+  where
+    after-optimise : tie.After-optimise
+    after-optimise = search
+
+    else1 : tie.Else1
+    else1 = search after-optimise
+
+    after-slice-known : tie.After-slice-known
+    after-slice-known = search else1
+
+    start-place : tie.Start
+    start-place = search after-slice-known
 
 pub perform-spec : {M : Type 1} → statement M
 perform-spec =

@@ -44,15 +44,39 @@ same-length-3 c = omega arith
 
 returns : tie.Need-returns Inv-loop μ-loop
 returns c =
-    let start = c .before .before .before .before .before .before .before .before .args in
-    let turn = c .before .before .before .loop in
-    let e = played-end _ (start .script .now) (turn .at) _ _ _ _ _ _ (turn .inv .5) _ (c .before .call-size .ensures .0) (c .if1 .taken) in
-    let image-bytes = c .before .before .before .before .before .before .slice-known in
-    let script-bytes = c .before .before .before .before .before .before .before .shared-slice-known in
-    (e, script-claimed (start .image .now) (λ k. omega (arith, image-bytes .given k)) _ (start .script .now) (λ k. omega (arith, script-bytes .given k)) _ _ _ _ e)
+    let start = start-place .args in
+    let turn = at-loop .loop in
+    let e = played-end _ (start .script .now) (turn .at) _ _ _ _ _ _ (turn .inv .5) _ (after-call-size .call-size .ensures .0) (c .if1 .taken) in
+    let image-bytes = after-slice-known .slice-known in
+    let script-bytes = after-shared-slice-known .shared-slice-known in (
+      e,
+      script-claimed (start .image .now) (λ k. omega (arith, image-bytes .given k)) _ (start .script .now) (λ k. omega (arith, script-bytes .given k)) _ _ _ _
+          e,
+    )
+  where
+    after-call-size : tie.After-call-size Inv-loop μ-loop
+    after-call-size = search
+
+    at-loop : tie.At-loop Inv-loop μ-loop
+    at-loop = search after-call-size
+
+    after-slice-known : tie.After-slice-known Inv-loop μ-loop
+    after-slice-known = search at-loop
+
+    after-shared-slice-known : tie.After-shared-slice-known Inv-loop μ-loop
+    after-shared-slice-known = search after-slice-known
+
+    start-place : tie.Start Inv-loop μ-loop
+    start-place = search after-shared-slice-known
 
 perform-requires : tie.Need-perform-requires Inv-loop μ-loop
-perform-requires c κs = size-told _ _ (c .before .before .before .call-size .ensures .0) (c .before .before .if1 .left)
+perform-requires c κs = size-told _ _ (after-call-size .call-size .ensures .0) (else1 .if1 .left)
+  where
+    else1 : tie.Else1 Inv-loop μ-loop
+    else1 = search
+
+    after-call-size : tie.After-call-size Inv-loop μ-loop
+    after-call-size = search else1
 
 put-code-requires : tie.Need-put-code-requires Inv-loop μ-loop
 put-code-requires c κs = search needs
@@ -68,15 +92,31 @@ loop-less c = omega arith
 
 loop-again : tie.Need-loop-again Inv-loop μ-loop
 loop-again c =
-    let stored = c .before .before in
-    let performed = stored .before .before .before .before .before .before in
-    let sized = performed .before .before .before .before in
-    let turn = sized .before .before .loop in
-    let start = sized .before .before .before .before .before .before .before .args in
-    let known = sized .call-size .ensures .0 in
-    let full = performed .before .before .before .if1 .left in
-    let next = played-turn _ (start .script .now) (turn .at) _ _ _ _ _ _ (turn .inv .5) _ known full (turn .inv .3) _ _ _ _ (performed .perform .ensures .0) _ (stored .put-code .ensures) in
+    let turn = at-loop .loop in
+    let start = start-place .args in
+    let known = after-call-size .call-size .ensures .0 in
+    let full = else1 .if1 .left in
+    let next = played-turn _ (start .script .now) (turn .at) _ _ _ _ _ _ (turn .inv .5) _ known full (turn .inv .3) _ _ _ _ (after-perform .perform .ensures .0)
+    _ (after-put-code .put-code .ensures) in
     (omega arith, omega arith, omega arith, omega arith, omega arith, next)
+  where
+    after-put-code : tie.After-put-code Inv-loop μ-loop
+    after-put-code = search
+
+    after-perform : tie.After-perform Inv-loop μ-loop
+    after-perform = search after-put-code
+
+    else1 : tie.Else1 Inv-loop μ-loop
+    else1 = search after-perform
+
+    after-call-size : tie.After-call-size Inv-loop μ-loop
+    after-call-size = search else1
+
+    at-loop : tie.At-loop Inv-loop μ-loop
+    at-loop = search after-call-size
+
+    start-place : tie.Start Inv-loop μ-loop
+    start-place = search at-loop
 
 pub play-spec : {M : Type 1} → statement M
 play-spec =
