@@ -53,8 +53,15 @@ fn insert_in(
     text: &[u8],
 ) -> LengthAnswer
     requires { ⌜ AcceptedImage (take len (now image)) n d ⌝ }
-    requires { ⌜ (256 ≤ len) × (len % 256 ≡ 0) × (len ≤ length (now image)) × (length (now image) ≤ length (now work)) × (length (now free) ≡ 2560) × (end ≡ index-end (take len (now image)) n) ⌝ }
-    requires { ⌜ ((i : Image) → image-from (take len (now image)) ≡ ok i → marks (now free) ≡ free-marks (i .frame .data-blocks) (i .free-list) ++ replicate (163840 - i .frame .data-blocks) false) ⌝ }
+    requires { ⌜
+        (256 ≤ len)
+        × (len % 256 ≡ 0)
+        × (len ≤ length (now image))
+        × (length (now image) ≤ length (now work))
+        × (length (now free) ≡ 2560)
+        × (end ≡ index-end (take len (now image)) n) ⌝ }
+    requires { ⌜ ((i : Image) → image-from (take len (now image)) ≡ ok i
+        → marks (now free) ≡ free-marks (i .frame .data-blocks) (i .free-list) ++ replicate (163840 - i .frame .data-blocks) false) ⌝ }
     requires { ⌜ ((i : Image) → image-from (take len (now image)) ≡ ok i → words ≡ length (entries-of i)) ⌝ }
     requires { ⌜ words < 4294967296 ⌝ }
     ensures { λ r. ⌜ length-answer r ≡ insert (now (image .entry)) len (now (work .entry)) (now (headword .entry)) attribute (now (text .entry)) .answer ⌝ }
@@ -134,7 +141,9 @@ pub fn insert(
     attribute: u8,
     text: &[u8],
 ) -> LengthAnswer
-    ensures { λ r. ⌜ record { answer = length-answer r; image = now (image .exit); work = now (work .exit) } ≡ insert (now (image .entry)) len (now (work .entry)) (now (headword .entry)) attribute (now (text .entry)) ⌝ }
+    ensures { λ r. ⌜
+        record { answer = length-answer r; image = now (image .exit); work = now (work .exit) }
+        ≡ insert (now (image .entry)) len (now (work .entry)) (now (headword .entry)) attribute (now (text .entry)) ⌝ }
 {
     if !header::slice_ok(image, len) {
         return LengthAnswer::Refused(1);
@@ -160,8 +169,15 @@ fn delete_in(
     headword: &[u8],
 ) -> DeleteAnswer
     requires { ⌜ AcceptedImage (take len (now image)) n d ⌝ }
-    requires { ⌜ (256 ≤ len) × (len % 256 ≡ 0) × (len ≤ length (now image)) × (length (now image) ≤ length (now work)) × (length (now free) ≡ 2560) × (end ≡ index-end (take len (now image)) n) ⌝ }
-    requires { ⌜ ((i : Image) → image-from (take len (now image)) ≡ ok i → marks (now free) ≡ free-marks (i .frame .data-blocks) (i .free-list) ++ replicate (163840 - i .frame .data-blocks) false) ⌝ }
+    requires { ⌜
+        (256 ≤ len)
+        × (len % 256 ≡ 0)
+        × (len ≤ length (now image))
+        × (length (now image) ≤ length (now work))
+        × (length (now free) ≡ 2560)
+        × (end ≡ index-end (take len (now image)) n) ⌝ }
+    requires { ⌜ ((i : Image) → image-from (take len (now image)) ≡ ok i
+        → marks (now free) ≡ free-marks (i .frame .data-blocks) (i .free-list) ++ replicate (163840 - i .frame .data-blocks) false) ⌝ }
     requires { ⌜ ((i : Image) → image-from (take len (now image)) ≡ ok i → words ≡ length (entries-of i)) ⌝ }
     ensures { λ r. ⌜ delete-answer r ≡ delete (now (image .entry)) len (now (work .entry)) (now (headword .entry)) .answer ⌝ }
     ensures { λ r. ⌜ now (image .exit) ≡ delete (now (image .entry)) len (now (work .entry)) (now (headword .entry)) .image ⌝ }
@@ -217,7 +233,9 @@ fn delete_tested(image: &mut [u8], len: usize, work: &mut [u8], headword: &[u8])
 
 // Delete: the entry with that headword goes.
 pub fn delete(image: &mut [u8], len: usize, work: &mut [u8], headword: &[u8]) -> DeleteAnswer
-    ensures { λ r. ⌜ record { answer = delete-answer r; image = now (image .exit); work = now (work .exit) } ≡ delete (now (image .entry)) len (now (work .entry)) (now (headword .entry)) ⌝ }
+    ensures { λ r. ⌜
+        record { answer = delete-answer r; image = now (image .exit); work = now (work .exit) }
+        ≡ delete (now (image .entry)) len (now (work .entry)) (now (headword .entry)) ⌝ }
 {
     if !header::slice_ok(image, len) {
         return DeleteAnswer::Refused(1);
@@ -258,7 +276,9 @@ fn optimise_tested(image: &mut [u8], len: usize, work: &mut [u8]) -> LengthAnswe
 
 // Optimise: the runs one after the other, no free block.
 pub fn optimise(image: &mut [u8], len: usize, work: &mut [u8]) -> LengthAnswer
-    ensures { λ r. ⌜ record { answer = length-answer r; image = now (image .exit); work = now (work .exit) } ≡ optimise (now (image .entry)) len (now (work .entry)) ⌝ }
+    ensures { λ r. ⌜
+        record { answer = length-answer r; image = now (image .exit); work = now (work .exit) }
+        ≡ optimise (now (image .entry)) len (now (work .entry)) ⌝ }
 {
     if !header::slice_ok(image, len) {
         return LengthAnswer::Refused(1);

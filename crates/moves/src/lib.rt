@@ -97,7 +97,10 @@ fn place_one(
     requires { ⌜ (g ≤ end) × (end ≤ 98304) × (2560 ≤ length (now free)) ⌝ }
     ensures { λ r. ⌜ r ≡ spread g end (marks (now (free .entry))) (map (size-at (now (area .entry)) d) (starts b 1 (now (numbers .entry)))) .end ⌝ }
     ensures { λ r. ⌜ marks (now (free .exit)) ≡ spread g end (marks (now (free .entry))) (map (size-at (now (area .entry)) d) (starts b 1 (now (numbers .entry)))) .free ⌝ }
-    ensures { λ r. ⌜ now (numbers .exit) ≡ tabled (starts b 1 (now (numbers .entry))) (spread g end (marks (now (free .entry))) (map (size-at (now (area .entry)) d) (starts b 1 (now (numbers .entry)))) .places) (now (numbers .entry)) ⌝ }
+    ensures { λ r. ⌜ now (numbers .exit)
+        ≡ tabled (starts b 1 (now (numbers .entry)))
+        (spread g end (marks (now (free .entry))) (map (size-at (now (area .entry)) d) (starts b 1 (now (numbers .entry)))) .places)
+        (now (numbers .entry)) ⌝ }
     ensures { λ r. ⌜ (length (now (free .exit)) ≡ length (now (free .entry))) × (length (now (numbers .exit)) ≡ length (now (numbers .entry))) × (end ≤ r) ⌝ }
 {
     if numbers[b] == 0 {
@@ -122,7 +125,11 @@ pub fn place_moved(
     requires { ⌜ (256 * d ≤ length (now area)) × (d ≤ 65536) × (g ≤ 32767) × (g ≤ length (now numbers)) ⌝ }
     requires { ⌜ (g ≤ end) × (end ≤ limit) × (limit ≤ 98304) × (2560 ≤ length (now free)) ⌝ }
     ensures { λ r. ⌜ Within limit (spread g end (marks (now (free .entry))) (map (size-at (now (area .entry)) d) (starts 0 g (now (numbers .entry))))) r (marks (now (free .exit))) ⌝ }
-    ensures { λ r. ⌜ (r ≤ limit → now (numbers .exit) ≡ tabled (starts 0 g (now (numbers .entry))) (spread g end (marks (now (free .entry))) (map (size-at (now (area .entry)) d) (starts 0 g (now (numbers .entry)))) .places) (now (numbers .entry))) ⌝ }
+    ensures { λ r. ⌜ (r ≤ limit
+        → now (numbers .exit)
+        ≡ tabled (starts 0 g (now (numbers .entry)))
+        (spread g end (marks (now (free .entry))) (map (size-at (now (area .entry)) d) (starts 0 g (now (numbers .entry)))) .places)
+        (now (numbers .entry))) ⌝ }
     ensures { λ r. ⌜ (length (now (free .exit)) ≡ length (now (free .entry))) × (length (now (numbers .exit)) ≡ length (now (numbers .entry))) × (end ≤ r) ⌝ }
 {
     let mut last = end;

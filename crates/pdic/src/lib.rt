@@ -15,7 +15,13 @@ const ABSENT: u32 = 100;
 
 #[no_mangle]
 pub extern "C" fn pdic_create(image: &mut [u8], new_len: &mut usize) -> u32
-    ensures { λ r. ⌜ record { returned = r; image = now (image .exit); new-length = now («new_len» .exit) } ≡ create-lent (create (now (image .entry))) (now («new_len» .entry)) ⌝ }
+    ensures { λ r. ⌜
+        record {
+          returned = r;
+          image = now (image .exit);
+          new-length = now («new_len» .exit);
+        }
+        ≡ create-lent (create (now (image .entry))) (now («new_len» .entry)) ⌝ }
 {
     let r = editor::create(image);
     match r {
@@ -36,7 +42,16 @@ pub extern "C" fn pdic_check(
     data_blocks: &mut u64,
     free_blocks: &mut u64,
 ) -> u32
-    ensures { λ r. ⌜ record { returned = r; headwords = now (headwords .exit); index-blocks = now («index_blocks» .exit); data-blocks = now («data_blocks» .exit); free-blocks = now («free_blocks» .exit) } ≡ check-lent (check (now (image .entry)) len) (now (headwords .entry)) (now («index_blocks» .entry)) (now («data_blocks» .entry)) (now («free_blocks» .entry)) ⌝ }
+    ensures { λ r. ⌜
+        record {
+          returned = r;
+          headwords = now (headwords .exit);
+          index-blocks = now («index_blocks» .exit);
+          data-blocks = now («data_blocks» .exit);
+          free-blocks = now («free_blocks» .exit);
+        }
+        ≡ check-lent (check (now (image .entry)) len)
+        (now (headwords .entry)) (now («index_blocks» .entry)) (now («data_blocks» .entry)) (now («free_blocks» .entry)) ⌝ }
 {
     let r = reader::check(image, len);
     match r {
@@ -60,7 +75,15 @@ pub extern "C" fn pdic_look_up(
     attribute: &mut u8,
     text_len: &mut usize,
 ) -> u32
-    ensures { λ r. ⌜ record { returned = r; text = now (text .exit); attribute = now (attribute .exit); text-length = now («text_len» .exit) } ≡ look-up-lent (look-up (now (image .entry)) len (now (headword .entry)) (now (text .entry))) (now (attribute .entry)) (now («text_len» .entry)) ⌝ }
+    ensures { λ r. ⌜
+        record {
+          returned = r;
+          text = now (text .exit);
+          attribute = now (attribute .exit);
+          text-length = now («text_len» .exit);
+        }
+        ≡ look-up-lent (look-up (now (image .entry)) len (now (headword .entry)) (now (text .entry)))
+        (now (attribute .entry)) (now («text_len» .entry)) ⌝ }
 {
     let r = reader::look_up(image, len, headword, text);
     match r {
@@ -86,7 +109,18 @@ pub extern "C" fn pdic_walk(
     headword_len: &mut usize,
     text_len: &mut usize,
 ) -> u32
-    ensures { λ r. ⌜ record { returned = r; headword = now («headword_out» .exit); text = now (text .exit); attribute = now (attribute .exit); headword-length = now («headword_len» .exit); text-length = now («text_len» .exit) } ≡ walk-lent (walk (now (image .entry)) len (not (eqb above 0)) (now (headword .entry)) (now («headword_out» .entry)) (now (text .entry))) (now (attribute .entry)) (now («headword_len» .entry)) (now («text_len» .entry)) ⌝ }
+    ensures { λ r. ⌜
+        record {
+          returned = r;
+          headword = now («headword_out» .exit);
+          text = now (text .exit);
+          attribute = now (attribute .exit);
+          headword-length = now («headword_len» .exit);
+          text-length = now («text_len» .exit);
+        }
+        ≡ walk-lent
+        (walk (now (image .entry)) len (not (eqb above 0)) (now (headword .entry)) (now («headword_out» .entry)) (now (text .entry)))
+        (now (attribute .entry)) (now («headword_len» .entry)) (now («text_len» .entry)) ⌝ }
 {
     let r = reader::walk(image, len, headword, above != 0, headword_out, text);
     match r {
@@ -111,7 +145,15 @@ pub extern "C" fn pdic_insert(
     text: &[u8],
     new_len: &mut usize,
 ) -> u32
-    ensures { λ r. ⌜ record { returned = r; image = now (image .exit); work = now (work .exit); new-length = now («new_len» .exit) } ≡ change-lent (insert (now (image .entry)) len (now (work .entry)) (now (headword .entry)) attribute (now (text .entry))) (now («new_len» .entry)) ⌝ }
+    ensures { λ r. ⌜
+        record {
+          returned = r;
+          image = now (image .exit);
+          work = now (work .exit);
+          new-length = now («new_len» .exit);
+        }
+        ≡ change-lent (insert (now (image .entry)) len (now (work .entry)) (now (headword .entry)) attribute (now (text .entry)))
+        (now («new_len» .entry)) ⌝ }
 {
     let r = editor::insert(image, len, work, headword, attribute, text);
     match r {
@@ -131,7 +173,14 @@ pub extern "C" fn pdic_delete(
     headword: &[u8],
     new_len: &mut usize,
 ) -> u32
-    ensures { λ r. ⌜ record { returned = r; image = now (image .exit); work = now (work .exit); new-length = now («new_len» .exit) } ≡ delete-lent (delete (now (image .entry)) len (now (work .entry)) (now (headword .entry))) (now («new_len» .entry)) ⌝ }
+    ensures { λ r. ⌜
+        record {
+          returned = r;
+          image = now (image .exit);
+          work = now (work .exit);
+          new-length = now («new_len» .exit);
+        }
+        ≡ delete-lent (delete (now (image .entry)) len (now (work .entry)) (now (headword .entry))) (now («new_len» .entry)) ⌝ }
 {
     let r = editor::delete(image, len, work, headword);
     match r {
@@ -151,7 +200,14 @@ pub extern "C" fn pdic_optimise(
     work: &mut [u8],
     new_len: &mut usize,
 ) -> u32
-    ensures { λ r. ⌜ record { returned = r; image = now (image .exit); work = now (work .exit); new-length = now («new_len» .exit) } ≡ change-lent (optimise (now (image .entry)) len (now (work .entry))) (now («new_len» .entry)) ⌝ }
+    ensures { λ r. ⌜
+        record {
+          returned = r;
+          image = now (image .exit);
+          work = now (work .exit);
+          new-length = now («new_len» .exit);
+        }
+        ≡ change-lent (optimise (now (image .entry)) len (now (work .entry))) (now («new_len» .entry)) ⌝ }
 {
     let r = editor::optimise(image, len, work);
     match r {

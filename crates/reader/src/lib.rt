@@ -39,7 +39,10 @@ pub fn check(s: &[u8], len: usize) -> CheckAnswer
 // The text of an entry goes to the front of `text`: row 14, then the attribute and the text's length.
 fn give_text(area: &[u8], zero: usize, next: usize, text: &mut [u8]) -> LookUpAnswer
     requires { ⌜ (zero + 2 ≤ next) × (next ≤ length (now area)) ⌝ }
-    ensures { λ r. ⌜ ((h : List ℕ) → record { answer = look-up-answer r; text = now (text .exit) } ≡ look-up-result (now (text .entry)) (text-fitted (now (text .entry)) (some (record { headword = h; body = bytes-at (zero + 1) (next - (zero + 1)) (now (area .entry)) })))) ⌝ }
+    ensures { λ r. ⌜ ((h : List ℕ)
+        → record { answer = look-up-answer r; text = now (text .exit) }
+        ≡ look-up-result (now (text .entry))
+        (text-fitted (now (text .entry)) (some (record { headword = h; body = bytes-at (zero + 1) (next - (zero + 1)) (now (area .entry)) })))) ⌝ }
 {
     let from = zero + 2;
     let n = next - from;
@@ -54,7 +57,9 @@ fn give_text(area: &[u8], zero: usize, next: usize, text: &mut [u8]) -> LookUpAn
 fn look_up_in(image: &[u8], n: usize, d: usize, headword: &[u8], text: &mut [u8]) -> LookUpAnswer
     requires { ⌜ AcceptedImage (now image) n d ⌝ }
     requires { ⌜ (256 ≤ length (now image)) × (length (now image) % 256 ≡ 0) × (256 + 256 * n ≤ length (now image)) ⌝ }
-    ensures { λ r. ⌜ ((i : Image) → image-from (now (image .entry)) ≡ ok i → record { answer = look-up-answer r; text = now (text .exit) } ≡ look-up-result (now (text .entry)) (look-up-in i (now (headword .entry)) (now (text .entry)))) ⌝ }
+    ensures { λ r. ⌜ ((i : Image) → image-from (now (image .entry)) ≡ ok i
+        → record { answer = look-up-answer r; text = now (text .exit) }
+        ≡ look-up-result (now (text .entry)) (look-up-in i (now (headword .entry)) (now (text .entry)))) ⌝ }
 {
     if !runs::headword_ok(headword) {
         return LookUpAnswer::Refused(12);
@@ -85,7 +90,9 @@ fn look_up_in(image: &[u8], n: usize, d: usize, headword: &[u8], text: &mut [u8]
 
 // Look up: the text of the entry with that headword goes to the front of `text`.
 pub fn look_up(s: &[u8], len: usize, headword: &[u8], text: &mut [u8]) -> LookUpAnswer
-    ensures { λ r. ⌜ record { answer = look-up-answer r; text = now (text .exit) } ≡ look-up (now (s .entry)) len (now (headword .entry)) (now (text .entry)) ⌝ }
+    ensures { λ r. ⌜
+        record { answer = look-up-answer r; text = now (text .exit) }
+        ≡ look-up (now (s .entry)) len (now (headword .entry)) (now (text .entry)) ⌝ }
 {
     if !header::slice_ok(s, len) {
         return LookUpAnswer::Refused(1);
@@ -124,7 +131,11 @@ fn give_entry(
     text: &mut [u8],
 ) -> WalkAnswer
     requires { ⌜ (zero + 2 ≤ next) × (next ≤ length (now area)) ⌝ }
-    ensures { λ r. ⌜ record { answer = walk-answer r; headword = now (out .exit); text = now (text .exit) } ≡ walk-result (now (out .entry)) (now (text .entry)) (entry-fitted (now (out .entry)) (now (text .entry)) (some (record { headword = now (headword .entry); body = bytes-at (zero + 1) (next - (zero + 1)) (now (area .entry)) }))) ⌝ }
+    ensures { λ r. ⌜
+        record { answer = walk-answer r; headword = now (out .exit); text = now (text .exit) }
+        ≡ walk-result (now (out .entry)) (now (text .entry))
+        (entry-fitted (now (out .entry)) (now (text .entry))
+        (some (record { headword = now (headword .entry); body = bytes-at (zero + 1) (next - (zero + 1)) (now (area .entry)) }))) ⌝ }
 {
     let start = zero + 2;
     let n = next - start;
@@ -151,7 +162,10 @@ fn walk_in(
 ) -> WalkAnswer
     requires { ⌜ AcceptedImage (now image) n d ⌝ }
     requires { ⌜ (256 ≤ length (now image)) × (length (now image) % 256 ≡ 0) × (256 + 256 * n ≤ length (now image)) ⌝ }
-    ensures { λ r. ⌜ ((i : Image) → image-from (now (image .entry)) ≡ ok i → record { answer = walk-answer r; headword = now (out .exit); text = now (text .exit) } ≡ walk-result (now (out .entry)) (now (text .entry)) (walk-in i above (now (headword .entry)) (now (out .entry)) (now (text .entry)))) ⌝ }
+    ensures { λ r. ⌜ ((i : Image) → image-from (now (image .entry)) ≡ ok i
+        → record { answer = walk-answer r; headword = now (out .exit); text = now (text .exit) }
+        ≡ walk-result (now (out .entry)) (now (text .entry))
+        (walk-in i above (now (headword .entry)) (now (out .entry)) (now (text .entry)))) ⌝ }
 {
     if !start_ok(headword) {
         return WalkAnswer::Refused(12);
@@ -184,7 +198,9 @@ pub fn walk(
     out: &mut [u8],
     text: &mut [u8],
 ) -> WalkAnswer
-    ensures { λ r. ⌜ record { answer = walk-answer r; headword = now (out .exit); text = now (text .exit) } ≡ walk (now (s .entry)) len above (now (headword .entry)) (now (out .entry)) (now (text .entry)) ⌝ }
+    ensures { λ r. ⌜
+        record { answer = walk-answer r; headword = now (out .exit); text = now (text .exit) }
+        ≡ walk (now (s .entry)) len above (now (headword .entry)) (now (out .entry)) (now (text .entry)) ⌝ }
 {
     if !header::slice_ok(s, len) {
         return WalkAnswer::Refused(1);

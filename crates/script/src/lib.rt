@@ -76,7 +76,15 @@ fn insert(
     attribute: u8,
     text: &[u8],
 ) -> After
-    ensures { λ r. ⌜ record { code = r .code; image = now (image .exit); length-after = r .len; work = now (work .exit) } ≡ told (now (image .entry)) len (now (work .entry)) (insert-call (zeros (length (now (work .entry)))) (now (headword .entry)) attribute (now (text .entry))) ⌝ }
+    ensures { λ r. ⌜
+        record {
+          code = r .code;
+          image = now (image .exit);
+          length-after = r .len;
+          work = now (work .exit);
+        }
+        ≡ told (now (image .entry)) len (now (work .entry))
+        (insert-call (zeros (length (now (work .entry)))) (now (headword .entry)) attribute (now (text .entry))) ⌝ }
 {
     let r = editor::insert(image, len, work, headword, attribute, text);
     match r {
@@ -87,7 +95,15 @@ fn insert(
 
 // A deletion.
 fn delete(image: &mut [u8], len: usize, work: &mut [u8], headword: &[u8]) -> After
-    ensures { λ r. ⌜ record { code = r .code; image = now (image .exit); length-after = r .len; work = now (work .exit) } ≡ told (now (image .entry)) len (now (work .entry)) (delete-call (zeros (length (now (work .entry)))) (now (headword .entry))) ⌝ }
+    ensures { λ r. ⌜
+        record {
+          code = r .code;
+          image = now (image .exit);
+          length-after = r .len;
+          work = now (work .exit);
+        }
+        ≡ told (now (image .entry)) len (now (work .entry))
+        (delete-call (zeros (length (now (work .entry)))) (now (headword .entry))) ⌝ }
 {
     let r = editor::delete(image, len, work, headword);
     match r {
@@ -102,7 +118,15 @@ fn delete(image: &mut [u8], len: usize, work: &mut [u8], headword: &[u8]) -> Aft
 
 // An optimising.
 fn optimise(image: &mut [u8], len: usize, work: &mut [u8]) -> After
-    ensures { λ r. ⌜ record { code = r .code; image = now (image .exit); length-after = r .len; work = now (work .exit) } ≡ told (now (image .entry)) len (now (work .entry)) (optimise-call (zeros (length (now (work .entry))))) ⌝ }
+    ensures { λ r. ⌜
+        record {
+          code = r .code;
+          image = now (image .exit);
+          length-after = r .len;
+          work = now (work .exit);
+        }
+        ≡ told (now (image .entry)) len (now (work .entry))
+        (optimise-call (zeros (length (now (work .entry))))) ⌝ }
 {
     let r = editor::optimise(image, len, work);
     match r {
@@ -114,7 +138,14 @@ fn optimise(image: &mut [u8], len: usize, work: &mut [u8]) -> After
 // The call at the front of a script, which holds it whole.
 fn perform(s: &[u8], image: &mut [u8], len: usize, work: &mut [u8]) -> After
     requires { ⌜ (call-size (now s) ≤ length (now s)) × (getD (now s) 0 0 ≤ 5) ⌝ }
-    ensures { λ r. ⌜ ((c : Call) → call-of (length (now (work .entry))) (now (s .entry)) ≡ some c → record { code = r .code; image = now (image .exit); length-after = r .len; work = now (work .exit) } ≡ told (now (image .entry)) len (now (work .entry)) c) ⌝ }
+    ensures { λ r. ⌜ ((c : Call) → call-of (length (now (work .entry))) (now (s .entry)) ≡ some c
+        → record {
+          code = r .code;
+          image = now (image .exit);
+          length-after = r .len;
+          work = now (work .exit);
+        }
+        ≡ told (now (image .entry)) len (now (work .entry)) c) ⌝ }
     ensures { λ r. ⌜ r .code < 256 ⌝ }
 {
     let kind = s[0];
@@ -161,7 +192,15 @@ fn put_code(codes: &mut [u8], n: usize, code: u32)
 // Performs the calls of a script in order on the image slice, each with the length that stands then, the changing ones with
 // the working slice `work`; their codes go to `codes`, one byte a call, as far as there is room. Answers the length at the end.
 pub fn play(script: &[u8], image: &mut [u8], len: usize, work: &mut [u8], codes: &mut [u8]) -> usize
-    ensures { λ r. ⌜ record { image = now (image .exit); length-after = r; work = now (work .exit); codes = now (codes .exit) } ≡ played (calls-of (length (now (work .entry))) (now (script .entry))) (now (image .entry)) len (now (work .entry)) (now (codes .entry)) ⌝ }
+    ensures { λ r. ⌜
+        record {
+          image = now (image .exit);
+          length-after = r;
+          work = now (work .exit);
+          codes = now (codes .exit);
+        }
+        ≡ played (calls-of (length (now (work .entry))) (now (script .entry)))
+        (now (image .entry)) len (now (work .entry)) (now (codes .entry)) ⌝ }
     ensures { λ r. ⌜ Claimed (calls-of (length (now (work .entry))) (now (script .entry))) (now (image .entry)) len (now (image .exit)) r ⌝ }
 {
     let mut l = len;
