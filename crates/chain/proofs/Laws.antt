@@ -181,7 +181,8 @@ chain-turn ws area area₁ area₂ r g d b b′ v inv set n ev e₁ e₂ few roo
     let asc : Ascending (b + 1 - g) (d - g) rest = numbers-ascending (d - g) (b + 1 - g) (drop (b + 1) fl) (omega (arith, length-drop (b + 1) fl)) in
     rw (← same, a)
     (sym (written-swap (d - g) (b + 1 - g) (b - g) v rest area asc (omega arith) room)
-    ∙ sym (ap (λ (l : List ℕ). free-list-written l area) (numbers-at fl g b low (omega arith) set) ∙ written-cons (b - g) rest area ∙ ap (λ (k : ℕ). write (256 * (b - g)) (link-bytes k) (free-list-written rest area)) f)
+    ∙ sym (ap (λ (l : List ℕ). free-list-written l area) (numbers-at fl g b low (omega arith) set) ∙ written-cons (b - g) rest area
+    ∙ ap (λ (k : ℕ). write (256 * (b - g)) (link-bytes k) (free-list-written rest area)) f)
     ∙ inv)
 
 -- at the end nothing is left

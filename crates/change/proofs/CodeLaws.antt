@@ -63,10 +63,18 @@ marks-end dst src i e h l =
 
 -- ---- write_rest: the free list in the lent rest, then the header
 pub rest-sealed : (s s′ x bs : List ℕ) (front : ℕ) (v : Outline) (first : ℕ) → x ≡ free-list-written bs (take (length s - front) (drop front s)) → first ≡ free-list-start bs
-    → s′ ≡ changed-header layout4 (record { index-blocks = v .n + v .g; entries = v .words; first-free = first; elements = v .elements; run-blocks = v .blocks }) (take front s ++ (x ++ drop (length s - front) (drop front s)))
+    → s′ ≡ changed-header layout4
+    (record { index-blocks = v .n + v .g; entries = v .words; first-free = first; elements = v .elements; run-blocks = v .blocks })
+    (take front s ++ (x ++ drop (length s - front) (drop front s)))
     → Sealed s s′ front v bs
 rest-sealed s s′ x bs front v first ex ef e =
     e
-    ∙ ap (λ (k : ℕ). changed-header layout4 (record { index-blocks = v .n + v .g; entries = v .words; first-free = k; elements = v .elements; run-blocks = v .blocks }) (take front s ++ (x ++ drop (length s - front) (drop front s)))) ef
-    ∙ ap (λ (y : List ℕ). changed-header layout4 (record { index-blocks = v .n + v .g; entries = v .words; first-free = free-list-start bs; elements = v .elements; run-blocks = v .blocks }) (take front s ++ (y ++ drop (length s - front) (drop front s)))) ex
-    ∙ ap (λ (y : List ℕ). changed-header layout4 (record { index-blocks = v .n + v .g; entries = v .words; first-free = free-list-start bs; elements = v .elements; run-blocks = v .blocks }) (take front s ++ y)) (lent-rest front s (free-list-written bs))
+    ∙ ap (λ (k : ℕ). changed-header layout4
+    (record { index-blocks = v .n + v .g; entries = v .words; first-free = k; elements = v .elements; run-blocks = v .blocks })
+    (take front s ++ (x ++ drop (length s - front) (drop front s)))) ef
+    ∙ ap (λ (y : List ℕ). changed-header layout4
+    (record { index-blocks = v .n + v .g; entries = v .words; first-free = free-list-start bs; elements = v .elements; run-blocks = v .blocks })
+    (take front s ++ (y ++ drop (length s - front) (drop front s)))) ex
+    ∙ ap (λ (y : List ℕ). changed-header layout4
+    (record { index-blocks = v .n + v .g; entries = v .words; first-free = free-list-start bs; elements = v .elements; run-blocks = v .blocks })
+    (take front s ++ y)) (lent-rest front s (free-list-written bs))

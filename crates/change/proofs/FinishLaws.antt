@@ -7,6 +7,7 @@ use native.Mathlib.Omega.{arith}
 use lib.ListN.{length, take, drop, replicate, length-take}
 use lib.Seq.{length-take-le}
 use lib.Dec.{eqb}
+use Rattle.spec.specs.Order.{below-of}
 use Rattle.spec.specs.Outcome.{ok}
 use Rattle.spec.specs.Bytes.{blocks-for}
 use Rattle.spec.specs.Header as Header
@@ -22,14 +23,14 @@ use Rattle.spec.specs.SortedList.{lookup}
 use Rattle.spec.specs.Claim.{is-there}
 use Rattle.spec.proofs.OutcomeLaws.{same-value}
 use Rattle.spec.proofs.ReadLaws.{image-told}
-use Rattle.spec.proofs.PlanLaws.{SoundPlan}
+use Rattle.spec.specs.Sound.{SoundPlan}
 use Rattle.marks.specs.Marks.{marks, with-range}
 use Rattle.marks.proofs.Laws.{length-marks}
 use Rattle.index.specs.Elements.{elements-at, elements-end}
 use Rattle.index.proofs.Laws.{ends-inside}
 use Rattle.header.proofs.Laws.{frame-index-few}
-use Rattle.inspect.specs.Overview.{index-end, AcceptedImage}
-use Rattle.inspect.proofs.Laws.{index-part, data-part, data-long}
+use Rattle.inspect.specs.Overview.{index-end, AcceptedImage, index-part, data-part}
+use Rattle.inspect.proofs.Laws.{data-long}
 use Rattle.inspect.proofs.Accepted.{accepted-frame, accepted-blocks, accepted-whole, accepted-inside, accepted-runs}
 use Rattle.placing.specs.Spread.{spread, Within}
 use Rattle.moves.specs.Moved.{noted, starts, freed}
@@ -38,7 +39,7 @@ use Rattle.target.specs.Told.{NumbersWithin, entries-start, entries-part, Targe
 use Rattle.target.proofs.Laws.{numbers-within, told-blocks}
 use Rattle.parts.specs.Part.{Measured}
 use Rattle.parts.specs.Merge.{entries-left, changed-entries}
-use Rattle.plan.proofs.Grown.{Growing}
+use Rattle.plan.specs.Growing.{Growing}
 use Rattle.change.specs.declared.Outline.{Outline}
 use Rattle.change.specs.declared.Draft.{Draft}
 use Rattle.change.specs.Ready.{growth, planned, parts-of, Displaced, Ready, Roomy, Written, Changed}
@@ -50,10 +51,12 @@ use Rattle.change.proofs.ReadyLaws.{blocks-counted, still, grows, grows
 -- ---- plan_end
 -- the end by the copied marks is that by the marks
 pub end-planned : (o : List ℕ) (v : Outline) (ws ws₁ : List ℕ) (t : Target) (h body : List ℕ) (fresh : Bool) (from r : ℕ) (ms : List Bool) → ws₁ ≡ ws → from ≡ entries-start (t .block) (t .size)
-    → Within (65_536 + v .g) (spread (v .g) (v .end) (marks ws₁) (map run-size (cut 1_024 (changed-entries (take (256 * (t .block + t .size) - from) (drop from (data-part o (v .n)))) h body fresh)))) r ms
+    → Within (65_536 + v .g) (spread (v .g) (v .end) (marks ws₁)
+    (map run-size (cut 1_024 (changed-entries (take (256 * (t .block + t .size) - from) (drop from (data-part o (v .n)))) h body fresh)))) r ms
     → PlannedEnd o v (marks ws) t h body fresh r
 end-planned o v ws ws₁ t h body fresh from r ms e f w =
-    let k : take (256 * (t .block + t .size) - from) (drop from (data-part o (v .n))) ≡ entries-part (data-part o (v .n)) (t .block) (t .size) = run-cut (data-part o (v .n)) (t .block) (t .size) from f in
+    let k : take (256 * (t .block + t .size) - from) (drop from (data-part o (v .n))) ≡ entries-part (data-part o (v .n)) (t .block) (t .size)
+    = run-cut (data-part o (v .n)) (t .block) (t .size) from f in
     let w₁ : Within (65_536 + v .g) (spread (v .g) (v .end) (marks ws₁) (map run-size (parts-of o (v .n) t h body fresh))) r ms
     = subst (λ (x : List ℕ). Within (65_536 + v .g) (spread (v .g) (v .end) (marks ws₁) (map run-size (cut 1_024 (changed-entries x h body fresh)))) r ms) k w in
     let w₂ : Within (65_536 + v .g) (spread (v .g) (v .end) (marks ws) (map run-size (parts-of o (v .n) t h body fresh))) r ms
@@ -147,9 +150,10 @@ growth-few n k b = go (eqb k 0)
 module _ (o : List ℕ) (n d : ℕ) (a : AcceptedImage o n d) (e : ℕ) (number : e ≡ get (layout4 .nindex2) o) where
   -- the numbers of the elements are those of data blocks
   pub numbers-few : NumbersWithin d (index-part o n) 0 e
-  numbers-few = numbers-within format4 d (data-part o n) (index-part o n) 0 e (a .image .runs) (accepted-runs o n d a e number)
+  numbers-few = numbers-within (below-of 0) d (data-part o n) (index-part o n) 0 e (a .image .runs) (accepted-runs o n d a e number)
 
-  module _ (h : List ℕ) (t : Target) (found : (rs : List Run) → runs-from format4 d (data-part o n) (elements-at (index-part o n) 0 e) ≡ ok rs → TargetTold (index-part o n) (data-part o n) e h rs t) where
+  module _ (h : List ℕ) (t : Target) (found : (rs : List Run) → runs-from (below-of 0) d (data-part o n) (elements-at (index-part o n) 0 e) ≡ ok rs
+      → TargetTold (index-part o n) (data-part o n) e h rs t) where
     told : TargetTold (index-part o n) (data-part o n) e h (a .image .runs) t
     told = found (a .image .runs) (accepted-runs o n d a e number)
 
@@ -165,14 +169,16 @@ module _ (o : List ℕ) (n d : ℕ) (a : AcceptedImage o n d) (e : ℕ) (number 
     pub drafted : (body : List ℕ) (fresh there : Bool) (from end b g parts bytes blocks : ℕ) → t .block + t .size ≤ d → from ≡ entries-start (t .block) (t .size)
         → Measured (map new-run (cut 1_024 (changed-entries (take (256 * (t .block + t .size) - from) (drop from (data-part o n))) h body fresh))) parts bytes blocks
         → end ≡ index-end o n → b ≡ get (layout4 .nblock2) o → g ≡ growth n (t .before + t .after + parts) (end - (t .end - t .at) + bytes)
-        → bytes ≤ 2_105_540_859 → there ≡ is-there (lookup h (entries-left format4 [] (take (256 * (t .block + t .size) - from) (drop from (data-part o n)))))
+        → bytes ≤ 2_105_540_859 → there ≡ is-there (lookup h (entries-left (below-of 0) [] (take (256 * (t .block + t .size) - from) (drop from (data-part o n)))))
         → Drafted o n d h body fresh (record { n = n; d = d; target = t; found = there; g = g; elements = t .before + t .after + parts; blocks = b - t .size + blocks })
     drafted body fresh there from end b g parts bytes blocks p ef m ee eb eg lb ft =
         record {
           accepted = a;
-          told = λ i is. subst (λ (x : Image). TargetTold (index-part o n) (data-part o n) (get (layout4 .nindex2) o) h (x .runs) t) (same-value (a .image) i (sym (a .is) ∙ is)) (subst (λ (x : ℕ). TargetTold (index-part o n) (data-part o n) x h (a .image .runs) t) number told);
+          told = λ i is. subst (λ (x : Image). TargetTold (index-part o n) (data-part o n) (get (layout4 .nindex2) o) h (x .runs) t)
+              (same-value (a .image) i (sym (a .is) ∙ is)) (subst (λ (x : ℕ). TargetTold (index-part o n) (data-part o n) x h (a .image .runs) t) number told);
           inside = p;
-          found-is = λ i is. ft ∙ ap (λ (x : List ℕ). is-there (lookup h (entries-left format4 [] x))) (run-cut (data-part o n) (t .block) (t .size) from ef) ∙ whole-found o n d a e h t told i is;
+          found-is =
+              λ i is. ft ∙ ap (λ (x : List ℕ). is-there (lookup h (entries-left (below-of 0) [] x))) (run-cut (data-part o n) (t .block) (t .size) from ef) ∙ whole-found o n d a e h t told i is;
           parts = parts;
           bytes = bytes;
           run-blocks = blocks;
@@ -212,7 +218,9 @@ begins s L n d h body fresh words p free free′ inside whole k marked sound e f
       few-index = few;
       headword = headword;
       body-short = short;
-      marked = e ∙ ap (with-range (p .target .block) (p .target .size) true) (marked (a .image) (a .is) ∙ ap (λ (x : ℕ). free-marks x (a .image .free-list) ++ replicate (163_840 - x) false) (sym (a .data-blocks)));
+      marked =
+          e ∙ ap (with-range (p .target .block) (p .target .size) true)
+          (marked (a .image) (a .is) ∙ ap (λ (x : ℕ). free-marks x (a .image .free-list) ++ replicate (163_840 - x) false) (sym (a .data-blocks)));
       sound = sound (a .image) (a .is) .0;
       words-are = sound (a .image) (a .is) .1;
     }
@@ -248,13 +256,18 @@ module _ (o : List ℕ) (n d : ℕ) (p : Draft) (ms : List Bool) (h body : List 
       → Ready o (record { n = n; d = d; g = g; end = end; words = words; elements = p .elements; blocks = p .blocks }) T ms′ t h body fresh
   by-draft g end T ms′ r =
       subst (λ (x : ℕ). Ready o (record { n = n; d = d; g = g; end = end; words = words; elements = p .elements; blocks = x }) T ms′ t h body fresh) (sym (k .blocks-are))
-      (subst (λ (x : ℕ). Ready o (record { n = n; d = d; g = g; end = end; words = words; elements = x; blocks = get (layout4 .nblock2) o - t .size + k .run-blocks }) T ms′ t h body fresh) (sym (k .elements-are)) r)
+      (subst
+      (λ (x : ℕ). Ready o (record { n = n; d = d; g = g; end = end; words = words; elements = x; blocks = get (layout4 .nblock2) o - t .size + k .run-blocks }) T ms′ t h body fresh)
+      (sym (k .elements-are)) r)
 
   -- an index that does not grow
   pub still-ready : (T : List ℕ) → p .g ≡ 0 → Ready o (record { n = n; d = d; g = 0; end = d; words = words; elements = p .elements; blocks = p .blocks }) T ms t h body fresh
   still-ready T z =
       by-draft 0 d T ms
-      (ready o n d a h t told-here body fresh (k .parts) (k .bytes) (k .run-blocks) (k .measured) 0 d words T ms (b .whole) few (b .headword) (b .body-short) (k .inside) (sym z ∙ k .growth-is) (omega (arith, b .few-index)) (omega arith) (omega (arith, few)) (subst (λ (x : List Bool). Growing (data-part o n) d 0 (target-run format4 h (a .image .runs) .before) (target-run format4 h (a .image .runs) .after) 163_840 T d x) (sym (b .marked)) (still o n d a h t told-here free refl few (k .inside) T)) (b .sound) (b .words-are))
+      (ready o n d a h t told-here body fresh (k .parts) (k .bytes) (k .run-blocks) (k .measured) 0 d words T ms (b .whole) few (b .headword) (b .body-short)
+      (k .inside) (sym z ∙ k .growth-is) (omega (arith, b .few-index)) (omega arith) (omega (arith, few)) (subst
+      (λ (x : List Bool). Growing (data-part o n) d 0 (target-run (below-of 0) h (a .image .runs) .before) (target-run (below-of 0) h (a .image .runs) .after) 163_840 T d x)
+      (sym (b .marked)) (still o n d a h t told-here free refl few (k .inside) T)) (b .sound) (b .words-are))
 
   module _ (one : 1 ≤ p .g) (end : ℕ) (T : List ℕ) (ms′ : List Bool) (moved : Displaced (index-part o n) (data-part o n) d (p .g) t (replicate 32_768 0) ms end T ms′) where
     abbrev g : ℕ
@@ -273,7 +286,7 @@ module _ (o : List ℕ) (n d : ℕ) (p : Draft) (ms : List Bool) (h body : List 
     pub grow-full : (s : List ℕ) (L : ℕ) → o ≡ take L s → 65_536 + g < end → Changed s L h body fresh 0 s
     grow-full s L eo q i e =
         let x : i ≡ a .image = same-value i (a .image) (sym e ∙ ap image-from (sym eo) ∙ a .is) in
-        let over : 65_536 < grown g d (target-run format4 h (a .image .runs) .before) (target-run format4 h (a .image .runs) .after) .data-blocks
+        let over : 65_536 < grown g d (target-run (below-of 0) h (a .image .runs) .before) (target-run (below-of 0) h (a .image .runs) .after) .data-blocks
         = grows-over o n d a h t told-here free refl few (k .inside) g one (omega (arith, b .few-index)) T₀ ms₁ refl freed-is (moved T₀ ms₁ refl refl .0 .1 q) in
         let f : plan-full s (planned (a .image) h body fresh) ≡ true = moved-full o n d a h t told-here body fresh (k .parts) (k .bytes) (k .run-blocks) (k .measured) s g (k .growth-is) over in
         (λ z. (ap (λ (y : Image). plan-full s (planned y h body fresh)) x ∙ f, refl), λ z. absurd (omega arith))
@@ -283,4 +296,7 @@ module _ (o : List ℕ) (n d : ℕ) (p : Draft) (ms : List Bool) (h body : List 
     grow-ready q table =
         let w = moved T₀ ms₁ refl refl in
         by-draft g end T ms′
-        (ready o n d a h t told-here body fresh (k .parts) (k .bytes) (k .run-blocks) (k .measured) g end words T ms′ (b .whole) few (b .headword) (b .body-short) (k .inside) (k .growth-is) (b .few-index) table q (grows o n d a h t told-here free refl few (k .inside) g one (omega (arith, b .few-index)) T₀ T ms₁ ms′ end refl freed-is (w .0 .0 q .0) (w .0 .0 q .1) (w .1 q) (omega (arith, b .few-index))) (b .sound) (b .words-are))
+        (ready o n d a h t told-here body fresh (k .parts) (k .bytes) (k .run-blocks) (k .measured) g end words T ms′ (b .whole) few (b .headword)
+        (b .body-short) (k .inside) (k .growth-is) (b .few-index) table q (grows o n d a h t told-here free refl few (k .inside) g one
+        (omega (arith, b .few-index)) T₀ T ms₁ ms′ end refl freed-is (w .0 .0 q .0) (w .0 .0 q .1) (w .1 q) (omega (arith, b .few-index))) (b .sound)
+        (b .words-are))

@@ -5,13 +5,13 @@ use mathlib.Core.Logic.{_⊎_, inl, inr}
 use mathlib.Core.Bool.{Bool, true}
 use mathlib.Core.List.{List, [], _∷_, _++_, map, append-assoc}
 use native.Mathlib.Omega.{arith}
-use lib.ListN.{length, take, drop, getD, length-drop, length-append, take-append-drop, replicate-append-replicate}
+use lib.ListN.{length, take, drop, getD, take-append-drop, replicate-append-replicate}
 use lib.Seq.{length-take-le, take-all, take-at, drop-at, take-take, take-append-le, take-append-add, drop-drop}
 use Rattle.marks.specs.Marks.{marks}
 use Rattle.marks.proofs.Laws.{drop-take}
 use Rattle.spec.specs.Bytes.{bytes-at, write, zeros}
 use Rattle.spec.specs.Outcome.{ok}
-use Rattle.spec.specs.Order.{IsOrder}
+use Rattle.spec.specs.Order.{below-of}
 use Rattle.spec.specs.Check as Check
 use Rattle.spec.specs.Check.{Frame, index-area}
 use Rattle.spec.specs.Header as Header
@@ -26,11 +26,11 @@ use Rattle.spec.proofs.PartLaws.{length-bytes-at, rest-at}
 use Rattle.spec.proofs.WriteLaws.{bytes-at-within, bytes-at-write, take-write, length-write, written-front, write-same, write-behind, written-behind}
 use Rattle.spec.proofs.StoredIndexLaws.{index-stored}
 use Rattle.index.specs.Elements.{elements-at, elements-end, Inside}
-use Rattle.index.proofs.Laws.{ends-inside}
+use Rattle.index.proofs.Laws.{inside-at, ends-inside}
 use Rattle.elements.specs.Renewed.{renewed}
 use Rattle.elements.proofs.Laws.{elements-length, elements-stand, renewed-none-all}
-use Rattle.inspect.specs.Overview.{AcceptedImage}
-use Rattle.inspect.proofs.Laws.{index-part, data-part, index-told}
+use Rattle.inspect.specs.Overview.{AcceptedImage, index-part, data-part}
+use Rattle.inspect.proofs.Laws.{index-told}
 use Rattle.inspect.proofs.Accepted.{accepted-frame, accepted-inside}
 use Rattle.header.specs.Framed.{frame4}
 use Rattle.header.proofs.Laws.{index-slice}
@@ -119,11 +119,6 @@ small-get [] k p = omega arith
 small-get (x ∷ l) zero (p, ps) = p
 small-get (x ∷ l) (suc k) (p, ps) = small-get l k ps
 
--- elements inside the index start inside it
-inside-at : (index : List ℕ) (at n : ℕ) → Inside index at n → at ≤ length index
-inside-at index at zero i = i
-inside-at index at (suc n) i = omega (arith, i .0)
-
 -- bytes that stand in front of the end of a list that zeros fill
 zeros-behind : (index x y : List ℕ) (at m : ℕ) → index ≡ x ++ zeros m → length x ≡ at + length y → bytes-at at (length y) index ≡ y → drop at index ≡ y ++ zeros m
 unfolding bytes-at
@@ -145,19 +140,16 @@ run-inside o s start from size copy fits =
     ∙ ap (take size) (drop-drop from start s))
 
 -- the elements of an accepted image's index
-accepted-elements : (o : List ℕ) (n d : ℕ) → AcceptedImage o n d → index-from format4 n (get (layout4 .nindex2) o) (index-part o n) ≡ ok (elements-at (index-part o n) 0 (get (layout4 .nindex2) o))
+accepted-elements : (o : List ℕ) (n d : ℕ) → AcceptedImage o n d
+    → index-from 2 (below-of 0) n (get (layout4 .nindex2) o) (index-part o n) ≡ ok (elements-at (index-part o n) 0 (get (layout4 .nindex2) o))
 unfolding Check.image-from Header.format-of Header.format4
 accepted-elements o n d a =
     let m = image-told format4 o (a .image) (a .is) in
     let f : a .image .frame ≡ frame4 n d = accepted-frame o n d a in
     let x : index-area (a .image .frame) o ≡ index-part o n = ap (λ (g : Frame). index-area g o) f ∙ index-slice o n d in
-    let e : index-from format4 n (get (layout4 .nindex2) o) (index-part o n) ≡ ok (m .elements)
-    = ap₂ (λ (k : ℕ) (l : List ℕ). index-from format4 k (get (layout4 .nindex2) o) l) (a .index-blocks) (sym x) ∙ m .index in
+    let e : index-from 2 (below-of 0) n (get (layout4 .nindex2) o) (index-part o n) ≡ ok (m .elements)
+    = ap₂ (λ (k : ℕ) (l : List ℕ). index-from 2 (below-of 0) k (get (layout4 .nindex2) o) l) (a .index-blocks) (sym x) ∙ m .index in
     e ∙ ap ok (index-told (index-part o n) n (get (layout4 .nindex2) o) (m .elements) e .0)
-
-byte-order4 : IsOrder (format4 .below)
-unfolding Header.format4
-byte-order4 = order-of 0
 
 -- a part of a slice as code cuts it out
 rest-cut : (at n : ℕ) (w : List ℕ) → take (at + n - at) (drop at w) ≡ bytes-at at n w
@@ -181,10 +173,10 @@ module _ (o : List ℕ) (v : Outline) (T : List ℕ) (ws : List ℕ) (t : Target
 
   -- the bytes of the elements before and after
   abbrev B : List ℕ
-  B = elements-bytes format4 (elements-at index 0 (t .before))
+  B = elements-bytes 2 (elements-at index 0 (t .before))
 
   abbrev A : List ℕ
-  A = elements-bytes format4 (elements-at index (t .end) (t .after))
+  A = elements-bytes 2 (elements-at index (t .end) (t .after))
 
   -- the index in the slice
   index-there : index ≡ bytes-at 256 (256 * v .n) s
@@ -221,7 +213,7 @@ module _ (o : List ℕ) (v : Outline) (T : List ℕ) (ws : List ℕ) (t : Target
   as-they-are es = ap (λ (g : ℕ). map (renewed T g) es) still ∙ renewed-none-all T es
 
   -- the elements before stand there
-  before-there : s ≡ write 256 (elements-bytes format4 (map (renewed T (v .g)) (elements-at index 0 (t .before)))) s
+  before-there : s ≡ write 256 (elements-bytes 2 (map (renewed T (v .g)) (elements-at index 0 (t .before)))) s
   before-there =
       let i : Inside index 0 (t .before) = r .told .before-inside in
       let l : elements-end index 0 (t .before) ≡ 0 + length B = elements-length index 0 (t .before) i in
@@ -229,14 +221,14 @@ module _ (o : List ℕ) (v : Outline) (T : List ℕ) (ws : List ℕ) (t : Target
       let b : bytes-at 0 (length B) index ≡ B = ap (λ (x : ℕ). bytes-at 0 x index) (sym k) ∙ elements-stand index 0 (t .before) (λ x. small-get index x index-bytes) i in
       let p : 0 + length B ≤ 256 * v .n = omega (arith, ends-inside index 0 (t .before) i, index-long) in
       let c : bytes-at 256 (length B) s ≡ B = sym (ap (bytes-at 0 (length B)) index-there ∙ bytes-at-within 256 (256 * v .n) 0 (length B) s p) ∙ b in
-      sym (ap (λ (es : List Element). write 256 (elements-bytes format4 es) s) (as-they-are (elements-at index 0 (t .before))) ∙ write-same 256 B s c)
+      sym (ap (λ (es : List Element). write 256 (elements-bytes 2 es) s) (as-they-are (elements-at index 0 (t .before))) ∙ write-same 256 B s c)
 
   -- the index holds the elements in front of zeros
-  stored : StoredIndex format4 (elements-at index 0 count) index
+  stored : StoredIndex 2 (elements-at index 0 count) index
   stored =
       let a : AcceptedImage o (v .n) (v .d) = record { image = r .image; is = r .is; index-blocks = r .index-blocks; data-blocks = r .data-blocks } in
-      let e : index-from format4 (v .n) count index ≡ ok (elements-at index 0 count) = accepted-elements o (v .n) (v .d) a in
-      index-stored format4 byte-order4 (v .n) count index (bytes-of index index-bytes) index-long (elements-at index 0 count) .0 e .stored
+      let e : index-from 2 (below-of 0) (v .n) count index ≡ ok (elements-at index 0 count) = accepted-elements o (v .n) (v .d) a in
+      index-stored 2 (below-of 0) (order-of 0) (v .n) count index (bytes-of index index-bytes) index-long (elements-at index 0 count) .0 e .stored
 
   -- behind the element of the run concerned stand those after it, then zeros
   rest-told : (z : ℕ) × (drop (t .end) index ≡ A ++ zeros z)
@@ -246,7 +238,7 @@ module _ (o : List ℕ) (v : Outline) (T : List ℕ) (ws : List ℕ) (t : Target
       all-inside : Inside index 0 count
       all-inside = accepted-inside o (v .n) (v .d) (record { image = r .image; is = r .is; index-blocks = r .index-blocks; data-blocks = r .data-blocks }) count refl
 
-      total : length (elements-bytes format4 (elements-at index 0 count)) ≡ t .end + length A
+      total : length (elements-bytes 2 (elements-at index 0 count)) ≡ t .end + length A
       total = omega (arith, elements-length index 0 count all-inside, r .told .end-is)
 
       there : bytes-at (t .end) (length A) index ≡ A
@@ -254,12 +246,12 @@ module _ (o : List ℕ) (v : Outline) (T : List ℕ) (ws : List ℕ) (t : Target
           let k : elements-end index (t .end) (t .after) - t .end ≡ length A = omega (arith, elements-length index (t .end) (t .after) (r .told .after-inside)) in
           ap (λ (x : ℕ). bytes-at (t .end) x index) (sym k) ∙ elements-stand index (t .end) (t .after) (λ x. small-get index x index-bytes) (r .told .after-inside)
 
-      go : ((index ≡ []) × (elements-at index 0 count ≡ [])) ⊎ ((n : ℕ) × (4 ≤ n) × (index ≡ elements-bytes format4 (elements-at index 0 count) ++ zeros n))
+      go : ((index ≡ []) × (elements-at index 0 count ≡ [])) ⊎ ((n : ℕ) × (4 ≤ n) × (index ≡ elements-bytes 2 (elements-at index 0 count) ++ zeros n))
           → (z : ℕ) × (drop (t .end) index ≡ A ++ zeros z)
       go (inl (e, f)) =
-          let x : length (elements-bytes format4 (elements-at index 0 count)) ≡ 0 = ap (λ (l : List Element). length (elements-bytes format4 l)) f in
+          let x : length (elements-bytes 2 (elements-at index 0 count)) ≡ 0 = ap (λ (l : List Element). length (elements-bytes 2 l)) f in
           (0, zeros-behind index [] A (t .end) 0 e (omega (arith, total)) there)
-      go (inr (n, p, e)) = (n, zeros-behind index (elements-bytes format4 (elements-at index 0 count)) A (t .end) n e total there)
+      go (inr (n, p, e)) = (n, zeros-behind index (elements-bytes 2 (elements-at index 0 count)) A (t .end) n e total there)
 
   -- the parts of the plan
   abbrev ps : List (List Entry)
@@ -271,11 +263,11 @@ module _ (o : List ℕ) (v : Outline) (T : List ℕ) (ws : List ℕ) (t : Target
 
   -- the bytes that their elements take
   abbrev room : List (List Entry) → ℕ
-  room cs = length (elements-bytes format4 (map element-of (part-runs (v .g) (placed cs .places) cs)))
+  room cs = length (elements-bytes 2 (map element-of (part-runs (v .g) (placed cs .places) cs)))
 
   -- and they written over a slice
   abbrev written : List (List Entry) → List ℕ → List ℕ
-  written cs = parts-written start (v .g) (256 + t .at) (placed cs .places) cs
+  written cs = parts-written 2 start (v .g) (256 + t .at) (placed cs .places) cs
 
   module _ (size : ℕ) (w : List ℕ) (sv : Saved s v t size w) where
     -- the entries as they were saved
@@ -344,8 +336,8 @@ module _ (o : List ℕ) (v : Outline) (T : List ℕ) (ws : List ℕ) (t : Target
           let g : s₅ ≡ write (b + length A) (zeros (start + 256 * v .g - (b + length A))) (write b A s₃)
           = e₅ ∙ ap (λ (x : List ℕ). write b x s₃) f ∙ sym (write-behind s₃ A (zeros (start - b - length A)) b (omega (arith, all-end, l₃)))
           ∙ ap (λ (x : ℕ). write (b + length A) (zeros x) (write b A s₃)) k in
-          let e₄ : write b A s₃ ≡ write b (elements-bytes format4 (map (renewed T (v .g)) (elements-at index (t .end) (t .after)))) s₃
-          = ap (λ (es : List Element). write b (elements-bytes format4 es) s₃) (sym (as-they-are (elements-at index (t .end) (t .after)))) in
+          let e₄ : write b A s₃ ≡ write b (elements-bytes 2 (map (renewed T (v .g)) (elements-at index (t .end) (t .after)))) s₃
+          = ap (λ (es : List Element). write b (elements-bytes 2 es) s₃) (sym (as-they-are (elements-at index (t .end) (t .after)))) in
           let p : s₃ ≡ written ps s = subst (λ (x : List (List Entry)). s₃ ≡ written x s) parts-same e₃ in
           areas-done o v T (marks ws) t h body fresh r s q s s s₃ (write b A s₃) s₅ (256 + t .at) b (b + length A) nothing-moved before-there at-there p new-end e₄ refl g
 

@@ -9,6 +9,7 @@ use lib.ListN.{length, getD, replicate, length-append, length-map, length-replic
 use lib.Seq.{getD-append-add}
 use lib.Dec.{eqb}
 use borrow.Author.Tests.{eqb-true, ne-eqb}
+use Rattle.spec.specs.Order.{below-of}
 use Rattle.spec.specs.Outcome.{ok}
 use Rattle.spec.specs.Bytes.{from-little-endian, bytes-at, blocks-for}
 use Rattle.spec.specs.Header as Header
@@ -21,9 +22,9 @@ use Rattle.spec.specs.Check as Check
 use Rattle.spec.specs.Check.{Image, image-from, runs-from, counts-ok, all-entries}
 use Rattle.spec.specs.Place as Place
 use Rattle.spec.specs.Place.{target-run, cut, new-run, place, element-of, grown, plan-full}
-use Rattle.spec.proofs.ListsLaws.{All, and-right, all-map, all-append, all-front, all-back, one}
-use Rattle.spec.proofs.BlocksLaws.{Laid}
-use Rattle.spec.proofs.PlanLaws.{plan-of, SoundPlan}
+use Rattle.spec.specs.Lists.{All}
+use Rattle.spec.proofs.ListsLaws.{and-right, all-map, all-append, all-front, all-back, one}
+use Rattle.spec.specs.Sound.{Laid, plan-of, SoundPlan}
 use Rattle.spec.proofs.LaidLaws.{Sized, laid-without}
 use Rattle.spec.proofs.CountLaws.{free-list-free}
 use Rattle.spec.proofs.FreeListLaws.{Stands}
@@ -34,16 +35,16 @@ use Rattle.marks.specs.Marks.{with-range}
 use Rattle.marks.proofs.Words.{range-none}
 use Rattle.marks.proofs.Laws.{length-range}
 use Rattle.freelist.proofs.Laws.{length-free-marks, get-free-marks}
-use Rattle.inspect.specs.Overview.{AcceptedImage}
-use Rattle.inspect.proofs.Laws.{index-part, data-part}
+use Rattle.inspect.specs.Overview.{AcceptedImage, index-part, data-part}
 use Rattle.inspect.proofs.Accepted.{accepted-runs}
-use Rattle.placing.proofs.SpreadLaws.{Marked, place-grows}
+use Rattle.placing.proofs.SpreadLaws.{place-grows}
 use Rattle.target.specs.declared.Target.{Target}
 use Rattle.target.specs.Told.{NoRun, OneRun, TargetTold}
 use Rattle.target.proofs.Laws.{Known, runs-known, told-before, told-after, told-blocks}
-use Rattle.placing.specs.Spread.{spread}
+use Rattle.placing.specs.Spread.{spread, Marked}
 use Rattle.moves.specs.Moved.{noted, starts, size-at, freed, tabled}
-use Rattle.plan.proofs.Grown.{Growing, freed-between, index-still, index-grown, noted-both, index-over}
+use Rattle.plan.specs.Growing.{Growing}
+use Rattle.plan.proofs.Grown.{freed-between, index-still, index-grown, noted-both, index-over}
 use Rattle.parts.specs.Part.{Measured}
 use Rattle.plan.proofs.Whole.{elements-sum}
 use Rattle.plan.proofs.Finish.{plan-parts, full-index, full-blocks}
@@ -76,10 +77,10 @@ unfolding growth
 growth-some n k b h = rw (ne-eqb k 0 h, growth)
 
 -- it is what these need beyond its blocks
-growth-need : (n : ℕ) (es : List Element) → growth n (length es) (length (elements-bytes format4 es)) ≡ index-need format4 es - n
+growth-need : (n : ℕ) (es : List Element) → growth n (length es) (length (elements-bytes 2 es)) ≡ index-need 2 es - n
 unfolding growth index-need
 growth-need n [] = omega arith
-growth-need n (e ∷ es) = growth-some n (suc (length es)) (length (elements-bytes format4 (e ∷ es))) (λ z. omega arith)
+growth-need n (e ∷ es) = growth-some n (suc (length es)) (length (elements-bytes 2 (e ∷ es))) (λ z. omega arith)
 
 -- ---- an accepted image
 module _ (o : List ℕ) (n d : ℕ) (a : AcceptedImage o n d) where
@@ -106,25 +107,27 @@ module _ (o : List ℕ) (n d : ℕ) (a : AcceptedImage o n d) where
   sized : All Sized (i .runs)
   sized = all-map _ _ (λ r h. (h .some-blocks, h .whole)) (i .runs) (sound .holds)
 
-  pub runs-read : runs-from format4 d area (elements-at index 0 (get (layout4 .nindex2) o)) ≡ ok (i .runs)
+  pub runs-read : runs-from (below-of 0) d area (elements-at index 0 (get (layout4 .nindex2) o)) ≡ ok (i .runs)
   runs-read = accepted-runs o n d a (get (layout4 .nindex2) o) refl
 
-  known : All (Known format4 d area) (i .runs)
-  known = runs-known format4 d area (elements-at index 0 (get (layout4 .nindex2) o)) (i .runs) runs-read
+  known : All (Known (below-of 0) d area) (i .runs)
+  known = runs-known (below-of 0) d area (elements-at index 0 (get (layout4 .nindex2) o)) (i .runs) runs-read
 
   -- each run's bytes stand in the data area
   stands : Stands area (i .runs)
-  stands = all-map _ _ (λ r k. sym (run-told format4 d area (element-of r) (k .next) r (k .read) .bytes)) (i .runs) known
+  stands = all-map _ _ (λ r k. sym (run-told (below-of 0) d area (element-of r) (k .next) r (k .read) .bytes)) (i .runs) known
 
   -- each run starts with its number of blocks
   counted : All (λ r. from-little-endian (bytes-at (256 * r .block) 2 area) ≡ r .size) (i .runs)
   unfolding element-of
-  counted = all-map _ _ (λ r k. sym (run-told format4 d area (element-of r) (k .next) r (k .read) .size)) (i .runs) known
+  counted = all-map _ _ (λ r k. sym (run-told (below-of 0) d area (element-of r) (k .next) r (k .read) .size)) (i .runs) known
 
   -- the blocks in runs that the header counts
   pub blocks-counted : get (layout4 .nblock2) o ≡ run-blocks (i .runs)
   unfolding counts-ok format4
-  blocks-counted = eqb-true (get (layout4 .nblock2) o) (run-blocks (i .runs)) (and-right (eqb (get (layout4 .nword) o) (length (all-entries (i .runs)))) (eqb (get (layout4 .nblock2) o) (run-blocks (i .runs))) (told .counts))
+  blocks-counted =
+      eqb-true (get (layout4 .nblock2) o) (run-blocks (i .runs))
+      (and-right (eqb (get (layout4 .nword) o) (length (all-entries (i .runs)))) (eqb (get (layout4 .nblock2) o) (run-blocks (i .runs))) (told .counts))
 
   once : each-once d (i .runs) (i .free-list) ≡ true
   once = subst (λ (x : ℕ). each-once x (i .runs) (i .free-list) ≡ true) (sym (a .data-blocks)) (told .once)
@@ -132,7 +135,7 @@ module _ (o : List ℕ) (n d : ℕ) (a : AcceptedImage o n d) where
   -- ---- the run concerned
   module _ (h : List ℕ) (t : Target) (k : TargetTold index area (get (layout4 .nindex2) o) h (i .runs) t) where
     abbrev c : Place.Target
-    c = target-run format4 h (i .runs)
+    c = target-run (below-of 0) h (i .runs)
 
     -- the other runs are among those of the image
     others : (P : Run → Type 0) → All P (i .runs) → All P (c .before ++ c .after)
@@ -180,9 +183,12 @@ module _ (o : List ℕ) (n d : ℕ) (a : AcceptedImage o n d) where
           (index-still area d (c .before) (c .after) (with-range (t .block) (t .size) true free) T others-laid (others _ stands) start-marked)
 
       -- the table of where the other runs start
-      noted-all : (g : ℕ) (T₀ : List ℕ) → T₀ ≡ noted g (map (λ e. e .block) (elements-at index (t .end) (t .after))) (noted g (map (λ e. e .block) (elements-at index 0 (t .before))) (replicate 32_768 0))
+      noted-all : (g : ℕ) (T₀ : List ℕ) → T₀ ≡ noted g (map (λ e. e .block) (elements-at index (t .end) (t .after)))
+          (noted g (map (λ e. e .block) (elements-at index 0 (t .before))) (replicate 32_768 0))
           → T₀ ≡ noted g (map (λ r. r .block) (c .before ++ c .after)) (replicate 32_768 0)
-      noted-all g T₀ e = e ∙ ap₂ (λ (y z : List Element). noted g (map (λ e. e .block) y) (noted g (map (λ e. e .block) z) (replicate 32_768 0))) (k .after) (k .before) ∙ noted-both g (c .before) (c .after) (replicate 32_768 0)
+      noted-all g T₀ e =
+          e ∙ ap₂ (λ (y z : List Element). noted g (map (λ e. e .block) y) (noted g (map (λ e. e .block) z) (replicate 32_768 0))) (k .after) (k .before)
+          ∙ noted-both g (c .before) (c .after) (replicate 32_768 0)
 
       -- one that grows
       pub grows : t .block + t .size ≤ d → (g : ℕ) → 1 ≤ g → g ≤ 32_768
@@ -196,7 +202,8 @@ module _ (o : List ℕ) (n d : ℕ) (a : AcceptedImage o n d) where
       grows p g one most T₀ T ms₁ ms₂ end e₁ e₂ e₃ e₄ e₅ fits =
           let x : List Bool = with-range (t .block) (t .size) true free in
           subst (λ (y : ℕ). Growing area d g (c .before) (c .after) y T end ms₂) (start-long p)
-          (index-grown area d g 32_768 (c .before) (c .after) x one most others-laid (others _ sized) (others _ stands) (others _ counted) start-marked T₀ T ms₁ ms₂ end (noted-all g T₀ e₁) e₂ e₃ e₄ e₅ (omega (arith, start-long p)) (omega (arith, start-long p)))
+          (index-grown area d g 32_768 (c .before) (c .after) x one most others-laid (others _ sized) (others _ stands) (others _ counted) start-marked T₀ T ms₁
+          ms₂ end (noted-all g T₀ e₁) e₂ e₃ e₄ e₅ (omega (arith, start-long p)) (omega (arith, start-long p)))
 
       -- and one for which there are too many blocks
       pub grows-over : t .block + t .size ≤ d → (g : ℕ) → 1 ≤ g → g ≤ 32_767
@@ -207,7 +214,8 @@ module _ (o : List ℕ) (n d : ℕ) (a : AcceptedImage o n d) where
       grows-over p g one few′ T₀ ms₁ e₁ e₂ h =
           let x : List Bool = with-range (t .block) (t .size) true free in
           let q : 65_536 + g < g + grown g d (c .before) (c .after) .data-blocks
-          = index-over area d g 32_768 (c .before) (c .after) x one (omega arith) others-laid (others _ sized) (others _ stands) (others _ counted) start-marked T₀ ms₁ (65_536 + g) (noted-all g T₀ e₁) e₂ (omega arith) (omega (arith, start-long p)) few h in
+          = index-over area d g 32_768 (c .before) (c .after) x one (omega arith) others-laid (others _ sized) (others _ stands) (others _ counted) start-marked
+          T₀ ms₁ (65_536 + g) (noted-all g T₀ e₁) e₂ (omega arith) (omega (arith, start-long p)) few h in
           omega arith
 
     -- ---- the numbers
@@ -222,43 +230,71 @@ module _ (o : List ℕ) (n d : ℕ) (a : AcceptedImage o n d) where
       -- how many elements there are then
       count-is : t .before + t .after + parts ≡ length (map element-of (c .before ++ ps ++ c .after))
       count-is =
-          omega
-          (arith, m .0, told-before index area (get (layout4 .nindex2) o) h (i .runs) t k, told-after index area (get (layout4 .nindex2) o) h (i .runs) t k, length-map (c .before ++ ps ++ c .after) element-of, length-append (c .before ++ ps) (c .after), length-append (c .before) ps)
+          omega (
+            arith,
+            m .0,
+            told-before index area (get (layout4 .nindex2) o) h (i .runs) t k,
+            told-after index area (get (layout4 .nindex2) o) h (i .runs) t k,
+            length-map (c .before ++ ps ++ c .after) element-of,
+            length-append (c .before ++ ps) (c .after),
+            length-append (c .before) ps,
+          )
 
       -- and how many bytes they take
-      bytes-are : elements-end index 0 (get (layout4 .nindex2) o) - (t .end - t .at) + bytes ≡ length (elements-bytes format4 (map element-of (c .before ++ ps ++ c .after)))
+      bytes-are : elements-end index 0 (get (layout4 .nindex2) o) - (t .end - t .at) + bytes ≡ length (elements-bytes 2 (map element-of (c .before ++ ps ++ c .after)))
       bytes-are =
-          let x : length (elements-bytes format4 (elements-at index 0 (t .before))) ≡ length (elements-bytes format4 (map element-of (c .before))) = ap (λ (es : List Element). length (elements-bytes format4 es)) (k .before) in
-          let y : length (elements-bytes format4 (elements-at index (t .end) (t .after))) ≡ length (elements-bytes format4 (map element-of (c .after))) = ap (λ (es : List Element). length (elements-bytes format4 es)) (k .after) in
-          omega (arith, m .1, k .bytes, elements-sum (c .before) ps (c .after))
+          let x : length (elements-bytes 2 (elements-at index 0 (t .before))) ≡ length (elements-bytes 2 (map element-of (c .before)))
+          = ap (λ (es : List Element). length (elements-bytes 2 es)) (k .before) in
+          let y : length (elements-bytes 2 (elements-at index (t .end) (t .after))) ≡ length (elements-bytes 2 (map element-of (c .after)))
+          = ap (λ (es : List Element). length (elements-bytes 2 es)) (k .after) in
+          omega (arith, m .1, k .bytes, elements-sum 2 (c .before) ps (c .after))
 
       -- so this is the growth of the plan
-      pub growth-is : growth n (t .before + t .after + parts) (elements-end index 0 (get (layout4 .nindex2) o) - (t .end - t .at) + bytes) ≡ index-need format4 (map element-of (c .before ++ ps ++ c .after)) - n
+      pub growth-is : growth n (t .before + t .after + parts) (elements-end index 0 (get (layout4 .nindex2) o) - (t .end - t .at) + bytes)
+          ≡ index-need 2 (map element-of (c .before ++ ps ++ c .after)) - n
       growth-is = ap₂ (λ (x y : ℕ). growth n x y) count-is bytes-are ∙ growth-need n (map element-of (c .before ++ ps ++ c .after))
 
       -- the plan by its numbers
       plan-at : (g : ℕ) → g ≡ growth n (t .before + t .after + parts) (elements-end index 0 (get (layout4 .nindex2) o) - (t .end - t .at) + bytes)
-          → planned i h body fresh ≡ plan-of format4 (n + g) (place 0 (grown g d (c .before) (c .after) .data-blocks) (grown g d (c .before) (c .after) .before ++ grown g d (c .before) (c .after) .after) ps .data-blocks) (grown g d (c .before) (c .after) .before ++ place 0 (grown g d (c .before) (c .after) .data-blocks) (grown g d (c .before) (c .after) .before ++ grown g d (c .before) (c .after) .after) ps .runs ++ grown g d (c .before) (c .after) .after)
+          → planned i h body fresh ≡ plan-of format4 (n + g) (place 0 (grown g d (c .before) (c .after) .data-blocks)
+          (grown g d (c .before) (c .after) .before ++ grown g d (c .before) (c .after) .after) ps .data-blocks)
+          (grown g d (c .before) (c .after) .before ++ place 0 (grown g d (c .before) (c .after) .data-blocks)
+          (grown g d (c .before) (c .after) .before ++ grown g d (c .before) (c .after) .after) ps .runs ++ grown g d (c .before) (c .after) .after)
+      unfolding format4
       plan-at g e =
-          plan-parts i h (edited h body fresh) n d g (a .index-blocks) (a .data-blocks) (parts-of o n t h body fresh) (sym parts-are) (e ∙ growth-is)
+          plan-parts format4 i h (edited h body fresh) n d g (a .index-blocks) (a .data-blocks) (parts-of o n t h body fresh) (sym parts-are) (e ∙ growth-is)
 
       -- row 15: an index of too many blocks
-      pub index-full : (s : List ℕ) (g : ℕ) → g ≡ growth n (t .before + t .after + parts) (elements-end index 0 (get (layout4 .nindex2) o) - (t .end - t .at) + bytes) → 32_767 < n + g → plan-full s (planned i h body fresh) ≡ true
-      index-full s g e p = ap (plan-full s) (plan-at g e) ∙ full-index s (n + g) _ _ p
+      pub index-full : (s : List ℕ) (g : ℕ)
+          → g ≡ growth n (t .before + t .after + parts) (elements-end index 0 (get (layout4 .nindex2) o) - (t .end - t .at) + bytes) → 32_767 < n + g
+          → plan-full s (planned i h body fresh) ≡ true
+      unfolding format4
+      index-full s g e p = ap (plan-full s) (plan-at g e) ∙ full-index format4 s (n + g) _ _ p
 
       -- row 15: too many data blocks when the displaced runs are placed
       pub moved-full : (s : List ℕ) (g : ℕ) → g ≡ growth n (t .before + t .after + parts) (elements-end index 0 (get (layout4 .nindex2) o) - (t .end - t .at) + bytes)
           → 65_536 < grown g d (c .before) (c .after) .data-blocks → plan-full s (planned i h body fresh) ≡ true
+      unfolding format4
       moved-full s g e p =
           ap (plan-full s) (plan-at g e)
-          ∙ full-blocks s (n + g) _ _ (omega (arith, place-grows 0 (grown g d (c .before) (c .after) .data-blocks) (grown g d (c .before) (c .after) .before ++ grown g d (c .before) (c .after) .after) ps))
+          ∙ full-blocks format4 s (n + g) _ _ (omega (
+            arith,
+            place-grows 0 (grown g d (c .before) (c .after) .data-blocks)
+                (grown g d (c .before) (c .after) .before ++ grown g d (c .before) (c .after) .after) ps,
+          ))
 
       -- the elements of the plan
       elements-counted : t .before + t .after + parts ≡ length (planned i h body fresh .runs)
       unfolding format4
       elements-counted =
           let e : length ps ≡ length (map new-run (cut 1_024 (edited h body fresh (c .entries)))) = ap (λ (x : List (List Entry)). length (map new-run x)) parts-are in
-          omega (arith, m .0, told-before index area (get (layout4 .nindex2) o) h (i .runs) t k, told-after index area (get (layout4 .nindex2) o) h (i .runs) t k, change-length format4 i h (edited h body fresh))
+          omega (
+            arith,
+            m .0,
+            told-before index area (get (layout4 .nindex2) o) h (i .runs) t k,
+            told-after index area (get (layout4 .nindex2) o) h (i .runs) t k,
+            change-length format4 i h (edited h body fresh),
+          )
 
       -- and its blocks
       runs-counted : get (layout4 .nblock2) o - t .size + blocks ≡ run-blocks (planned i h body fresh .runs)

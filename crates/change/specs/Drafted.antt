@@ -7,30 +7,27 @@ use lib.ListN.{length, replicate}
 use Rattle.spec.specs.Outcome.{ok}
 use Rattle.spec.specs.Header.{layout4, format4, get}
 use Rattle.spec.specs.Entry.{headword-ok}
-use Rattle.spec.specs.Run.{run-size}
 use Rattle.spec.specs.Blocks.{free-marks}
 use Rattle.spec.specs.Check.{Image, image-from, all-entries, entries-of}
 use Rattle.spec.specs.SortedList.{lookup}
 use Rattle.spec.specs.Place.{new-run}
 use Rattle.spec.specs.Claim.{is-there}
-use Rattle.spec.proofs.PlanLaws.{SoundPlan}
+use Rattle.spec.specs.Sound.{SoundPlan}
 use Rattle.marks.specs.Marks.{with-range}
 use Rattle.index.specs.Elements.{elements-end}
-use Rattle.inspect.specs.Overview.{AcceptedImage}
-use Rattle.inspect.proofs.Laws.{index-part, data-part}
-use Rattle.placing.specs.Spread.{spread}
+use Rattle.inspect.specs.Overview.{AcceptedImage, index-part, data-part}
 use Rattle.target.specs.declared.Target.{Target}
 use Rattle.target.specs.Told.{TargetTold}
 use Rattle.parts.specs.Part.{Measured}
 use Rattle.change.specs.declared.Outline.{Outline}
 use Rattle.change.specs.declared.Draft.{Draft}
-use Rattle.change.specs.Ready.{growth, planned, parts-of}
+use Rattle.change.specs.Ready.{growth, planned, parts-of, laid-parts}
 
 -- where the blocks end when the new runs are placed on the marks ms, or a number past 65,536 + g where they end past it
 abbrev pub PlannedEnd : List ℕ → Outline → List Bool → Target → List ℕ → List ℕ → Bool → ℕ → Type 0
 PlannedEnd o v ms t h body fresh r =
-    (r ≤ 65_536 + v .g → r ≡ spread (v .g) (v .end) ms (map run-size (parts-of o (v .n) t h body fresh)) .end)
-    × (65_536 + v .g < r → 65_536 + v .g < spread (v .g) (v .end) ms (map run-size (parts-of o (v .n) t h body fresh)) .end)
+    (r ≤ 65_536 + v .g → r ≡ laid-parts o v ms t h body fresh .end)
+    × (65_536 + v .g < r → 65_536 + v .g < laid-parts o v ms t h body fresh .end)
 
 -- the change in the old image o is measured
 pub record Drafted (o : List ℕ) (n d : ℕ) (h body : List ℕ) (fresh : Bool) (r : Draft) : Type 0 where
@@ -46,6 +43,15 @@ pub record Drafted (o : List ℕ) (n d : ℕ) (h body : List ℕ) (fresh : Bool)
   pub growth-few : r .g ≤ 4_294_967_296
   pub elements-are : r .elements ≡ r .target .before + r .target .after + parts
   pub blocks-are : r .blocks ≡ get (layout4 .nblock2) o - r .target .size + run-blocks
+
+-- the marks of the free blocks of the image o, then none up to the table's end
+abbrev pub FreeMarked : List ℕ → List Bool → Type 0
+FreeMarked o ms = (i : Image) → image-from o ≡ ok i → ms ≡ free-marks (i .frame .data-blocks) (i .free-list) ++ replicate (163_840 - i .frame .data-blocks) false
+
+-- the plan of the change in the image o is sound and has so many entries
+abbrev pub PlanCounted : List ℕ → List ℕ → List ℕ → Bool → ℕ → Type 0
+PlanCounted o h body fresh words =
+    (i : Image) → image-from o ≡ ok i → SoundPlan format4 (planned i h body fresh) × (words ≡ length (all-entries (planned i h body fresh .runs)))
 
 -- it can begin: the blocks of the run concerned are marked free
 pub record Begun (o : List ℕ) (n d : ℕ) (r : Draft) (ms : List Bool) (h body : List ℕ) (fresh : Bool) (words : ℕ) : Type 0 where

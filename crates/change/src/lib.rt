@@ -1,24 +1,17 @@
 // A change of one run: the plan, which decides row 15 and writes nothing, then the writing.
 ghost use mathlib.Core.Path.{_≡_};
-ghost use mathlib.Core.Bool.{true, false};
-ghost use mathlib.Core.List.{[], _++_, map};
+ghost use mathlib.Core.Bool.{true};
+ghost use mathlib.Core.List.{[]};
 ghost use Prim.Native.Nat.{_+_, _-_, _*_, _%_, _≤_};
-ghost use lib.ListN.{length, take, drop, replicate};
-ghost use Rattle.spec.specs.Outcome.{ok};
+ghost use lib.ListN.{length, take, drop};
 ghost use Rattle.spec.specs.Bytes.{write};
-ghost use Rattle.spec.specs.Header.{format4};
 ghost use Rattle.spec.specs.Entry.{headword-ok};
-ghost use Rattle.spec.specs.Run.{run-size};
-ghost use Rattle.spec.specs.Blocks.{free-marks};
-ghost use Rattle.spec.specs.Check.{Image, image-from, all-entries};
-ghost use Rattle.spec.proofs.PlanLaws.{SoundPlan};
 ghost use Rattle.marks.specs.Marks.{marks};
 ghost use Rattle.index.specs.Elements.{Inside};
-ghost use Rattle.placing.specs.Spread.{spread};
 ghost use Rattle.chain.specs.Numbers.{numbers};
 ghost use Rattle.inspect.specs.Overview.{index-end, AcceptedImage};
-ghost use Rattle.change.specs.Ready.{growth, planned, parts-of, Displaced, Ready, Roomy, Areas, Sealed, Written, Changed};
-ghost use Rattle.change.specs.Drafted.{PlannedEnd, Drafted, Begun};
+ghost use Rattle.change.specs.Ready.{growth, laid-parts, Displaced, Ready, Roomy, Areas, Sealed, Written, Changed};
+ghost use Rattle.change.specs.Drafted.{PlannedEnd, Drafted, FreeMarked, PlanCounted, Begun};
 ghost use Rattle.change.specs.Kept.{fitted, Saved};
 use target::Target;
 
@@ -76,7 +69,7 @@ fn write_areas(
     requires { ⌜ Ready (now old) v (now numbers) (marks (now free)) t (now h) (now body) fresh ⌝ }
     requires { ⌜ Roomy (now image) (now old) v (marks (now free)) t (now h) (now body) fresh ⌝ }
     ensures { λ _. ⌜ Areas (now (image .entry)) (now (image .exit)) (now (old .entry)) v (now (h .entry)) (now (body .entry)) fresh ⌝ }
-    ensures { λ _. ⌜ marks (now (free .exit)) ≡ spread (v .g) (v .end) (marks (now (free .entry))) (map run-size (parts-of (now (old .entry)) (v .n) t (now (h .entry)) (now (body .entry)) fresh)) .free ⌝ }
+    ensures { λ _. ⌜ marks (now (free .exit)) ≡ laid-parts (now (old .entry)) v (marks (now (free .entry))) t (now (h .entry)) (now (body .entry)) fresh .free ⌝ }
     ensures { λ _. ⌜ (length (now (image .exit)) ≡ length (now (image .entry))) × (length (now (free .exit)) ≡ length (now (free .entry))) ⌝ }
 {
     let start = 256 + 256 * v.n;
@@ -138,8 +131,10 @@ fn write_kept(
     requires { ⌜ Roomy (now image) (take (256 + 256 * v .n + 256 * v .d) (now image)) v (marks (now free)) t (now h) (now body) fresh ⌝ }
     requires { ⌜ (v .g ≡ 0) × (length (now image) ≤ length (now work)) ⌝ }
     ensures { λ _. ⌜ Areas (now (image .entry)) (now (image .exit)) (take (256 + 256 * v .n + 256 * v .d) (now (image .entry))) v (now (h .entry)) (now (body .entry)) fresh ⌝ }
-    ensures { λ _. ⌜ marks (now (free .exit)) ≡ spread (v .g) (v .end) (marks (now (free .entry))) (map run-size (parts-of (take (256 + 256 * v .n + 256 * v .d) (now (image .entry))) (v .n) t (now (h .entry)) (now (body .entry)) fresh)) .free ⌝ }
-    ensures { λ _. ⌜ (length (now (image .exit)) ≡ length (now (image .entry))) × (length (now (work .exit)) ≡ length (now (work .entry))) × (length (now (free .exit)) ≡ length (now (free .entry))) ⌝ }
+    ensures { λ _. ⌜ marks (now (free .exit))
+        ≡ laid-parts (take (256 + 256 * v .n + 256 * v .d) (now (image .entry))) v (marks (now (free .entry))) t (now (h .entry)) (now (body .entry)) fresh .free ⌝ }
+    ensures { λ _. ⌜ (length (now (image .exit)) ≡ length (now (image .entry))) × (length (now (work .exit)) ≡ length (now (work .entry)))
+        × (length (now (free .exit)) ≡ length (now (free .entry))) ⌝ }
 {
     let start = 256 + 256 * v.n;
     let rest = 256 * v.n - t.end;
@@ -161,7 +156,8 @@ fn write_kept(
 
 // Writes the free list behind the first `front` bytes, and the header; the blocks end at `last`.
 fn write_rest(image: &mut [u8], front: usize, free: &[u64], v: Outline, last: usize)
-    requires { ⌜ (256 ≤ length (now image)) × (front ≤ length (now image)) × (v .g ≤ last) × (last ≤ 64 * length (now free)) × (256 * (last - v .g) ≤ length (now image) - front) × (v .n + v .g ≤ 32767) ⌝ }
+    requires { ⌜ (256 ≤ length (now image)) × (front ≤ length (now image)) × (v .g ≤ last) × (last ≤ 64 * length (now free))
+        × (256 * (last - v .g) ≤ length (now image) - front) × (v .n + v .g ≤ 32767) ⌝ }
     ensures { λ _. ⌜ Sealed (now (image .entry)) (now (image .exit)) front v (numbers 0 (take (last - v .g) (drop (v .g) (marks (now (free .entry)))))) ⌝ }
     ensures { λ _. ⌜ length (now (image .exit)) ≡ length (now (image .entry)) ⌝ }
 {
@@ -184,7 +180,7 @@ fn write_change(
 )
     requires { ⌜ Ready (now old) v (now numbers) (marks (now free)) t (now h) (now body) fresh ⌝ }
     requires { ⌜ Roomy (now image) (now old) v (marks (now free)) t (now h) (now body) fresh ⌝ }
-    requires { ⌜ (last ≡ spread (v .g) (v .end) (marks (now free)) (map run-size (parts-of (now old) (v .n) t (now h) (now body) fresh)) .end) × (length (now free) ≡ 2560) ⌝ }
+    requires { ⌜ (last ≡ laid-parts (now old) v (marks (now free)) t (now h) (now body) fresh .end) × (length (now free) ≡ 2560) ⌝ }
     ensures { λ _. ⌜ Written (now (image .entry)) (now (image .exit)) (now (old .entry)) (now (h .entry)) (now (body .entry)) fresh ⌝ }
     ensures { λ _. ⌜ length (now (image .exit)) ≡ length (now (image .entry)) ⌝ }
 {
@@ -438,9 +434,9 @@ pub fn change(
 ) -> usize
     requires { ⌜ Drafted (take len (now image)) (p .n) (p .d) (now h) (now body) fresh p ⌝ }
     requires { ⌜ (len ≤ length (now image)) × (len % 256 ≡ 0) × (length (now image) ≤ length (now work)) × (length (now free) ≡ 2560) ⌝ }
-    requires { ⌜ ((i : Image) → image-from (take len (now image)) ≡ ok i → marks (now free) ≡ free-marks (i .frame .data-blocks) (i .free-list) ++ replicate (163840 - i .frame .data-blocks) false) ⌝ }
+    requires { ⌜ FreeMarked (take len (now image)) (marks (now free)) ⌝ }
     requires { ⌜ (headword-ok (now h) ≡ true) × (length (now body) ≤ 3001) ⌝ }
-    requires { ⌜ ((i : Image) → image-from (take len (now image)) ≡ ok i → SoundPlan format4 (planned i (now h) (now body) fresh) × (words ≡ length (all-entries (planned i (now h) (now body) fresh .runs)))) ⌝ }
+    requires { ⌜ PlanCounted (take len (now image)) (now h) (now body) fresh words ⌝ }
     ensures { λ r. ⌜ Changed (now (image .entry)) len (now (h .entry)) (now (body .entry)) fresh r (now (image .exit)) ⌝ }
     ensures { λ r. ⌜ (length (now (image .exit)) ≡ length (now (image .entry))) × (length (now (work .exit)) ≡ length (now (work .entry))) ⌝ }
 {

@@ -33,11 +33,10 @@ use Rattle.spec.proofs.ListsLaws.{and-left}
 use Rattle.spec.proofs.HeaderLaws.{lawful4}
 use Rattle.spec.proofs.OrderLaws.{order-of}
 use Rattle.spec.proofs.WriteLaws.{write-behind}
-use Rattle.spec.proofs.RunLaws.{EntriesOk}
+use Rattle.spec.specs.Sound.{EntriesOk, SoundPlan}
 use Rattle.spec.proofs.StoredIndexLaws.{empty-below}
 use Rattle.spec.proofs.SortedLaws.{ok-front, ok-back, ok-sorted}
 use Rattle.spec.proofs.TargetLaws.{Concerned, target-concerned}
-use Rattle.spec.proofs.PlanLaws.{SoundPlan}
 use Rattle.spec.proofs.ChangeLaws.{Sound, image-sound, image-ascends, insert-entries, insert-sound, delete-entries, delete-sound}
 use Rattle.parts.specs.Merge.{merge}
 use Rattle.parts.proofs.MergeLaws.{merge-replace, merge-remove}
@@ -72,7 +71,8 @@ body-few b t body e p = rw e (omega arith)
 
 -- ---- the plan
 -- a change counts only by what it makes of the entries of the run concerned
-plan-same : (F : Format) (i : Image) (h : List ℕ) (f k : List Entry → List Entry) → f (target-run F h (i .runs) .entries) ≡ k (target-run F h (i .runs) .entries) → plan-change F i h f ≡ plan-change F i h k
+plan-same : (F : Format) (i : Image) (h : List ℕ) (f k : List Entry → List Entry)
+    → f (target-run (F .below) h (i .runs) .entries) ≡ k (target-run (F .below) h (i .runs) .entries) → plan-change F i h f ≡ plan-change F i h k
 unfolding Place.plan-change
 plan-same F i h f k e = rw e
 
@@ -83,28 +83,33 @@ module _ (s : List ℕ) (i : Image) (got : image-from s ≡ ok i) where
   sound = image-sound format4 s i got
 
   -- its entries ascend
-  ascends : EntriesOk format4 [] (entries-of i)
+  ascends : EntriesOk (below-of 0) [] (entries-of i)
+  unfolding Header.format4
   ascends = image-ascends format4 lawful4 s i sound
 
   -- the entries of the run concerned ascend
-  target-sorted : (h : List ℕ) → Sorted (below-of 0) (target-run format4 h (i .runs) .entries)
+  target-sorted : (h : List ℕ) → Sorted (below-of 0) (target-run (below-of 0) h (i .runs) .entries)
   unfolding Check.entries-of Header.format4
   target-sorted h =
-      let c : Target = target-run format4 h (i .runs) in
-      let k : Concerned format4 h (i .runs) c = target-concerned format4 (lawful4 .ordered) h (i .runs) (sound .ascend) in
-      let g : EntriesOk format4 [] (all-entries (c .before) ++ c .entries ++ all-entries (c .after)) = subst (EntriesOk format4 []) (k .entries) ascends in
-      ok-sorted format4 (order-of 0) [] (c .entries) (ok-back format4 (order-of 0) [] (all-entries (c .before)) (c .entries) (ok-front format4 (order-of 0) [] (all-entries (c .before) ++ c .entries) (all-entries (c .after)) g))
+      let c : Target = target-run (below-of 0) h (i .runs) in
+      let k : Concerned (below-of 0) h (i .runs) c = target-concerned (below-of 0) (lawful4 .ordered) h (i .runs) (sound .ascend) in
+      let g : EntriesOk (below-of 0) [] (all-entries (c .before) ++ c .entries ++ all-entries (c .after)) = subst (EntriesOk (below-of 0) []) (k .entries) ascends in
+      ok-sorted (below-of 0) (order-of 0) [] (c .entries) (ok-back (below-of 0) (order-of 0) [] (all-entries (c .before)) (c .entries)
+      (ok-front (below-of 0) (order-of 0) [] (all-entries (c .before) ++ c .entries) (all-entries (c .after)) g))
 
   -- a fresh entry is put in
   merged-replace : (h body : List ℕ) → planned i h body true ≡ plan-change format4 i h (replace (below-of 0) (record { headword = h; body = body }))
+  unfolding Header.format4
   merged-replace h body =
       plan-same format4 i h (merge (below-of 0) (record { headword = h; body = body }) true) (replace (below-of 0) (record { headword = h; body = body }))
-      (merge-replace (below-of 0) (record { headword = h; body = body }) (order-of 0) (target-run format4 h (i .runs) .entries) (target-sorted h))
+      (merge-replace (below-of 0) (record { headword = h; body = body }) (order-of 0) (target-run (below-of 0) h (i .runs) .entries) (target-sorted h))
 
   -- without one the headword goes
   merged-remove : (h body : List ℕ) → planned i h body false ≡ plan-change format4 i h (remove h)
+  unfolding Header.format4
   merged-remove h body =
-      plan-same format4 i h (merge (below-of 0) (record { headword = h; body = body }) false) (remove h) (merge-remove (below-of 0) (record { headword = h; body = body }) (order-of 0) (target-run format4 h (i .runs) .entries))
+      plan-same format4 i h (merge (below-of 0) (record { headword = h; body = body }) false) (remove h)
+      (merge-remove (below-of 0) (record { headword = h; body = body }) (order-of 0) (target-run (below-of 0) h (i .runs) .entries))
 
   -- what the change asks of the plan of an insertion
   insert-planned : (h : List ℕ) (b : ℕ) (t : List ℕ) → headword-ok h ≡ true → text-ok t ≡ true → attribute-ok b ≡ true
@@ -112,19 +117,23 @@ module _ (s : List ℕ) (i : Image) (got : image-from s ≡ ok i) where
   unfolding Header.format4 EntrySpec.body-ok
   insert-planned h b t x y z =
       let a : Entry = record { headword = h; body = b ∷ t } in
-      let good : EntriesOk format4 [] (a ∷ []) = (x, rw (z, y), empty-below (below-of 0) (order-of 0) h x, tt) in
+      let good : EntriesOk (below-of 0) [] (a ∷ []) = (x, rw (z, y), empty-below (below-of 0) (order-of 0) h x, tt) in
       let e : planned i h (b ∷ t) true ≡ plan-change format4 i h (replace (below-of 0) a) = merged-replace h (b ∷ t) in
       let n : length (all-entries (plan-change format4 i h (replace (below-of 0) a) .runs)) ≡ words-after (length (entries-of i)) (is-there (lookup h (entries-of i))) =
-      ap length (insert-entries format4 lawful4 s i sound a good) ∙ replace-count format4 (order-of 0) a (entries-of i) ascends in
+      ap length (insert-entries format4 lawful4 s i sound a good) ∙ replace-count (below-of 0) (order-of 0) a (entries-of i) ascends in
       (subst (SoundPlan format4) (sym e) (insert-sound format4 lawful4 s i sound a good), sym (ap (λ (p : Plan). length (all-entries (p .runs))) e ∙ n))
 
   -- and of a deletion
-  delete-planned : (h body : List ℕ) → is-there (lookup h (entries-of i)) ≡ true → SoundPlan format4 (planned i h body false) × (1 ≤ length (entries-of i)) × (length (entries-of i) - 1 ≡ length (all-entries (planned i h body false .runs)))
+  delete-planned : (h body : List ℕ) → is-there (lookup h (entries-of i)) ≡ true → SoundPlan format4 (planned i h body false) × (1 ≤ length (entries-of i))
+      × (length (entries-of i) - 1 ≡ length (all-entries (planned i h body false .runs)))
   unfolding Header.format4
   delete-planned h body q =
       let e : planned i h body false ≡ plan-change format4 i h (remove h) = merged-remove h body in
-      let (p, n) = remove-count format4 (order-of 0) h (entries-of i) ascends q in
-      (subst (SoundPlan format4) (sym e) (delete-sound format4 lawful4 s i sound h), p, n ∙ sym (ap (λ (p : Plan). length (all-entries (p .runs))) e ∙ ap length (delete-entries format4 lawful4 s i sound h)))
+      let (p, n) = remove-count (below-of 0) (order-of 0) h (entries-of i) ascends q in (
+        subst (SoundPlan format4) (sym e) (delete-sound format4 lawful4 s i sound h),
+        p,
+        n ∙ sym (ap (λ (p : Plan). length (all-entries (p .runs))) e ∙ ap length (delete-entries format4 lawful4 s i sound h)),
+      )
 
 -- the same in the terms of the code
 pub insert-ready : (s h : List ℕ) (w : Bool) → w ≡ headword-ok h → not w ≡ false → (t : List ℕ) (x : Bool) → x ≡ text-ok t → not x ≡ false → (b : ℕ) (y : Bool) → y ≡ attribute-ok b → not y ≡ false

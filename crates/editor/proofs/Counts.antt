@@ -6,18 +6,17 @@ use mathlib.Core.List.{List, [], _∷_}
 use native.Mathlib.Omega.{arith}
 use lib.ListN.{length, length-append}
 use Rattle.spec.specs.Lists as Lists
-use Rattle.spec.specs.Lists.{filter, first}
+use Rattle.spec.specs.Lists.{filter, first, All}
 use Rattle.spec.specs.Bytes.{bytes-equal}
-use Rattle.spec.specs.Order.{IsOrder}
-use Rattle.spec.specs.Header.{Format}
+use Rattle.spec.specs.Order.{IsOrder, HeadwordOrder}
 use Rattle.spec.specs.Entry.{Entry}
 use Rattle.spec.specs.SortedList as SortedList
 use Rattle.spec.specs.SortedList.{has-headword, lookup, replace, remove}
 use Rattle.spec.specs.Claim as Claim
 use Rattle.spec.specs.Claim.{is-there}
-use Rattle.spec.proofs.ListsLaws.{All, all-map, filter-yes, filter-no, filter-nothing}
+use Rattle.spec.proofs.ListsLaws.{all-map, filter-yes, filter-no, filter-nothing}
 use Rattle.spec.proofs.OrderLaws.{one-way}
-use Rattle.spec.proofs.RunLaws.{EntriesOk}
+use Rattle.spec.specs.Sound.{EntriesOk}
 use Rattle.spec.proofs.ReadLaws.{same-bytes, bytes-self}
 use Rattle.spec.proofs.SearchLaws.{all-above, other, other-way}
 use Rattle.editor.specs.Entered as Entered
@@ -47,12 +46,12 @@ one-less [] n k p h q = absurd (false≢true q)
 one-less (e ∷ []) n k p h q = (omega arith, omega arith)
 one-less (e ∷ d ∷ l) n k p h q = absurd (omega arith)
 
-module _ (F : Format) (order : IsOrder (F .below)) (h : List ℕ) where
+module _ (below : HeadwordOrder) (order : IsOrder below) (h : List ℕ) where
   abbrev lower : Entry → Bool
-  lower e = F .below (e .headword) h
+  lower e = below (e .headword) h
 
   abbrev upper : Entry → Bool
-  upper e = F .below h (e .headword)
+  upper e = below h (e .headword)
 
   -- those below a headword, those above it and those that have it are all
   three-parts : (es : List Entry) → length (filter (has-headword h) es) + (length (filter lower es) + length (filter upper es)) ≡ length es
@@ -63,15 +62,15 @@ module _ (F : Format) (order : IsOrder (F .below)) (h : List ℕ) where
       go : length (filter (has-headword h) es) + (length (filter lower es) + length (filter upper es)) ≡ length es → (t : Bool) → lower e ≡ t → (u : Bool) → upper e ≡ u
           → length (filter (has-headword h) (e ∷ es)) + (length (filter lower (e ∷ es)) + length (filter upper (e ∷ es))) ≡ suc (length es)
       go ih true p u q =
-          rw (filter-no (has-headword h) e es (other (F .below) order (e .headword) h p), filter-yes lower e es p, filter-no upper e es (one-way (F .below) order (e .headword) h p)) (omega arith)
-      go ih false p true q = rw (filter-no (has-headword h) e es (other-way (F .below) order h (e .headword) q), filter-no lower e es p, filter-yes upper e es q) (omega arith)
+          rw (filter-no (has-headword h) e es (other below order (e .headword) h p), filter-yes lower e es p, filter-no upper e es (one-way below order (e .headword) h p)) (omega arith)
+      go ih false p true q = rw (filter-no (has-headword h) e es (other-way below order h (e .headword) q), filter-no lower e es p, filter-yes upper e es q) (omega arith)
       go ih false p false q =
           let s : e .headword ≡ h = order .total (e .headword) h p q in
           let b : bytes-equal (e .headword) h ≡ true = rw s (bytes-self h) in
           rw (filter-yes (has-headword h) e es b, filter-no lower e es p, filter-no upper e es q) (omega arith)
 
   -- of entries that ascend no more than one has a headword
-  one-at-most : (prev : List ℕ) (es : List Entry) → EntriesOk F prev es → length (filter (has-headword h) es) ≤ 1
+  one-at-most : (prev : List ℕ) (es : List Entry) → EntriesOk below prev es → length (filter (has-headword h) es) ≤ 1
   unfolding Lists.filter SortedList.has-headword
   one-at-most prev [] g = omega arith
   one-at-most prev (e ∷ es) (a, b, up, g) = go (one-at-most (e .headword) es g) (bytes-equal (e .headword) h) refl
@@ -79,21 +78,25 @@ module _ (F : Format) (order : IsOrder (F .below)) (h : List ℕ) where
       go : length (filter (has-headword h) es) ≤ 1 → (t : Bool) → bytes-equal (e .headword) h ≡ t → length (filter (has-headword h) (e ∷ es)) ≤ 1
       go ih true q =
           let s : e .headword ≡ h = same-bytes (e .headword) h q in
-          let u : All (λ d. F .below h (d .headword) ≡ true) es = rw s at (all-above F order (e .headword) es g) in
-          let z : filter (has-headword h) es ≡ [] = filter-nothing (has-headword h) es (all-map _ _ (λ d r. other-way (F .below) order h (d .headword) r) es u) in
+          let u : All (λ d. below h (d .headword) ≡ true) es = rw s at (all-above below order (e .headword) es g) in
+          let z : filter (has-headword h) es ≡ [] = filter-nothing (has-headword h) es (all-map _ _ (λ d r. other-way below order h (d .headword) r) es u) in
           rw (filter-yes (has-headword h) e es q, z) (omega arith)
       go ih false q = rw (filter-no (has-headword h) e es q) ih
 
 -- the entries after an insertion
-pub replace-count : (F : Format) (order : IsOrder (F .below)) (a : Entry) (es : List Entry) → EntriesOk F [] es → length (replace (F .below) a es) ≡ words-after (length es) (is-there (lookup (a .headword) es))
+pub replace-count : (below : HeadwordOrder) (order : IsOrder below) (a : Entry) (es : List Entry) → EntriesOk below [] es
+    → length (replace below a es) ≡ words-after (length es) (is-there (lookup (a .headword) es))
 unfolding SortedList.replace SortedList.lookup
-replace-count F order a es g =
+replace-count below order a es g =
     let h : List ℕ = a .headword in
-    let x : List Entry = filter (lower F order h) es in
-    let y : List Entry = filter (upper F order h) es in
-    length-append x (a ∷ y) ∙ (omega arith) ∙ one-more (filter (has-headword h) es) (length x + length y) (length es) (one-at-most F order h [] es g) (three-parts F order h es)
+    let x : List Entry = filter (lower below order h) es in
+    let y : List Entry = filter (upper below order h) es in
+    length-append x (a ∷ y) ∙ (omega arith) ∙ one-more (filter (has-headword h) es) (length x + length y) (length es) (one-at-most below order h [] es g) (three-parts below order h es)
 
 -- and after a deletion of one that is there
-pub remove-count : (F : Format) (order : IsOrder (F .below)) (h : List ℕ) (es : List Entry) → EntriesOk F [] es → is-there (lookup h es) ≡ true → (1 ≤ length es) × (length es - 1 ≡ length (remove h es))
+pub remove-count : (below : HeadwordOrder) (order : IsOrder below) (h : List ℕ) (es : List Entry) → EntriesOk below [] es → is-there (lookup h es) ≡ true
+    → (1 ≤ length es) × (length es - 1 ≡ length (remove h es))
 unfolding SortedList.remove SortedList.lookup
-remove-count F order h es g q = one-less (filter (has-headword h) es) (length (filter (λ e. not (has-headword h e)) es)) (length es) (one-at-most F order h [] es g) (filter-halves (has-headword h) es) q
+remove-count below order h es g q =
+    one-less (filter (has-headword h) es) (length (filter (λ e. not (has-headword h e)) es)) (length es) (one-at-most below order h [] es g)
+    (filter-halves (has-headword h) es) q

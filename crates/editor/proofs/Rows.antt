@@ -92,7 +92,8 @@ abbrev pub Tested : List ℕ → ℕ → List ℕ → Type 0
 Tested s L work = (256 ≤ L) × (L % 256 ≡ 0) × (L ≤ length s) × (length s ≤ length work)
 
 -- an image has no more entries than four bytes count
-pub words-few : (s : List ℕ) (L : ℕ) → L ≤ length s → 256 ≤ L → ((k : ℕ) → getD s k 0 < 256) → (n d : ℕ) (a : AcceptedImage (take L s) n d) (w : ℕ) → ((i : Image) → image-from (take L s) ≡ ok i → w ≡ length (entries-of i))
+pub words-few : (s : List ℕ) (L : ℕ) → L ≤ length s → 256 ≤ L → ((k : ℕ) → getD s k 0 < 256) → (n d : ℕ) (a : AcceptedImage (take L s) n d) (w : ℕ)
+    → ((i : Image) → image-from (take L s) ≡ ok i → w ≡ length (entries-of i))
     → w < 4294967296
 unfolding Check.image-from Header.format-of Check.counts-ok Check.entries-of Header.format4
 words-few s L p q bytes n d a w counted =
@@ -102,7 +103,8 @@ words-few s L p q bytes n d a w counted =
     let e : get (layout4 .nword) x ≡ length (entries-of (a .image)) = eqb-true (get (layout4 .nword) x) (length (all-entries (a .image .runs))) c in
     let g : from-little-endian (bytes-at 160 4 x) ≡ get (layout4 .nword) x = read-nword x (from-little-endian (bytes-at 160 4 x)) refl in
     let l : length (bytes-at 160 4 x) ≡ 4 = length-bytes-at x 160 4 (omega (arith, front-header s L p q)) in
-    let b : from-little-endian (bytes-at 160 4 x) < 256 ^ 4 = subst (λ (k : ℕ). from-little-endian (bytes-at 160 4 x) < 256 ^ k) l (from-small (bytes-at 160 4 x) (small-at 160 4 x (small-take L s (small-of s (all-bytes s bytes))))) in
+    let b : from-little-endian (bytes-at 160 4 x) < 256 ^ 4 = subst (λ (k : ℕ). from-little-endian (bytes-at 160 4 x) < 256 ^ k) l
+    (from-small (bytes-at 160 4 x) (small-at 160 4 x (small-take L s (small-of s (all-bytes s bytes))))) in
     rw (counted (a .image) (a .is) ∙ sym e ∙ sym g) b
 
 -- a copy of the image in front of another slice
@@ -157,7 +159,8 @@ module _ (s : List ℕ) (L : ℕ) (work : List ℕ) where
     insert-slice q h a x = sym (rw (change-slice q))
 
     -- row 2 of an insertion
-    pub insert-short : not t ≡ false → length work < length s → (h : List ℕ) (a : ℕ) (x : List ℕ) → record { answer = length-answer (LengthAnswer.Refused 2); image = s; work = work } ≡ insert s L work h a x
+    pub insert-short : not t ≡ false → length work < length s → (h : List ℕ) (a : ℕ) (x : List ℕ)
+        → record { answer = length-answer (LengthAnswer.Refused 2); image = s; work = work } ≡ insert s L work h a x
     unfolding Calls.insert Calls.insert-plan Calls.insert-result Calls.changed Calls.work-after Answers.length-answer
     insert-short q l h a x = sym (rw (change-work q l))
 
@@ -210,7 +213,8 @@ module _ (s : List ℕ) (L : ℕ) (work : List ℕ) where
             rw (e, f, z)
 
         -- an optimising by its answer and its image
-        pub optimise-whole : (r : LengthAnswer) → length-answer r ≡ optimise s L work .answer → s′ ≡ optimise s L work .image → record { answer = length-answer r; image = s′; work = w′ } ≡ optimise s L work
+        pub optimise-whole : (r : LengthAnswer) → length-answer r ≡ optimise s L work .answer → s′ ≡ optimise s L work .image
+            → record { answer = length-answer r; image = s′; work = w′ } ≡ optimise s L work
         optimise-whole r e f =
             let z : w′ ≡ optimise s L work .work =
             cleared ∙ ap zeros long ∙ sym (zeroed-by (optimise s L work) (first-numbers .optimise-rows s L work (all-bytes s bytes) .change-rows) (work-after-calls .optimise-work s L work)) in

@@ -1,16 +1,14 @@
 // The changing calls: create, insert, delete and optimise.
 ghost use mathlib.Core.Path.{_≡_};
-ghost use mathlib.Core.Bool.{false};
-ghost use mathlib.Core.List.{_++_};
-ghost use Prim.Native.Nat.{_-_, _%_, _<_, _≤_};
-ghost use lib.ListN.{length, take, replicate};
+ghost use Prim.Native.Nat.{_%_, _<_, _≤_};
+ghost use lib.ListN.{length, take};
 ghost use Rattle.spec.specs.Outcome.{ok};
-ghost use Rattle.spec.specs.Blocks.{free-marks};
 ghost use Rattle.spec.specs.Check.{Image, image-from, entries-of};
 ghost use Rattle.spec.specs.Calls.{create, insert, delete, optimise};
 ghost use Rattle.spec.specs.Answers.{length-answer, delete-answer};
 ghost use Rattle.marks.specs.Marks.{marks};
 ghost use Rattle.inspect.specs.Overview.{index-end, AcceptedImage};
+ghost use Rattle.change.specs.Drafted.{FreeMarked};
 ghost use Rattle.editor.specs.Entered.{words-after};
 use inspect::Inspected;
 use spec::DeleteAnswer;
@@ -60,8 +58,7 @@ fn insert_in(
         × (length (now image) ≤ length (now work))
         × (length (now free) ≡ 2560)
         × (end ≡ index-end (take len (now image)) n) ⌝ }
-    requires { ⌜ ((i : Image) → image-from (take len (now image)) ≡ ok i
-        → marks (now free) ≡ free-marks (i .frame .data-blocks) (i .free-list) ++ replicate (163840 - i .frame .data-blocks) false) ⌝ }
+    requires { ⌜ FreeMarked (take len (now image)) (marks (now free)) ⌝ }
     requires { ⌜ ((i : Image) → image-from (take len (now image)) ≡ ok i → words ≡ length (entries-of i)) ⌝ }
     requires { ⌜ words < 4294967296 ⌝ }
     ensures { λ r. ⌜ length-answer r ≡ insert (now (image .entry)) len (now (work .entry)) (now (headword .entry)) attribute (now (text .entry)) .answer ⌝ }
@@ -176,8 +173,7 @@ fn delete_in(
         × (length (now image) ≤ length (now work))
         × (length (now free) ≡ 2560)
         × (end ≡ index-end (take len (now image)) n) ⌝ }
-    requires { ⌜ ((i : Image) → image-from (take len (now image)) ≡ ok i
-        → marks (now free) ≡ free-marks (i .frame .data-blocks) (i .free-list) ++ replicate (163840 - i .frame .data-blocks) false) ⌝ }
+    requires { ⌜ FreeMarked (take len (now image)) (marks (now free)) ⌝ }
     requires { ⌜ ((i : Image) → image-from (take len (now image)) ≡ ok i → words ≡ length (entries-of i)) ⌝ }
     ensures { λ r. ⌜ delete-answer r ≡ delete (now (image .entry)) len (now (work .entry)) (now (headword .entry)) .answer ⌝ }
     ensures { λ r. ⌜ now (image .exit) ≡ delete (now (image .entry)) len (now (work .entry)) (now (headword .entry)) .image ⌝ }

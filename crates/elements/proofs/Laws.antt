@@ -8,8 +8,6 @@ use lib.Seq.{take-at, length-take-le}
 use borrow.Author.Needs.{needs}
 use borrow.Author.Tests.{lt-ltb, le-ltb}
 use Rattle.spec.specs.Bytes.{from-little-endian, to-little-endian, write, bytes-at}
-use Rattle.spec.specs.Header as Header
-use Rattle.spec.specs.Header.{format4}
 use Rattle.spec.specs.Index.{Element, element-bytes, elements-bytes}
 use Rattle.spec.proofs.BytesLaws.{length-to-little-endian, split-zero-told, small-part, to-from-little-endian}
 use Rattle.spec.proofs.PartLaws.{bytes-at-split, length-bytes-at, rest-at}
@@ -17,28 +15,28 @@ use Rattle.scans.specs.Scan.{zero-offset}
 use Rattle.scans.proofs.Laws.{split-zero-some}
 use Rattle.spec.proofs.WriteLaws.{write-none, written-behind}
 use Rattle.index.specs.Elements.{element-end, element-headword, element-at, elements-at, elements-end, Inside}
-use Rattle.index.proofs.Laws.{element-end-past, element-headword-length, inside-start, here-end, here-next, elements-next}
+use Rattle.index.proofs.Laws.{element-end-past, element-headword-length, inside-at, inside-start, here-end, here-next, elements-next}
 use Rattle.elements.specs.Renewed.{number-after, renewed}
 
 -- ---- the lengths of elements
 -- an element takes three bytes beside its headword
-pub element-size : (e : Element) → length (element-bytes format4 e) ≡ 3 + length (e .headword)
-unfolding element-bytes Header.format4
+pub element-size : (e : Element) → length (element-bytes 2 e) ≡ 3 + length (e .headword)
+unfolding element-bytes
 element-size e =
     omega (arith, length-append (to-little-endian 2 (e .block) ++ e .headword) (0 ∷ []), length-append (to-little-endian 2 (e .block)) (e .headword), length-to-little-endian 2 (e .block))
 
 -- an element and those behind it
-pub elements-size : (e : Element) (es : List Element) → length (elements-bytes format4 (e ∷ es)) ≡ 3 + length (e .headword) + length (elements-bytes format4 es)
+pub elements-size : (e : Element) (es : List Element) → length (elements-bytes 2 (e ∷ es)) ≡ 3 + length (e .headword) + length (elements-bytes 2 es)
 unfolding elements-bytes
-elements-size e es = omega (arith, length-append (element-bytes format4 e) (elements-bytes format4 es), element-size e)
+elements-size e es = omega (arith, length-append (element-bytes 2 e) (elements-bytes 2 es), element-size e)
 
 -- one that stands in an index ends behind its zero byte
-element-at-size : (index : List ℕ) (at : ℕ) → at + 2 ≤ length index → at + length (element-bytes format4 (element-at index at)) ≡ element-end index at + 1
+element-at-size : (index : List ℕ) (at : ℕ) → at + 2 ≤ length index → at + length (element-bytes 2 (element-at index at)) ≡ element-end index at + 1
 unfolding element-at
 element-at-size index at h = omega (arith, element-size (element-at index at), element-headword-length index at h, element-end-past index at)
 
 -- elements end behind as many bytes as they take
-pub elements-length : (index : List ℕ) (at n : ℕ) → Inside index at n → elements-end index at n ≡ at + length (elements-bytes format4 (elements-at index at n))
+pub elements-length : (index : List ℕ) (at n : ℕ) → Inside index at n → elements-end index at n ≡ at + length (elements-bytes 2 (elements-at index at n))
 unfolding elements-end elements-at elements-bytes
 elements-length index at zero h = omega arith
 elements-length index at (suc n) h =
@@ -46,11 +44,11 @@ elements-length index at (suc n) h =
       arith,
       elements-length index (element-end index at + 1) n (h .2),
       element-at-size index at (h .0),
-      length-append (element-bytes format4 (element-at index at)) (elements-bytes format4 (elements-at index (element-end index at + 1) n)),
+      length-append (element-bytes 2 (element-at index at)) (elements-bytes 2 (elements-at index (element-end index at + 1) n)),
     )
 
 -- renewed elements take as many bytes
-pub renewed-length : (numbers : List ℕ) (g : ℕ) (es : List Element) → length (elements-bytes format4 (map (renewed numbers g) es)) ≡ length (elements-bytes format4 es)
+pub renewed-length : (numbers : List ℕ) (g : ℕ) (es : List Element) → length (elements-bytes 2 (map (renewed numbers g) es)) ≡ length (elements-bytes 2 es)
 unfolding renewed
 renewed-length numbers g [] = refl
 renewed-length numbers g (e ∷ es) = omega (arith, elements-size (renewed numbers g e) (map (renewed numbers g) es), elements-size e es, renewed-length numbers g es)
@@ -71,11 +69,7 @@ pub inside-split : (index : List ℕ) (at m n : ℕ) → Inside index at (m + n)
 unfolding elements-end
 inside-split index at zero n h =
     let e : 0 + n ≡ n = omega arith in
-    (first-inside n (rw e at h), rw e at h)
-  where
-    first-inside : (k : ℕ) → Inside index at k → at ≤ length index
-    first-inside zero i = i
-    first-inside (suc k) i = omega (arith, i .0)
+    (inside-at index at n (rw e at h), rw e at h)
 inside-split index at (suc m) n h =
     let e : suc m + n ≡ suc (m + n) = omega arith in
     let i : Inside index at (suc (m + n)) = rw e at h in
@@ -134,8 +128,8 @@ pub ruleset number-laws = (number-low, number-high, number-past, needs)
 -- ---- put_element
 -- the number, the headword and the zero byte stored one behind the other are the element
 pub element-put : (d d₁ d₂ d₃ h : List ℕ) (at number : ℕ) → d₁ ≡ write at (to-little-endian 2 number) d → d₂ ≡ write (at + 2) (bytes-at 0 (length h) h) d₁ → d₃ ≡ write (at + 2 + length h) (0 ∷ []) d₂
-    → at + 3 + length h ≤ length d → d₃ ≡ write at (element-bytes format4 (record { block = number; headword = h })) d
-unfolding element-bytes Header.format4
+    → at + 3 + length h ≤ length d → d₃ ≡ write at (element-bytes 2 (record { block = number; headword = h })) d
+unfolding element-bytes
 element-put d d₁ d₂ d₃ h at number e₁ e₂ e₃ fits =
     let x : List ℕ = to-little-endian 2 number in
     let w : length x ≡ 2 = length-to-little-endian 2 number in
@@ -147,11 +141,11 @@ element-put d d₁ d₂ d₃ h at number e₁ e₂ e₃ fits =
 -- ---- copy_elements: what is left, written where the code stands, is the whole written
 -- elements with their numbers renewed, as they are written
 abbrev pub renewed-bytes : List ℕ → ℕ → List Element → List ℕ
-renewed-bytes numbers g es = elements-bytes format4 (map (renewed numbers g) es)
+renewed-bytes numbers g es = elements-bytes 2 (map (renewed numbers g) es)
 
 -- the room that elements take
 abbrev pub room : List Element → ℕ
-room es = length (elements-bytes format4 es)
+room es = length (elements-bytes 2 es)
 
 module _ (index : List ℕ) (pos left end out total : ℕ) (ends : out + room (elements-at index pos left) ≡ total) (f : end ≡ element-end index pos) (more : 0 < left) where
   -- the headword of the next element
@@ -176,12 +170,12 @@ module _ (index : List ℕ) (pos left end out total : ℕ) (ends : out + room (e
   -- those behind it, written behind it
   pub copy-turn : (numbers d d₁ r : List ℕ) (g out₁ low b : ℕ) → write out (renewed-bytes numbers g (elements-at index pos left)) d ≡ r
       → low ≡ from-little-endian (bytes-at pos 2 index) → b ≡ number-after numbers g low
-      → d₁ ≡ write out (element-bytes format4 (record { block = b; headword = take (end - (pos + 2)) (drop (pos + 2) index) })) d
+      → d₁ ≡ write out (element-bytes 2 (record { block = b; headword = take (end - (pos + 2)) (drop (pos + 2) index) })) d
       → out₁ ≡ out + 3 + length (take (end - (pos + 2)) (drop (pos + 2) index)) → total ≤ length d
       → write out₁ (renewed-bytes numbers g (elements-at index (end + 1) (left - 1))) d₁ ≡ r
   unfolding elements-bytes element-at renewed
   copy-turn numbers d d₁ r g out₁ low b inv e₁ e₂ e₃ e₄ fits =
-      let x : List ℕ = element-bytes format4 (renewed numbers g (element-at index pos)) in
+      let x : List ℕ = element-bytes 2 (renewed numbers g (element-at index pos)) in
       let y : List ℕ = renewed-bytes numbers g (elements-at index (end + 1) (left - 1)) in
       let m : length x ≡ 3 + length (take (end - (pos + 2)) (drop (pos + 2) index)) = element-size (renewed numbers g (element-at index pos)) ∙ rw headword-here in
       let s : d₁ ≡ write out x d = e₃ ∙ rw (headword-here, e₂, e₁) in
@@ -229,12 +223,14 @@ ends-behind index at (suc n) = omega (arith, element-end-past index at, ends-beh
 
 -- an element's bytes stand in the index
 element-stands : (index : List ℕ) (at : ℕ) → ((k : ℕ) → getD index k 0 < 256) → at + 2 ≤ length index → element-end index at < length index
-    → bytes-at at (element-end index at + 1 - at) index ≡ element-bytes format4 (element-at index at)
-unfolding element-bytes element-at Header.format4
+    → bytes-at at (element-end index at + 1 - at) index ≡ element-bytes 2 (element-at index at)
+unfolding element-bytes element-at
 element-stands index at small p h =
     let n : element-end index at + 1 - at ≡ 2 + (element-end index at + 1 - (at + 2)) = omega (arith, element-end-past index at) in
     let k : length (bytes-at at 2 index) ≡ 2 = length-bytes-at index at 2 p in
-    let e : to-little-endian 2 (from-little-endian (bytes-at at 2 index)) ≡ bytes-at at 2 index = ap (λ (w : ℕ). to-little-endian w (from-little-endian (bytes-at at 2 index))) (sym k) ∙ to-from-little-endian (bytes-at at 2 index) (small-part index small 2 at) in
+    let e : to-little-endian 2 (from-little-endian (bytes-at at 2 index)) ≡ bytes-at at 2 index
+    = ap (λ (w : ℕ). to-little-endian w (from-little-endian (bytes-at at 2 index))) (sym k)
+    ∙ to-from-little-endian (bytes-at at 2 index) (small-part index small 2 at) in
     ap (λ (q : ℕ). bytes-at at q index) n
     ∙ bytes-at-split index at 2 (element-end index at + 1 - (at + 2))
     ∙ ap₂ (λ (x y : List ℕ). x ++ y) (sym e) (headword-stands index at h)
@@ -242,7 +238,7 @@ element-stands index at small p h =
 
 -- all of them do, one behind the other
 pub elements-stand : (index : List ℕ) (at n : ℕ) → ((k : ℕ) → getD index k 0 < 256) → Inside index at n
-    → bytes-at at (elements-end index at n - at) index ≡ elements-bytes format4 (elements-at index at n)
+    → bytes-at at (elements-end index at n - at) index ≡ elements-bytes 2 (elements-at index at n)
 unfolding elements-end elements-at elements-bytes bytes-at
 elements-stand index at zero small i = let e : at - at ≡ 0 = omega arith in rw e
 elements-stand index at (suc n) small (p, h, i) =

@@ -4,7 +4,6 @@ ghost use mathlib.Core.List.{map};
 ghost use Prim.Native.Nat.{_+_, _≤_, _<_};
 ghost use lib.ListN.{length};
 ghost use Rattle.spec.specs.Bytes.{write};
-ghost use Rattle.spec.specs.Header.{format4};
 ghost use Rattle.spec.specs.Index.{element-bytes, elements-bytes};
 ghost use Rattle.index.specs.Elements.{elements-at, Inside};
 ghost use Rattle.elements.specs.Renewed.{number-after, renewed};
@@ -14,7 +13,7 @@ use index::element_end;
 // Stores an element, and answers where it ends.
 pub fn put_element(dst: &mut [u8], at: usize, number: usize, headword: &[u8]) -> usize
     requires { ⌜ at + 3 + length (now headword) ≤ length (now dst) ⌝ }
-    ensures { λ r. ⌜ now (dst .exit) ≡ write at (element-bytes format4 (record { block = number; headword = now (headword .entry) })) (now (dst .entry)) ⌝ }
+    ensures { λ r. ⌜ now (dst .exit) ≡ write at (element-bytes 2 (record { block = number; headword = now (headword .entry) })) (now (dst .entry)) ⌝ }
     ensures { λ r. ⌜ r ≡ at + 3 + length (now (headword .entry)) ⌝ }
     ensures { λ r. ⌜ length (now (dst .exit)) ≡ length (now (dst .entry)) ⌝ }
 {
@@ -59,9 +58,9 @@ pub fn copy_elements(
 ) -> usize
     requires { ⌜ Inside (now index) from n ⌝ }
     requires { ⌜ g ≤ length (now numbers) ⌝ }
-    requires { ⌜ at + length (elements-bytes format4 (elements-at (now index) from n)) ≤ length (now dst) ⌝ }
-    ensures { λ r. ⌜ now (dst .exit) ≡ write at (elements-bytes format4 (map (renewed (now (numbers .entry)) g) (elements-at (now (index .entry)) from n))) (now (dst .entry)) ⌝ }
-    ensures { λ r. ⌜ r ≡ at + length (elements-bytes format4 (elements-at (now (index .entry)) from n)) ⌝ }
+    requires { ⌜ at + length (elements-bytes 2 (elements-at (now index) from n)) ≤ length (now dst) ⌝ }
+    ensures { λ r. ⌜ now (dst .exit) ≡ write at (elements-bytes 2 (map (renewed (now (numbers .entry)) g) (elements-at (now (index .entry)) from n))) (now (dst .entry)) ⌝ }
+    ensures { λ r. ⌜ r ≡ at + length (elements-bytes 2 (elements-at (now (index .entry)) from n)) ⌝ }
     ensures { λ r. ⌜ length (now (dst .exit)) ≡ length (now (dst .entry)) ⌝ }
 {
     let mut out = at;

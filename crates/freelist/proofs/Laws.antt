@@ -10,10 +10,10 @@ use lib.Seq.{getD-set-same, getD-set-other, getD-append-add, ext-getD}
 use lib.Dec.{eqb, ltb, eqb·suc-zero}
 use borrow.Author.Tests.{eq-eqb, ne-eqb, eqb-true, eqb-false, lt-ltb, le-ltb}
 use Rattle.spec.specs.Outcome.{Outcome, refused, ok, _>>=_, _>>_, refuse_when_}
-use Rattle.spec.specs.Lists.{any, filter, count, range-from}
+use Rattle.spec.specs.Lists.{any, filter, count, range-from, All}
 use Rattle.spec.specs.Bytes.{from-little-endian, bytes-at, all-zero}
 use Rattle.spec.specs.Blocks.{free-list-end, free-list-from, free-marks, count-marks}
-use Rattle.spec.proofs.ListsLaws.{or-false, All, less-or, length-range, get-map-range}
+use Rattle.spec.proofs.ListsLaws.{or-false, less-or, length-range, get-map-range}
 use Rattle.freelist.specs.FreeList.{has-length, with-marks}
 
 -- ---- the numbers
@@ -70,7 +70,8 @@ free-list-none zero d b area = go (eqb b free-list-end)
     go true = refl
     go false = refl
 free-list-none (suc m) d b area =
-    ap (has-length 0) (by-turn m d b area) ∙ turn-none b (eqb b free-list-end) (ltb b d) (all-zero (bytes-at (256 * b) 2 area)) (free-list-from m d (from-little-endian (bytes-at (256 * b + 2) 4 area)) area)
+    ap (has-length 0) (by-turn m d b area) ∙ turn-none b (eqb b free-list-end) (ltb b d) (all-zero (bytes-at (256 * b) 2 area))
+    (free-list-from m d (from-little-endian (bytes-at (256 * b + 2) 4 area)) area)
 
 -- a list of n numbers was read
 pub has-length-is : (n : ℕ) (fl : List ℕ) → has-length n (ok fl) ≡ true → length fl ≡ n

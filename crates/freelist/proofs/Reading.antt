@@ -94,7 +94,9 @@ module _ (area : List ℕ) (d first n : ℕ) (used₀ free₀ used free : List �
             enough = omega (arith, v .enough);
             used-length = ul ∙ v .used-length;
             free-length = fl ∙ v .free-length;
-            rest = v .rest ∙ ap (has-length left) onward ∙ ap (λ (l : ℕ). has-length l (free-list-from (v .fuel - 1) d next area >>= (λ bs. ok (b ∷ bs)))) k ∙ more-length (left - 1) b (free-list-from (v .fuel - 1) d next area);
+            rest =
+                v .rest ∙ ap (has-length left) onward ∙ ap (λ (l : ℕ). has-length l (free-list-from (v .fuel - 1) d next area >>= (λ bs. ok (b ∷ bs)))) k
+                ∙ more-length (left - 1) b (free-list-from (v .fuel - 1) d next area);
             used-rest = λ ms m. v .used-rest ms (rw onward (more-marked b (free-list-from (v .fuel - 1) d next area) (marks used) ms (rw um at m)));
             free-rest = λ ms m. v .free-rest ms (rw onward (more-marked b (free-list-from (v .fuel - 1) d next area) (marks free) ms (rw fm at m)));
           }

@@ -10,14 +10,14 @@ use lib.Dec.{eqb, ltb, leb}
 use borrow.Author.Tests.{lt-ltb, le-ltb, le-leb, lt-leb, eq-eqb, ne-eqb, ltb-true, ltb-false}
 use Rattle.spec.specs.Outcome.{refused, ok, accepted}
 use Rattle.spec.specs.Bytes.{from-little-endian, to-little-endian, bytes-at, write, zeros}
-use Rattle.spec.specs.Header.{Setting, Counts, field-at, get, put, put-all, _holding_, layout4, format4, high-version-of, writable, change-settings, changed-header, empty-image, open-header}
+use Rattle.spec.specs.Header.{Layout, LawfulLayout, written-fields, Setting, Counts, field-at, get, put, put-all, _holding_, layout4, format4, high-version-of, writable, change-settings, changed-header, empty-image, open-header}
 use Rattle.spec.specs.Check.{slice-ok, kind-ok, options-ok, frame-from, data-start, index-area, data-area}
 use Rattle.spec.specs.Rows.{SliceRule}
-use Rattle.spec.proofs.ListsLaws.{All}
+use Rattle.spec.specs.Lists.{All}
 use Rattle.spec.proofs.BytesLaws.{length-to-little-endian, length-zeros}
 use Rattle.spec.proofs.WriteLaws.{length-write, write-left}
 use Rattle.spec.proofs.PartLaws.{bytes-at-cons}
-use Rattle.spec.proofs.HeaderLaws.{get-take}
+use Rattle.spec.proofs.HeaderLaws.{get-take, fields-inside}
 use Rattle.spec.proofs.OutcomeLaws.{accepted-answer, refused-only}
 use Rattle.spec.proofs.StoredHeaderLaws as Stored
 use Rattle.spec.proofs.StoredHeaderLaws.{slice-stored}
@@ -92,11 +92,37 @@ module _ (s : List ℕ) (v : ℕ) (ve : v ≡ from-little-endian (bytes-at 140 2
       module _ (d : h ≡ 256) (l : 256 ≤ length s) where
         pub kind-attribute : (getD s 166 0 ≡ 1 → ⊥) → false ≡ kind-ok layout4 s
         unfolding kind-ok high-version-of layout4
-        kind-attribute e = rw (get-at 140 2 s, ← ve, get-at 146 2 s, ← be, get-at 150 2 s, ← he, get-byte 166 s (omega arith), eq-eqb (v / 256) 4 a, eq-eqb b 256 c, eq-eqb h 256 d, ne-eqb (getD s 166 0) 1 e)
+        kind-attribute e =
+            rw (
+              get-at 140 2 s,
+              ← ve,
+              get-at 146 2 s,
+              ← be,
+              get-at 150 2 s,
+              ← he,
+              get-byte 166 s (omega arith),
+              eq-eqb (v / 256) 4 a,
+              eq-eqb b 256 c,
+              eq-eqb h 256 d,
+              ne-eqb (getD s 166 0) 1 e,
+            )
 
         pub kind-whole : getD s 166 0 ≡ 1 → true ≡ kind-ok layout4 s
         unfolding kind-ok high-version-of layout4
-        kind-whole e = rw (get-at 140 2 s, ← ve, get-at 146 2 s, ← be, get-at 150 2 s, ← he, get-byte 166 s (omega arith), eq-eqb (v / 256) 4 a, eq-eqb b 256 c, eq-eqb h 256 d, eq-eqb (getD s 166 0) 1 e)
+        kind-whole e =
+            rw (
+              get-at 140 2 s,
+              ← ve,
+              get-at 146 2 s,
+              ← be,
+              get-at 150 2 s,
+              ← he,
+              get-byte 166 s (omega arith),
+              eq-eqb (v / 256) 4 a,
+              eq-eqb b 256 c,
+              eq-eqb h 256 d,
+              eq-eqb (getD s 166 0) 1 e,
+            )
 
 -- ---- row 4, field by field: dicorder, dictype, os, index_blkbit, extheader
 module _ (s : List ℕ) (l : 256 ≤ length s) where
@@ -242,24 +268,29 @@ pub empty-stored : (s s₁ s₂ s₃ s₄ s₅ : List ℕ)
 unfolding open-header size-settings to-little-endian
 empty-stored s s₁ s₂ s₃ s₄ s₅ p₁ p₂ p₃ p₄ p₅ = rw (p₅, p₄, p₃, p₂, p₁) (put-all-inside empty-settings (zeros 256) s (empty-inside (length (zeros 256)) (length-zeros 256)))
 
--- the settings of a change lie inside 256 bytes
-change-inside : (c : Counts) (s : List ℕ) (n : ℕ) → n ≡ 256 → Inside n (change-settings layout4 c s)
-unfolding open-header
-change-inside c s n e = (omega arith, (omega arith, (omega arith, (omega arith, (omega arith, (omega arith, tt))))))
+-- the settings of a change lie inside the header
+change-inside : (o : Layout) → LawfulLayout o → (c : Counts) (s : List ℕ) (n : ℕ) → 256 ≤ n → Inside n (change-settings o c s)
+unfolding change-settings written-fields _holding_
+change-inside o law c s n h =
+    let (a₀, (a₁, (a₂, (a₃, (a₄, (a₅, _)))))) = fields-inside (written-fields o) (law .written-inside) in
+    (omega arith, (omega arith, (omega arith, (omega arith, (omega arith, (omega arith, tt))))))
 
--- and are those by these bytes
-same-settings : (c : Counts) (s : List ℕ) → change-settings layout4 c s ≡ change-settings layout4 c (take 256 s)
-unfolding change-settings layout4 field-at
-same-settings c s = rw (get-take (layout4 .update-count) 256 s (omega arith))
+-- and are those by its bytes
+same-settings : (o : Layout) → LawfulLayout o → (c : Counts) (s : List ℕ) (n : ℕ) → 256 ≤ n → change-settings o c s ≡ change-settings o c (take n s)
+unfolding change-settings written-fields
+same-settings o law c s n h =
+    let inside = fields-inside (written-fields o) (law .written-inside) in
+    rw (get-take (o .update-count) n s (omega (arith, inside .1 .1 .1 .1 .1 .0)))
 
 -- ---- for callers
--- a change writes only in the first 256 bytes
-pub header-front : (c : Counts) (s : List ℕ) → 256 ≤ length s → changed-header layout4 c s ≡ changed-header layout4 c (take 256 s) ++ drop 256 s
+-- a change writes only in the header, however many bytes stand in front of the index
+pub header-front : (o : Layout) → LawfulLayout o → (c : Counts) (s : List ℕ) (n : ℕ) → 256 ≤ n → n ≤ length s → changed-header o c s ≡ changed-header o c (take n s) ++ drop n s
 unfolding changed-header
-header-front c s h =
-    ap (λ (ws : List Setting). put-all ws s) (same-settings c s)
-    ∙ ap (put-all (change-settings layout4 c (take 256 s))) (sym (take-append-drop 256 s))
-    ∙ put-all-front (change-settings layout4 c (take 256 s)) (take 256 s) (drop 256 s) (change-inside c (take 256 s) (length (take 256 s)) (length-take-le 256 s h)) .1
+header-front o law c s n least h =
+    let l : length (take n s) ≡ n = length-take-le n s h in
+    ap (λ (ws : List Setting). put-all ws s) (same-settings o law c s n least)
+    ∙ ap (put-all (change-settings o c (take n s))) (sym (take-append-drop n s))
+    ∙ put-all-front (change-settings o c (take n s)) (take n s) (drop n s) (change-inside o law c (take n s) (length (take n s)) (omega arith)) .1
 
 -- the first L bytes of a slice
 module _ (s : List ℕ) (L : ℕ) where

@@ -10,11 +10,10 @@ use lib.ListN.{length, take, drop, length-drop}
 use lib.Seq.{drop-drop}
 use lib.Dec.{ltb}
 use borrow.Author.Tests.{lt-ltb, le-ltb, ltb-true, ltb-false}
+use Rattle.spec.specs.Order.{HeadwordOrder}
 use Rattle.spec.specs.Outcome.{Outcome, refused, ok, _>>=_, _>>_, refuse_when_, accepted}
 use Rattle.spec.specs.Bytes as Bytes
 use Rattle.spec.specs.Bytes.{from-little-endian, bytes-at, no-zero, all-zero, split-zero}
-use Rattle.spec.specs.Header as Header
-use Rattle.spec.specs.Header.{Format, format4}
 use Rattle.spec.specs.Entry.{headword-ok}
 use Rattle.spec.specs.Index.{Element, elements-from, index-from}
 use Rattle.spec.proofs.ListsLaws.{clash}
@@ -28,37 +27,37 @@ use Rattle.index.specs.declared.Place.{Place}
 use Rattle.index.specs.declared.Ended.{Ended}
 
 -- an element, where its headword may follow prev, in front of those read behind it
-unfoldable pub element-then : Format → List ℕ → Element → Outcome (List Element) → Outcome (List Element)
-element-then F prev e rest = do
+unfoldable pub element-then : HeadwordOrder → List ℕ → Element → Outcome (List Element) → Outcome (List Element)
+element-then below prev e rest = do
   refuse 6 when not (headword-ok (e .headword))
-  refuse 6 when not (F .below prev (e .headword))
+  refuse 6 when not (below prev (e .headword))
   es ← rest
   ok (e ∷ es)
 
 -- what is read behind the number of an element, up to its zero byte
-elements-behind : Format → ℕ → List ℕ → List ℕ → Option (List ℕ × List ℕ) → Outcome (List Element)
-elements-behind F n prev s none = refused 6
-elements-behind F n prev s (some p) = element-then F prev (record { block = from-little-endian (take (F .number-width) s); headword = p .0 }) (elements-from F n (p .0) (p .1))
+elements-behind : HeadwordOrder → ℕ → List ℕ → List ℕ → Option (List ℕ × List ℕ) → Outcome (List Element)
+elements-behind below n prev s none = refused 6
+elements-behind below n prev s (some p) = element-then below prev (record { block = from-little-endian (take 2 s); headword = p .0 }) (elements-from 2 below n (p .0) (p .1))
 
 -- reading no more elements
-elements-none : (F : Format) (prev s : List ℕ) → elements-from F 0 prev s ≡ (refuse 6 when ltb (length s) 4 >> (refuse 6 when not (all-zero s) >> ok []))
+elements-none : (below : HeadwordOrder) (prev s : List ℕ) → elements-from 2 below 0 prev s ≡ (refuse 6 when ltb (length s) 4 >> (refuse 6 when not (all-zero s) >> ok []))
 unfolding elements-from
-elements-none F prev s = refl
+elements-none below prev s = refl
 
 -- reading one more
-elements-suc : (F : Format) (n : ℕ) (prev s : List ℕ) → elements-from F (suc n) prev s ≡ (refuse 6 when ltb (length s) (F .number-width) >> elements-behind F n prev s (split-zero (drop (F .number-width) s)))
+elements-suc : (below : HeadwordOrder) (n : ℕ) (prev s : List ℕ) → elements-from 2 below (suc n) prev s ≡ (refuse 6 when ltb (length s) 2 >> elements-behind below n prev s (split-zero (drop 2 s)))
 unfolding elements-from elements-behind element-then
-elements-suc F n prev s = go (split-zero (drop (F .number-width) s)) refl
+elements-suc below n prev s = go (split-zero (drop 2 s)) refl
   where
-    go : (o : Option (List ℕ × List ℕ)) → split-zero (drop (F .number-width) s) ≡ o
-        → elements-from F (suc n) prev s ≡ (refuse 6 when ltb (length s) (F .number-width) >> elements-behind F n prev s (split-zero (drop (F .number-width) s)))
+    go : (o : Option (List ℕ × List ℕ)) → split-zero (drop 2 s) ≡ o
+        → elements-from 2 below (suc n) prev s ≡ (refuse 6 when ltb (length s) 2 >> elements-behind below n prev s (split-zero (drop 2 s)))
     go none e = rw (e, elements-from, elements-behind)
     go (some p) e = rw (e, elements-from, elements-behind)
 
 -- ---- the refusal of an index
 -- an index that is not accepted is refused by 6
-pub index-refused : (F : Format) (b n : ℕ) (area : List ℕ) → accepted (index-from F b n area) ≡ false → index-from F b n area ≡ refused 6
-index-refused F b n area h = refused-only 6 (index-from F b n area) (index-only F b n area) h
+pub index-refused : (below : HeadwordOrder) (b n : ℕ) (area : List ℕ) → accepted (index-from 2 below b n area) ≡ false → index-from 2 below b n area ≡ refused 6
+index-refused below b n area h = refused-only 6 (index-from 2 below b n area) (index-only 2 below b n area) h
 
 -- ---- reading at a place of the index
 -- an element's zero byte stands behind its number
@@ -83,85 +82,88 @@ element-headword-clear index at =
     let d : at + 2 + zero-offset (drop (at + 2) index) - (at + 2) ≡ zero-offset (drop (at + 2) index) = omega arith in
     rw d (no-zero-before (drop (at + 2) index))
 
--- a block number of this format has two bytes
-pub width4 : format4 .number-width ≡ 2
-unfolding Header.format4
-width4 = refl
-
-module _ (F : Format) (w : F .number-width ≡ 2) (index prev : List ℕ) (at n : ℕ) where
+module _ (below : HeadwordOrder) (index prev : List ℕ) (at n : ℕ) where
   -- no room for a number
-  pub element-short : length index < at + 2 → elements-from F (suc n) prev (drop at index) ≡ refused 6
+  pub element-short : length index < at + 2 → elements-from 2 below (suc n) prev (drop at index) ≡ refused 6
   element-short p =
       let l : ltb (length (drop at index)) 2 ≡ true = lt-ltb (length (drop at index)) 2 (omega (arith, length-drop at index)) in
-      rw (elements-suc, w, l)
+      rw (elements-suc, l)
 
   -- no zero byte
-  pub element-open : at + 2 ≤ length index → length index ≤ element-end index at → elements-from F (suc n) prev (drop at index) ≡ refused 6
+  pub element-open : at + 2 ≤ length index → length index ≤ element-end index at → elements-from 2 below (suc n) prev (drop at index) ≡ refused 6
   unfolding element-end elements-behind
   element-open p q =
       let l : ltb (length (drop at index)) 2 ≡ false = le-ltb (length (drop at index)) 2 (omega (arith, length-drop at index)) in
       let s : split-zero (drop (at + 2) index) ≡ none = split-zero-none (drop (at + 2) index) (omega (arith, length-drop (at + 2) index)) in
-      rw (elements-suc, w, l, drop-drop 2 at index, s)
+      rw (elements-suc, l, drop-drop 2 at index, s)
 
   -- an element with its zero byte
   pub element-read : at + 2 ≤ length index → element-end index at < length index
-      → elements-from F (suc n) prev (drop at index) ≡ element-then F prev (element-at index at) (elements-from F n (element-headword index at) (drop (element-end index at + 1) index))
+      → elements-from 2 below (suc n) prev (drop at index) ≡ element-then below prev (element-at index at) (elements-from 2 below n (element-headword index at) (drop (element-end index at + 1) index))
   unfolding element-end element-headword element-at elements-behind Bytes.bytes-at
   element-read p q =
       let l : ltb (length (drop at index)) 2 ≡ false = le-ltb (length (drop at index)) 2 (omega (arith, length-drop at index)) in
       let z : ℕ = zero-offset (drop (at + 2) index) in
-      let s : split-zero (drop (at + 2) index) ≡ some (take z (drop (at + 2) index), drop (suc z) (drop (at + 2) index)) = split-zero-some (drop (at + 2) index) (omega (arith, length-drop (at + 2) index)) in
+      let s : split-zero (drop (at + 2) index) ≡ some (take z (drop (at + 2) index), drop (suc z) (drop (at + 2) index))
+      = split-zero-some (drop (at + 2) index) (omega (arith, length-drop (at + 2) index)) in
       let d : at + 2 + z - (at + 2) ≡ z = omega arith in
       let f : at + 2 + suc z ≡ at + 2 + z + 1 = omega arith in
-      rw (elements-suc, w, l, drop-drop 2 at index, s, drop-drop (suc z) (at + 2) index, d, f)
+      rw (elements-suc, l, drop-drop 2 at index, s, drop-drop (suc z) (at + 2) index, d, f)
 
 -- ---- what is read
-then-ok : (F : Format) (prev : List ℕ) (e : Element) (rest : Outcome (List Element)) (es : List Element) → element-then F prev e rest ≡ ok es
+then-ok : (below : HeadwordOrder) (prev : List ℕ) (e : Element) (rest : Outcome (List Element)) (es : List Element) → element-then below prev e rest ≡ ok es
     → (ds : List Element) × (rest ≡ ok ds) × (es ≡ e ∷ ds)
 unfolding element-then
-then-ok F prev e rest es h =
-    let a = when-ok 6 (not (headword-ok (e .headword))) (refuse 6 when not (F .below prev (e .headword)) >> (rest >>= λ es. ok (e ∷ es))) es h in
-    let b = when-ok 6 (not (F .below prev (e .headword))) (rest >>= λ es. ok (e ∷ es)) es (a .1) in
+then-ok below prev e rest es h =
+    let a = when-ok 6 (not (headword-ok (e .headword))) (refuse 6 when not (below prev (e .headword)) >> (rest >>= λ es. ok (e ∷ es))) es h in
+    let b = when-ok 6 (not (below prev (e .headword))) (rest >>= λ es. ok (e ∷ es)) es (a .1) in
     let c = bind-ok rest (λ es. ok (e ∷ es)) es (b .1) in
     (c .0, c .1, let q : ok (e ∷ c .0) ≡ ok es = c .2 in cc)
 
 -- elements read from `at` on are those that stand there, inside the index
-pub elements-found-from : (F : Format) → F .number-width ≡ 2 → (index prev : List ℕ) (at n : ℕ) (es : List Element) → elements-from F n prev (drop at index) ≡ ok es
+pub elements-found-from : (below : HeadwordOrder) (index prev : List ℕ) (at n : ℕ) (es : List Element) → elements-from 2 below n prev (drop at index) ≡ ok es
     → (es ≡ elements-at index at n) × Inside index at n
 unfolding elements-at element-at
-elements-found-from F w index prev at zero es h =
+elements-found-from below index prev at zero es h =
     let a = when-ok 6 (ltb (length (drop at index)) 4) (refuse 6 when not (all-zero (drop at index)) >> ok []) es (rw elements-none at h) in
     let b = when-ok 6 (not (all-zero (drop at index))) (ok []) es (a .1) in
     let l : 4 ≤ length (drop at index) = ltb-false (length (drop at index)) 4 (a .0) in
     let e : es ≡ [] = let q : ok [] ≡ ok es = b .1 in cc in
     (e, omega (arith, length-drop at index))
-elements-found-from F w index prev at (suc n) es h = go (λ p a ds k. elements-found-from F w index p a n ds k) (ltb (length index) (at + 2)) refl
+elements-found-from below index prev at (suc n) es h = go (λ p a ds k. elements-found-from below index p a n ds k) (ltb (length index) (at + 2)) refl
   where
     Found : Type 0
     Found = (es ≡ elements-at index at (suc n)) × Inside index at (suc n)
 
     Rest : Type 0
-    Rest = (p : List ℕ) (a : ℕ) (ds : List Element) → elements-from F n p (drop a index) ≡ ok ds → (ds ≡ elements-at index a n) × Inside index a n
+    Rest = (p : List ℕ) (a : ℕ) (ds : List Element) → elements-from 2 below n p (drop a index) ≡ ok ds → (ds ≡ elements-at index a n) × Inside index a n
 
     found : Rest → at + 2 ≤ length index → element-end index at < length index → Found
     found ih p q =
-        let c = then-ok F prev (element-at index at) (elements-from F n (element-headword index at) (drop (element-end index at + 1) index)) es (sym (element-read F w index prev at n p q) ∙ h) in
+        let c =
+        then-ok below prev (element-at index at) (elements-from 2 below n (element-headword index at) (drop (element-end index at + 1) index)) es
+        (sym (element-read below index prev at n p q) ∙ h) in
         let d = ih (element-headword index at) (element-end index at + 1) (c .0) (c .1) in
         let e : es ≡ element-at index at ∷ c .0 = c .2 in
         (rw (e, d .0), (p, q, d .1))
 
     next : Rest → at + 2 ≤ length index → (t : Bool) → ltb (element-end index at) (length index) ≡ t → Found
     next ih p true e = found ih p (ltb-true (element-end index at) (length index) e)
-    next ih p false e = absurd (ok-not-refused es 6 (sym h ∙ element-open F w index prev at n p (ltb-false (element-end index at) (length index) e)))
+    next ih p false e = absurd (ok-not-refused es 6 (sym h ∙ element-open below index prev at n p (ltb-false (element-end index at) (length index) e)))
 
     go : Rest → (t : Bool) → ltb (length index) (at + 2) ≡ t → Found
-    go ih true e = absurd (ok-not-refused es 6 (sym h ∙ element-short F w index prev at n (ltb-true (length index) (at + 2) e)))
+    go ih true e = absurd (ok-not-refused es 6 (sym h ∙ element-short below index prev at n (ltb-true (length index) (at + 2) e)))
     go ih false e = next ih (ltb-false (length index) (at + 2) e) (ltb (element-end index at) (length index)) refl
 
 -- the elements of a whole index
-pub elements-found : (F : Format) → F .number-width ≡ 2 → (index : List ℕ) (n : ℕ) (es : List Element) → elements-from F n [] index ≡ ok es
+pub elements-found : (below : HeadwordOrder) (index : List ℕ) (n : ℕ) (es : List Element) → elements-from 2 below n [] index ≡ ok es
     → (es ≡ elements-at index 0 n) × Inside index 0 n
-elements-found F w index n es h = elements-found-from F w index [] 0 n es h
+elements-found below index n es h = elements-found-from below index [] 0 n es h
+
+-- elements inside the index start inside it
+pub inside-at : (index : List ℕ) (at n : ℕ) → Inside index at n → at ≤ length index
+inside-at index at zero i = i
+inside-at index at (suc n) i = omega (arith, i .0)
 
 -- ---- from one element to the next
 -- the next element has its number
@@ -243,14 +245,15 @@ module _ (t : Bool) (k : ℕ) (r : Ended) (h : r ≡ ended t k) where
       go false q = clash cc
 
 -- ---- the element of the run concerned
-module _ (below : List ℕ → List ℕ → Bool) (index h : List ℕ) where
+module _ (below : HeadwordOrder) (index h : List ℕ) where
   -- the next headword is above h
   pub concerned-here : (at n : ℕ) → below h (element-headword index (element-end index at + 1)) ≡ true → concerned-from below index h at (suc n) ≡ record { at = at; left = suc (suc n) }
   unfolding concerned-from
   concerned-here at n e = rw (e, concerned-from)
 
   -- it is not
-  pub concerned-later : (at n : ℕ) → below h (element-headword index (element-end index at + 1)) ≡ false → concerned-from below index h at (suc n) ≡ concerned-from below index h (element-end index at + 1) n
+  pub concerned-later : (at n : ℕ) → below h (element-headword index (element-end index at + 1)) ≡ false
+      → concerned-from below index h at (suc n) ≡ concerned-from below index h (element-end index at + 1) n
   unfolding concerned-from
   concerned-later at n e = rw (e, concerned-from)
 
@@ -276,6 +279,7 @@ module _ (below : List ℕ → List ℕ → Bool) (index h : List ℕ) where
       Stops : Place → Type 0
       Stops p = (p .left ≡ 1) ⊎ (below h (element-headword index (element-end index (p .at) + 1)) ≡ true)
 
-      go : Stops (concerned-from below index h (element-end index at + 1) n) → (t : Bool) → below h (element-headword index (element-end index at + 1)) ≡ t → Stops (concerned-from below index h at (suc n))
+      go : Stops (concerned-from below index h (element-end index at + 1) n) → (t : Bool) → below h (element-headword index (element-end index at + 1)) ≡ t
+          → Stops (concerned-from below index h at (suc n))
       go ih true e = rw (concerned-here at n e) (inr e)
       go ih false e = rw (concerned-later at n e) ih

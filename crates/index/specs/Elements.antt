@@ -3,6 +3,7 @@ use Prim.Native.Nat.{ℕ, zero, suc, _+_, _-_, _≤_, _<_}
 use mathlib.Core.Bool.{Bool, true, false}
 use mathlib.Core.List.{List, [], _∷_}
 use lib.ListN.{length, drop}
+use Rattle.spec.specs.Order.{HeadwordOrder}
 use Rattle.spec.specs.Bytes.{from-little-endian, bytes-at}
 use Rattle.spec.specs.Index.{Element}
 use Rattle.scans.specs.Scan.{zero-offset}
@@ -42,7 +43,7 @@ Inside index at zero = at ≤ length index
 Inside index at (suc n) = (at + 2 ≤ length index) × (element-end index at < length index) × Inside index (element-end index at + 1) n
 
 -- of n + 1 elements from `at` on the last before the first, from the second on, whose headword is above h
-unfoldable pub concerned-from : (List ℕ → List ℕ → Bool) → List ℕ → List ℕ → ℕ → ℕ → Place
+unfoldable pub concerned-from : HeadwordOrder → List ℕ → List ℕ → ℕ → ℕ → Place
 concerned-from below index h at zero = record { at = at; left = 1 }
 concerned-from below index h at (suc n) = elim (below h (element-headword index (element-end index at + 1))) [
   | true ↦ record { at = at; left = suc (suc n) }

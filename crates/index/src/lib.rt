@@ -4,7 +4,6 @@ ghost use mathlib.Core.List.{[]};
 ghost use Prim.Native.Nat.{_+_, _-_, _≤_, _<_};
 ghost use lib.ListN.{length};
 ghost use Rattle.spec.specs.Outcome.{accepted};
-ghost use Rattle.spec.specs.Header.{format4};
 ghost use Rattle.spec.specs.Order.{below-of};
 ghost use Rattle.spec.specs.Index.{elements-from};
 ghost use Rattle.index.specs.Elements.{element-end, elements-end, ended, Inside, concerned-from};
@@ -32,7 +31,7 @@ pub fn element_end(index: &[u8], at: usize) -> usize
 
 // Where n elements of the index end, if they stand there by their rules, and then zeros, at least four, up to its end: row 6.
 pub fn read_elements(index: &[u8], n: usize) -> Ended
-    ensures { λ r. ⌜ r ≡ ended (accepted (elements-from format4 n [] (now (index .entry)))) (elements-end (now (index .entry)) 0 n) ⌝ }
+    ensures { λ r. ⌜ r ≡ ended (accepted (elements-from 2 (below-of 0) n [] (now (index .entry)))) (elements-end (now (index .entry)) 0 n) ⌝ }
 {
     let mut at = 0;
     let mut left = n;

@@ -24,9 +24,9 @@ use Rattle.spec.proofs.SearchLaws.{exactly, entries-ascend, lookup-by-successor
 use Rattle.index.specs.Elements.{elements-at, Inside}
 use Rattle.header.specs.Framed.{frame4}
 use Rattle.header.proofs.Laws.{frame-index-inside, frame-data-few, frame-length-is, index-slice, data-slice}
-use Rattle.inspect.specs.Overview.{overview, viewed, index-end, EndTold, AcceptedImage}
+use Rattle.inspect.specs.Overview.{overview, viewed, index-end, EndTold, AcceptedImage, index-part, data-part}
 use Rattle.inspect.specs.declared.Inspected.{Inspected}
-use Rattle.inspect.proofs.Laws.{index-part, data-part, index-told, data-long, SoundImage, overview-sound}
+use Rattle.inspect.proofs.Laws.{index-told, data-long, SoundImage, overview-sound}
 
 module _ (s : List ℕ) (n d : ℕ) (a : AcceptedImage s n d) where
   told : ImageTold format4 s (a .image)
@@ -56,18 +56,19 @@ module _ (s : List ℕ) (n d : ℕ) (a : AcceptedImage s n d) where
   accepted-area m = data-long s n d (accepted-whole m)
 
   module _ (e : ℕ) (number : e ≡ get (layout4 .nindex2) s) where
-    indexed : index-from format4 (a .image .frame .index-blocks) e (index-part s n) ≡ ok (told .elements)
+    indexed : index-from 2 (below-of 0) (a .image .frame .index-blocks) e (index-part s n) ≡ ok (told .elements)
     unfolding HeaderSpec.format4
     indexed =
         let x : index-area (a .image .frame) s ≡ index-part s n = ap (λ (g : Frame). index-area g s) accepted-frame ∙ index-slice s n d in
-        rw number (ap (index-from format4 (a .image .frame .index-blocks) (get (layout4 .nindex2) s)) (sym x) ∙ told .index)
+        rw number (ap (index-from 2 (below-of 0) (a .image .frame .index-blocks) (get (layout4 .nindex2) s)) (sym x) ∙ told .index)
 
     -- its elements stand inside the index
     pub accepted-inside : Inside (index-part s n) 0 e
     accepted-inside = index-told (index-part s n) (a .image .frame .index-blocks) e (told .elements) indexed .1
 
     -- and their runs are the image's
-    pub accepted-runs : runs-from format4 d (data-part s n) (elements-at (index-part s n) 0 e) ≡ ok (a .image .runs)
+    pub accepted-runs : runs-from (below-of 0) d (data-part s n) (elements-at (index-part s n) 0 e) ≡ ok (a .image .runs)
+    unfolding HeaderSpec.format4
     accepted-runs =
         let p : a .image .frame .data-blocks ≡ d = sym (a .data-blocks) in
         let q : data-area (a .image .frame) s ≡ data-part s n = ap (λ (g : Frame). data-area g s) accepted-frame ∙ data-slice s n d in
@@ -75,7 +76,7 @@ module _ (s : List ℕ) (n d : ℕ) (a : AcceptedImage s n d) where
 
     -- the entry sought in the runs is the one sought in any image that is read from the bytes
     pub accepted-sought : (x : Option Entry) (above : Bool) (h : List ℕ)
-        → ((rs : List Run) → runs-from format4 d (data-part s n) (elements-at (index-part s n) 0 e) ≡ ok rs → x ≡ successor (below-of 0) above h (all-entries rs))
+        → ((rs : List Run) → runs-from (below-of 0) d (data-part s n) (elements-at (index-part s n) 0 e) ≡ ok rs → x ≡ successor (below-of 0) above h (all-entries rs))
         → (i : Image) → image-from s ≡ ok i → x ≡ successor (below-of 0) above h (entries-of i)
     unfolding CheckSpec.entries-of
     accepted-sought x above h sought i o =
@@ -84,14 +85,14 @@ module _ (s : List ℕ) (n d : ℕ) (a : AcceptedImage s n d) where
 
     -- the entry with the headword is the first not below it, if that has it
     pub accepted-lookup : (x : Option Entry) (h : List ℕ)
-        → ((rs : List Run) → runs-from format4 d (data-part s n) (elements-at (index-part s n) 0 e) ≡ ok rs → x ≡ successor (below-of 0) false h (all-entries rs))
+        → ((rs : List Run) → runs-from (below-of 0) d (data-part s n) (elements-at (index-part s n) 0 e) ≡ ok rs → x ≡ successor (below-of 0) false h (all-entries rs))
         → (i : Image) → image-from s ≡ ok i → lookup h (entries-of i) ≡ exactly h x
     unfolding CheckSpec.entries-of HeaderSpec.format4
     accepted-lookup x h sought i o =
         let j : a .image ≡ i = same-value (a .image) i (sym (a .is) ∙ o) in
         let rs : List Run = a .image .runs in
-        let g = entries-ascend format4 (order-of 0) rs (runs-ascend format4 d (data-part s n) (elements-at (index-part s n) 0 e) rs accepted-runs) in
-        rw (← j) (lookup-by-successor format4 (order-of 0) h [] (all-entries rs) g ∙ ap (exactly h) (sym (sought rs accepted-runs)))
+        let g = entries-ascend (below-of 0) (order-of 0) rs (runs-ascend (below-of 0) d (data-part s n) (elements-at (index-part s n) 0 e) rs accepted-runs) in
+        rw (← j) (lookup-by-successor (below-of 0) (order-of 0) h [] (all-entries rs) g ∙ ap (exactly h) (sym (sought rs accepted-runs)))
 
 -- ---- what the answer tells of the image, for the crates above
 module _ (s : List ℕ) (k : ℕ) (ms : List Bool) (r : Inspected) (seen : overview r ms ≡ viewed k (image-from s)) (w n d x : ℕ) (e : r ≡ Inspected.Sound w n d x) where

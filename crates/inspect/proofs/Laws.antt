@@ -11,9 +11,10 @@ use lib.Seq.{getD-take, length-take-le}
 use lib.Dec.{eqb}
 use borrow.Author.Needs.{needs}
 use borrow.Author.Tests.{eq-eqb, ne-eqb, eqb-true, not-true, not-false}
+use Rattle.spec.specs.Order.{below-of}
 use Rattle.spec.specs.Outcome.{Outcome, refused, ok, _>>=_, _>>_, refuse_when_, accepted}
 use Rattle.spec.specs.Lists as Lists
-use Rattle.spec.specs.Lists.{any}
+use Rattle.spec.specs.Lists.{any, All}
 use Rattle.spec.specs.Header as Header
 use Rattle.spec.specs.Header.{layout4, format4, get}
 use Rattle.spec.specs.Run.{Run}
@@ -24,7 +25,7 @@ use Rattle.spec.specs.Calls as Calls
 use Rattle.spec.specs.Calls.{figures}
 use Rattle.spec.specs.Check as Check
 use Rattle.spec.specs.Check.{Image, index-area, data-area, frame-from, runs-from, counts-ok, image-from, all-entries, entries-of}
-use Rattle.spec.proofs.ListsLaws.{All, or-false, less-or}
+use Rattle.spec.proofs.ListsLaws.{or-false, less-or}
 use Rattle.spec.proofs.OutcomeLaws.{same-value, ok-not-refused, when-ok, Answer, accepted-answer}
 use Rattle.spec.proofs.ReadLaws.{free-list-below, free-list-nine, runs-inside}
 use Rattle.spec.proofs.BlocksLaws.{covers-inside, covers-outside}
@@ -37,7 +38,7 @@ use Rattle.header.proofs.Laws.{frame-refused, frame-read, frame-index-few, fram
 use Rattle.index.specs.Elements as Elements
 use Rattle.index.specs.Elements.{elements-at, elements-end, ended, Inside}
 use Rattle.index.specs.declared.Ended.{Ended}
-use Rattle.index.proofs.Laws.{width4, elements-found, index-refused, ended-broken, ended-at}
+use Rattle.index.proofs.Laws.{elements-found, index-refused, ended-broken, ended-at}
 use Rattle.freelist.specs.FreeList.{has-length, with-marks, Marked}
 use Rattle.freelist.proofs.Laws.{Read, has-length-read, has-length-not, length-with-marks, get-with-marks, with-no-marks, count-behind}
 use Rattle.tally.specs.Tally as Tally
@@ -48,18 +49,18 @@ pub use Rattle.inspect.specs.Overview.{index-part, data-part}
 use Rattle.inspect.specs.declared.Inspected.{Inspected}
 
 -- row 6 without an index block: no element
-pub index-empty : (area : List ℕ) (blocks n : ℕ) → blocks ≡ 0 → n ≡ 0 → Ended.At 0 ≡ ended (accepted (index-from format4 blocks n area)) (elements-end area 0 n)
+pub index-empty : (area : List ℕ) (blocks n : ℕ) → blocks ≡ 0 → n ≡ 0 → Ended.At 0 ≡ ended (accepted (index-from 2 (below-of 0) blocks n area)) (elements-end area 0 n)
 unfolding Index.index-from accepted Elements.ended Elements.elements-end
 index-empty area blocks n z e = rw (z, e)
 
 -- or some
-pub index-none : (area : List ℕ) (blocks n : ℕ) → blocks ≡ 0 → (n ≡ 0 → ⊥) → Ended.Broken ≡ ended (accepted (index-from format4 blocks n area)) (elements-end area 0 n)
+pub index-none : (area : List ℕ) (blocks n : ℕ) → blocks ≡ 0 → (n ≡ 0 → ⊥) → Ended.Broken ≡ ended (accepted (index-from 2 (below-of 0) blocks n area)) (elements-end area 0 n)
 unfolding Index.index-from accepted Elements.ended
 index-none area blocks n z e = rw (z, ne-eqb n 0 e)
 
 -- and with some blocks
-pub index-some : (area : List ℕ) (blocks n : ℕ) → (blocks ≡ 0 → ⊥) → (r : Ended) (k : ℕ) → r ≡ ended (accepted (elements-from format4 n [] area)) k
-    → r ≡ ended (accepted (index-from format4 blocks n area)) k
+pub index-some : (area : List ℕ) (blocks n : ℕ) → (blocks ≡ 0 → ⊥) → (r : Ended) (k : ℕ) → r ≡ ended (accepted (elements-from 2 (below-of 0) n [] area)) k
+    → r ≡ ended (accepted (index-from 2 (below-of 0) blocks n area)) k
 unfolding Index.index-from
 index-some area zero n z r k h = absurd (z refl)
 index-some area (suc b) n z r k h = h
@@ -113,7 +114,7 @@ module _ (s : List ℕ) (n d words blocks : ℕ) (ms : List Bool) (v : RunsRead 
   left-over = rw (v .frame, v .index, data-slice s n d, v .read)
 
   inside : All (λ r. r .block + r .size ≤ d) (v .runs)
-  inside = runs-inside format4 d area (v .elements) (v .runs) (v .read)
+  inside = runs-inside (below-of 0) d area (v .elements) (v .runs) (v .read)
 
   -- row 9, where no list that is read covers the blocks
   nine : ((fl : List ℕ) → list ≡ ok fl → each-once d (v .runs) fl ≡ false) → image-from s ≡ refused 9
@@ -255,8 +256,13 @@ tally-read : (ms : List Bool) (o : Outcome (List Run)) (w b : ℕ) (us : List Bo
 unfolding Tally.tally
 tally-read ms (refused i) w b us h = absurd (ok-not-refused _ i (sym h))
 tally-read ms (ok rs) w b us h =
-    let e = same-value _ _ h in
-    (rs, refl, sym (ap (λ (x : TallyRecord). x .words) e) ∙ zero-add (length (all-entries rs)), sym (ap (λ (x : TallyRecord). x .blocks) e) ∙ zero-add (run-blocks rs), sym (ap (λ (x : TallyRecord). x .marked) e))
+    let e = same-value _ _ h in (
+      rs,
+      refl,
+      sym (ap (λ (x : TallyRecord). x .words) e) ∙ zero-add (length (all-entries rs)),
+      sym (ap (λ (x : TallyRecord). x .blocks) e) ∙ zero-add (run-blocks rs),
+      sym (ap (λ (x : TallyRecord). x .marked) e),
+    )
 
 -- how long they are
 module _ (s : List ℕ) (n d : ℕ) (whole : 256 + 256 * n + 256 * d ≡ length s) where
@@ -267,13 +273,13 @@ module _ (s : List ℕ) (n d : ℕ) (whole : 256 + 256 * n + 256 * d ≡ length 
   data-long = sym (length-take-le (length s - (256 + 256 * n)) (drop (256 + 256 * n) s) (rw length-drop (omega arith)) ∙ omega arith)
 
 -- the elements of an index that keeps row 6 stand inside it
-pub index-told : (area : List ℕ) (blocks n : ℕ) (es : List Element) → index-from format4 blocks n area ≡ ok es → (es ≡ elements-at area 0 n) × Inside area 0 n
+pub index-told : (area : List ℕ) (blocks n : ℕ) (es : List Element) → index-from 2 (below-of 0) blocks n area ≡ ok es → (es ≡ elements-at area 0 n) × Inside area 0 n
 unfolding Index.index-from Elements.elements-at
 index-told area zero n es h =
     let (p, q) = when-ok 6 (not (eqb n 0)) (ok []) es h in
     let z : n ≡ 0 = eqb-true n 0 (not-false (eqb n 0) p) in
     rw z (sym (same-value [] es q), omega arith)
-index-told area (suc b) n es h = elements-found format4 width4 area n es h
+index-told area (suc b) n es h = elements-found (below-of 0) area n es h
 
 -- the bounds of a frame that is read, by the answer
 module _ (s : List ℕ) (r : Framed) (e : framed r ≡ frame-from format4 s) (n d : ℕ) (h : r ≡ Framed.Blocks n d) where
@@ -289,18 +295,18 @@ unfolding overview viewed Check.image-from Check.image-by Header.format-of
 areas-frame s r e j h k ms = sym (rw (frame-refused s r e j h))
 
 module _ (s : List ℕ) (n d : ℕ) (frame : frame-from format4 s ≡ ok (frame4 n d)) (e : ℕ) (elements : e ≡ get (layout4 .nindex2) s)
-    (b : Ended) (kept : b ≡ ended (accepted (index-from format4 n e (index-part s n))) (elements-end (index-part s n) 0 e)) where
+    (b : Ended) (kept : b ≡ ended (accepted (index-from 2 (below-of 0) n e (index-part s n))) (elements-end (index-part s n) 0 e)) where
   -- row 6
   pub areas-index : b ≡ Ended.Broken → (k : ℕ) (ms : List Bool) → overview (Inspected.Refused 6) ms ≡ viewed k (image-from s)
   unfolding overview viewed Check.image-from Check.image-by Header.format-of Header.format4
   areas-index q k ms =
-      let y : accepted (index-from format4 n e (index-part s n)) ≡ false = ended-broken _ _ b kept q in
-      let x : index-from format4 n (get (layout4 .nindex2) s) (index-area (frame4 n d) s) ≡ refused 6 = rw (index-slice s n d, ← elements) (index-refused format4 n e (index-part s n) y) in
+      let y : accepted (index-from 2 (below-of 0) n e (index-part s n)) ≡ false = ended-broken _ _ b kept q in
+      let x : index-from 2 (below-of 0) n (get (layout4 .nindex2) s) (index-area (frame4 n d) s) ≡ refused 6 = rw (index-slice s n d, ← elements) (index-refused (below-of 0) n e (index-part s n) y) in
       sym (rw (frame, x))
 
   module _ (end : ℕ) (q : b ≡ Ended.At end) where
-    answered : Answer (index-from format4 n e (index-part s n))
-    answered = accepted-answer (index-from format4 n e (index-part s n)) (ended-at _ _ b kept end q .0)
+    answered : Answer (index-from 2 (below-of 0) n e (index-part s n))
+    answered = accepted-answer (index-from 2 (below-of 0) n e (index-part s n)) (ended-at _ _ b kept end q .0)
 
     -- where they end
     pub areas-end : end ≡ index-end s n
@@ -310,24 +316,27 @@ module _ (s : List ℕ) (n d : ℕ) (frame : frame-from format4 s ≡ ok (frame4
     pub areas-inside : Inside (index-part s n) 0 e
     areas-inside = index-told (index-part s n) n e (answered .value) (answered .is) .1
 
-    index-is : index-from format4 n (get (layout4 .nindex2) s) (index-area (frame4 n d) s) ≡ ok (elements-at (index-part s n) 0 e)
+    index-is : index-from 2 (below-of 0) n (get (layout4 .nindex2) s) (index-area (frame4 n d) s) ≡ ok (elements-at (index-part s n) 0 e)
     index-is = rw (index-slice s n d, ← elements) (answered .is ∙ ap ok (index-told (index-part s n) n e (answered .value) (answered .is) .0))
 
-    module _ (r : Runs) (us ms₀ : List Bool) (m : ℕ) (tallied : runs-answer r us ≡ tally 0 0 ms₀ (runs-from format4 d (data-part s n) (elements-at (index-part s n) 0 e))) where
+    module _ (r : Runs) (us ms₀ : List Bool) (m : ℕ) (tallied : runs-answer r us ≡ tally 0 0 ms₀ (runs-from (below-of 0) d (data-part s n) (elements-at (index-part s n) 0 e))) where
       -- rows 7 and 8
       pub areas-runs : (j : ℕ) → r ≡ Runs.Refused j → (k : ℕ) (ms : List Bool) → overview (Inspected.Refused j) ms ≡ viewed k (image-from s)
       unfolding overview viewed Check.image-from Check.image-by Header.format-of Header.format4 Tally.runs-answer
       areas-runs j h k ms =
-          let x : runs-from format4 d (data-area (frame4 n d) s) (elements-at (index-part s n) 0 e) ≡ refused j = rw (data-slice s n d) (tally-refused ms₀ (runs-from format4 d (data-part s n) (elements-at (index-part s n) 0 e)) j (sym tallied ∙ ap (λ (y : Runs). runs-answer y us) h)) in
+          let x : runs-from (below-of 0) d (data-area (frame4 n d) s) (elements-at (index-part s n) 0 e) ≡ refused j
+          = rw (data-slice s n d) (tally-refused ms₀ (runs-from (below-of 0) d (data-part s n) (elements-at (index-part s n) 0 e)) j
+          (sym tallied ∙ ap (λ (y : Runs). runs-answer y us) h)) in
           sym (rw (frame, index-is, x))
 
       -- all runs are read
       pub areas-read : ms₀ ≡ replicate m false → d ≤ m → (words blocks : ℕ) → r ≡ Runs.Read words blocks → RunsRead s n d words blocks us
       unfolding Tally.runs-answer
       areas-read bare room words blocks h =
-          let (rs, x, y, z, w) = tally-read ms₀ (runs-from format4 d (data-part s n) (elements-at (index-part s n) 0 e)) words blocks us (sym tallied ∙ ap (λ (y : Runs). runs-answer y us) h) in
+          let (rs, x, y, z, w) = tally-read ms₀ (runs-from (below-of 0) d (data-part s n) (elements-at (index-part s n) 0 e)) words blocks us (sym tallied ∙ ap (λ (y : Runs). runs-answer y us) h) in
           let g : us ≡ covered rs (replicate m false) = rw (← bare) w in
-          let l : length us ≡ m = ap length g ∙ covered-length rs d (replicate m false) (runs-inside format4 d (data-part s n) (elements-at (index-part s n) 0 e) rs x) (rw length-replicate room) ∙ length-replicate m false in
+          let l : length us ≡ m = ap length g ∙ covered-length rs d (replicate m false)
+          (runs-inside (below-of 0) d (data-part s n) (elements-at (index-part s n) 0 e) rs x) (rw length-replicate room) ∙ length-replicate m false in
           record {
             frame = frame;
             elements = elements-at (index-part s n) 0 e;
@@ -370,7 +379,14 @@ module _ (k : ℕ) (ms : List Bool) (o : Outcome Image) (r : Inspected) (seen : 
       go (refused i) e = absurd (ok-not-refused _ i e)
       go (ok i) e =
           let x = same-value _ _ e in
-          record { image = i; is = refl; words = ap (λ (y : Overview). y .words) x; index-blocks = ap (λ (y : Overview). y .index-blocks) x; data-blocks = ap (λ (y : Overview). y .data-blocks) x; free = ap (λ (y : Overview). y .free) x }
+          record {
+            image = i;
+            is = refl;
+            words = ap (λ (y : Overview). y .words) x;
+            index-blocks = ap (λ (y : Overview). y .index-blocks) x;
+            data-blocks = ap (λ (y : Overview). y .data-blocks) x;
+            free = ap (λ (y : Overview). y .free) x;
+          }
 
 -- the four numbers of such an image
 pub sound-figures : (k : ℕ) (ms : List Bool) (o : Outcome Image) (w n d : ℕ) (v : SoundImage k ms o w n d) (c : ℕ) → c ≡ count-marks ms
@@ -378,5 +394,6 @@ pub sound-figures : (k : ℕ) (ms : List Bool) (o : Outcome Image) (w n d : ℕ)
 unfolding Calls.figures
 sound-figures k ms o w n d v c e =
     let i : Image = v .image in
-    let f : c ≡ count-marks (free-marks (i .frame .data-blocks) (i .free-list)) = e ∙ ap count-marks (v .free) ∙ count-behind (free-marks (i .frame .data-blocks) (i .free-list)) (k - i .frame .data-blocks) in
+    let f : c ≡ count-marks (free-marks (i .frame .data-blocks) (i .free-list))
+    = e ∙ ap count-marks (v .free) ∙ count-behind (free-marks (i .frame .data-blocks) (i .free-list)) (k - i .frame .data-blocks) in
     rw (v .words, v .index-blocks, v .data-blocks, f)

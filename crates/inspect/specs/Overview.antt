@@ -4,6 +4,7 @@ use mathlib.Core.Path.{_≡_}
 use mathlib.Core.Bool.{Bool, false}
 use mathlib.Core.List.{List, _++_}
 use lib.ListN.{length, take, drop, replicate}
+use Rattle.spec.specs.Order.{below-of}
 use Rattle.spec.specs.Outcome.{Outcome, refused, ok}
 use Rattle.spec.specs.Header.{layout4, format4, get}
 use Rattle.spec.specs.Run.{Run}
@@ -59,9 +60,9 @@ EndTold s (Inspected.Refused k) = Unit {0}
 pub record RunsRead (s : List ℕ) (n d words blocks : ℕ) (ms : List Bool) : Type 0 where
   pub frame : frame-from format4 s ≡ ok (frame4 n d)
   pub elements : List Element
-  pub index : index-from format4 n (get (layout4 .nindex2) s) (index-area (frame4 n d) s) ≡ ok elements
+  pub index : index-from 2 (below-of 0) n (get (layout4 .nindex2) s) (index-area (frame4 n d) s) ≡ ok elements
   pub runs : List Run
-  pub read : runs-from format4 d (data-part s n) elements ≡ ok runs
+  pub read : runs-from (below-of 0) d (data-part s n) elements ≡ ok runs
   pub words-are : words ≡ length (all-entries runs)
   pub blocks-are : blocks ≡ run-blocks runs
   pub marked : ms ≡ covered runs (replicate (length ms) false)

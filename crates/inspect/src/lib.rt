@@ -3,6 +3,7 @@ ghost use mathlib.Core.Path.{_≡_};
 ghost use mathlib.Core.Bool.{false};
 ghost use Prim.Native.Nat.{_+_, _*_, _%_, _≤_};
 ghost use lib.ListN.{length, replicate};
+ghost use Rattle.spec.specs.Order.{below-of};
 ghost use Rattle.spec.specs.Outcome.{ok, accepted};
 ghost use Rattle.spec.specs.Header.{format4};
 ghost use Rattle.spec.specs.Index.{index-from};
@@ -29,7 +30,7 @@ pub enum Inspected {
 
 // Where the n elements of an index of that many blocks end, if it keeps its rules: row 6.
 fn read_index(index: &[u8], blocks: usize, n: usize) -> Ended
-    ensures { λ r. ⌜ r ≡ ended (accepted (index-from format4 blocks n (now (index .entry)))) (elements-end (now (index .entry)) 0 n) ⌝ }
+    ensures { λ r. ⌜ r ≡ ended (accepted (index-from 2 (below-of 0) blocks n (now (index .entry)))) (elements-end (now (index .entry)) 0 n) ⌝ }
 {
     if blocks == 0 {
         if n == 0 {

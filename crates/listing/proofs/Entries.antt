@@ -7,11 +7,11 @@ use mathlib.Core.Option.{some}
 use native.Mathlib.Omega.{arith}
 use lib.ListN.{length, getD, take, drop, length-append}
 use lib.Seq.{length-take-le}
+use Rattle.spec.specs.Order.{HeadwordOrder}
 use Rattle.spec.specs.Outcome.{ok}
 use Rattle.spec.specs.Bytes as BytesSpec
 use Rattle.spec.specs.Bytes.{write, bytes-at, no-zero}
 use Rattle.spec.specs.Lists as ListsSpec
-use Rattle.spec.specs.Header.{Format}
 use Rattle.spec.specs.Entry.{Entry, attribute, text}
 use Rattle.spec.specs.Run.{Run, read-entry, entries-from}
 use Rattle.spec.specs.Listing as ListingSpec
@@ -42,23 +42,23 @@ unfolding ListingSpec.entry-lines
 entry-lines-none k r = refl
 
 -- the entries from `pos` on: their lines, stored from `at` on in what stands there now, are all lines of the run
-pub record Coming (F : Format) (run word : List ℕ) (len pos : ℕ) (r : Run) (out₀ out : List ℕ) (start at k ordinal : ℕ) : Type 0 where
+pub record Coming (below : HeadwordOrder) (run word : List ℕ) (len pos : ℕ) (r : Run) (out₀ out : List ℕ) (start at k ordinal : ℕ) : Type 0 where
   pub fuel : ℕ
   pub room : length run ≤ pos + fuel
   pub entries : List Entry
-  pub read : entries-from F (suc fuel) (take len word) (drop pos run) ≡ ok entries
+  pub read : entries-from below (suc fuel) (take len word) (drop pos run) ≡ ok entries
   pub lines : write at (entry-lines ordinal r entries) out ≡ write start (entry-lines k r (r .entries)) out₀
   pub place : at + length (entry-lines ordinal r entries) ≡ start + length (entry-lines k r (r .entries))
   pub count : ordinal + length entries ≡ k + length (r .entries)
 
-module _ (F : Format) (run word : List ℕ) (len pos : ℕ) (r : Run) (out₀ out : List ℕ) (start at k ordinal : ℕ) (v : Coming F run word len pos r out₀ out start at k ordinal) (st : Step)
-    (word′ : List ℕ) (step : step-entry run word′ st ≡ read-entry F (take len word) (drop pos run)) where
+module _ (below : HeadwordOrder) (run word : List ℕ) (len pos : ℕ) (r : Run) (out₀ out : List ℕ) (start at k ordinal : ℕ) (v : Coming below run word len pos r out₀ out start at k ordinal) (st : Step)
+    (word′ : List ℕ) (step : step-entry run word′ st ≡ read-entry below (take len word) (drop pos run)) where
   coming-fault : st ≡ Step.Broken → ⊥
-  coming-fault q = entries-unbroken F (v .fuel) (take len word) (drop pos run) (v .entries) (v .read) (told-broken F (take len word) (drop pos run) run word′ st step q)
+  coming-fault q = entries-unbroken below (v .fuel) (take len word) (drop pos run) (v .entries) (v .read) (told-broken below (take len word) (drop pos run) run word′ st step q)
 
   coming-end : st ≡ Step.End → (out ≡ write start (entry-lines k r (r .entries)) out₀) × (at ≡ start + length (entry-lines k r (r .entries))) × (ordinal ≡ k + length (r .entries))
   coming-end q =
-      let e : v .entries ≡ [] = entries-ended F (v .fuel) (take len word) (drop pos run) (v .entries) (v .read) (told-end F (take len word) (drop pos run) run word′ st step q) in
+      let e : v .entries ≡ [] = entries-ended below (v .fuel) (take len word) (drop pos run) (v .entries) (v .read) (told-end below (take len word) (drop pos run) run word′ st step q) in
       let l : entry-lines ordinal r (v .entries) ≡ [] = ap (entry-lines ordinal r) e ∙ entry-lines-none ordinal r in
       (sym (write-none out at) ∙ (rw l at (v .lines)), omega (arith, v .place, ap (λ (x : List ℕ). length x) l), omega (arith, v .count, ap (λ (x : List Entry). length x) e))
 
@@ -75,11 +75,11 @@ module _ (F : Format) (run word : List ℕ) (len pos : ℕ) (r : Run) (out₀ ou
     unfolding found
     its-line = fields-entry ordinal r found ∙ rw (attribute-in run (take n word′) z e body within, text-size)
 
-    coming-next : Coming F run word′ n e r out₀ out′ start at′ k (ordinal + 1)
+    coming-next : Coming below run word′ n e r out₀ out′ start at′ k (ordinal + 1)
     unfolding found
     coming-next =
-        let told : read-entry F (take len word) (drop pos run) ≡ ok (some (found, drop e run)) = told-entry F (take len word) (drop pos run) run word′ st step n z e q in
-        let (ds, u, w) = entries-more F (v .fuel) (take len word) (drop pos run) (v .entries) (v .read) found (drop e run) told in
+        let told : read-entry below (take len word) (drop pos run) ≡ ok (some (found, drop e run)) = told-entry below (take len word) (drop pos run) run word′ st step n z e q in
+        let (ds, u, w) = entries-more below (v .fuel) (take len word) (drop pos run) (v .entries) (v .read) found (drop e run) told in
         let x : List ℕ = fields-line ordinal (r .block) (r .size) (getD run (z + 1) 0) (e - (z + 2)) (take n word′) in
         let lx : length x ≡ 30 + length (take n word′) = fields-length ordinal (r .block) (r .size) (getD run (z + 1) 0) (e - (z + 2)) (take n word′) in
         let one : ordinal + 1 ≡ suc ordinal = omega arith in
@@ -98,7 +98,7 @@ module _ (F : Format) (run word : List ℕ) (len pos : ℕ) (r : Run) (out₀ ou
         }
 
 -- the loop over the entries of a run of n blocks at b
-pub record Printing (F : Format) (run word : List ℕ) (len pos b n : ℕ) (out₀ out : List ℕ) (start at k ordinal : ℕ) : Type 0 where
+pub record Printing (below : HeadwordOrder) (run word : List ℕ) (len pos b n : ℕ) (out₀ out : List ℕ) (start at k ordinal : ℕ) : Type 0 where
   pub inside : pos ≤ length run
   pub buffer : length word ≡ 256
   pub short : len ≤ 248
@@ -106,12 +106,13 @@ pub record Printing (F : Format) (run word : List ℕ) (len pos b n : ℕ) (out�
   pub kept : length out ≡ length out₀
   pub bound : at ≤ start + 56 * pos
   pub few : ordinal ≤ at
-  pub coming : (r : Run) → r .block ≡ b → r .size ≡ n → entries-from F (suc (length run)) [] (drop 2 run) ≡ ok (r .entries) → Coming F run word len pos r out₀ out start at k ordinal
+  pub coming : (r : Run) → r .block ≡ b → r .size ≡ n → entries-from below (suc (length run)) [] (drop 2 run) ≡ ok (r .entries) → Coming below run word len pos r out₀ out start at k ordinal
 
 -- no line is stored
-pub printing-start : (F : Format) (run word : List ℕ) (b n : ℕ) (out : List ℕ) (start k : ℕ) → 2 ≤ length run → length word ≡ 256 → k ≤ start → Printing F run word 0 2 b n out out start start k k
+pub printing-start : (below : HeadwordOrder) (run word : List ℕ) (b n : ℕ) (out : List ℕ) (start k : ℕ) → 2 ≤ length run → length word ≡ 256 → k ≤ start
+    → Printing below run word 0 2 b n out out start start k k
 unfolding BytesSpec.no-zero ListsSpec.all
-printing-start F run word b n out start k p l q =
+printing-start below run word b n out start k p l q =
     record {
       inside = p;
       buffer = l;
@@ -123,15 +124,15 @@ printing-start F run word b n out start k p l q =
       coming = λ r i j h. record { fuel = length run; room = omega arith; entries = r .entries; read = h; lines = refl; place = refl; count = refl };
     }
 
-module _ (F : Format) (run word : List ℕ) (len pos b n : ℕ) (out₀ out : List ℕ) (start at k ordinal : ℕ) (v : Printing F run word len pos b n out₀ out start at k ordinal) (st : Step)
-    (word′ : List ℕ) (step : step-entry run word′ st ≡ read-entry F (take len word) (drop pos run)) where
+module _ (below : HeadwordOrder) (run word : List ℕ) (len pos b n : ℕ) (out₀ out : List ℕ) (start at k ordinal : ℕ) (v : Printing below run word len pos b n out₀ out start at k ordinal) (st : Step)
+    (word′ : List ℕ) (step : step-entry run word′ st ≡ read-entry below (take len word) (drop pos run)) where
   -- a run with a fault is none
-  pub printing-broken : st ≡ Step.Broken → RunPrinted F b n run k start out₀ out (record { at = at; next = ordinal })
-  printing-broken q r i j h = absurd (coming-fault F run word len pos r out₀ out start at k ordinal (v .coming r i j h) st word′ step q)
+  pub printing-broken : st ≡ Step.Broken → RunPrinted below b n run k start out₀ out (record { at = at; next = ordinal })
+  printing-broken q r i j h = absurd (coming-fault below run word len pos r out₀ out start at k ordinal (v .coming r i j h) st word′ step q)
 
   -- all lines are stored
-  pub printing-end : st ≡ Step.End → RunPrinted F b n run k start out₀ out (record { at = at; next = ordinal })
-  printing-end q r i j h = coming-end F run word len pos r out₀ out start at k ordinal (v .coming r i j h) st word′ step q
+  pub printing-end : st ≡ Step.End → RunPrinted below b n run k start out₀ out (record { at = at; next = ordinal })
+  printing-end q r i j h = coming-end below run word len pos r out₀ out start at k ordinal (v .coming r i j h) st word′ step q
 
   module _ (l z e : ℕ) (q : st ≡ Step.Entry l z e) (places : Inside pos run st) where
     told : (pos + 3 ≤ z) × (z + 2 ≤ e) × (e ≤ length run) × (e ≤ z + 3002) × (1 ≤ l) × (l ≤ 248)
@@ -157,16 +158,17 @@ module _ (F : Format) (run word : List ℕ) (len pos b n : ℕ) (out₀ out : Li
 
         -- one line more
         pub printing-next : (at′ : ℕ) (out′ : List ℕ) → at′ ≡ at + 30 + length (take l word′) → out′ ≡ write at (fields-line ordinal b n (getD run (z + 1) 0) (e - (z + 2)) (take l word′)) out
-            → length out′ ≡ length out → Printing F run word′ l e b n out₀ out′ start at′ k (ordinal + 1)
+            → length out′ ≡ length out → Printing below run word′ l e b n out₀ out′ start at′ k (ordinal + 1)
         printing-next at′ out′ ends stored same′ =
             record {
               inside = told .2;
               buffer = same ∙ v .buffer;
               short = told .5;
-              clean = told-no-zero F (take len word) (drop pos run) run word′ st step l z e q;
+              clean = told-no-zero below (take len word) (drop pos run) run word′ st step l z e q;
               kept = same′ ∙ v .kept;
               bound = omega (arith, printing-word, told .5, told .0, told .1, v .bound);
               few = omega (arith, v .few);
-              coming = λ r i j h. coming-next F run word len pos r out₀ out start at k ordinal (v .coming r i j h) st word′ step l z e q (told .1) (told .2) (omega (arith, told .0, told .1)) at′ out′
-                  (omega (arith, v .bound, v .inside, v .kept)) (rw (i, j) stored) ends;
+              coming =
+                  λ r i j h. coming-next below run word len pos r out₀ out start at k ordinal (v .coming r i j h) st word′ step l z e q
+                  (told .1) (told .2) (omega (arith, told .0, told .1)) at′ out′ (omega (arith, v .bound, v .inside, v .kept)) (rw (i, j) stored) ends;
             }

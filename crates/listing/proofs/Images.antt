@@ -7,6 +7,7 @@ use native.Mathlib.Omega.{arith}
 use lib.ListN.{length, length-append}
 use lib.Seq.{take-length}
 use borrow.Author.Tests.{lt-ltb, le-ltb, not-true, not-false}
+use Rattle.spec.specs.Order.{below-of}
 use Rattle.spec.specs.Outcome.{refused, ok, accepted}
 use Rattle.spec.specs.Bytes.{write}
 use Rattle.spec.specs.Header as HeaderSpec
@@ -18,13 +19,13 @@ use Rattle.spec.specs.Calls as CallsSpec
 use Rattle.spec.specs.Calls.{Figures, figures}
 use Rattle.spec.specs.Listing as ListingSpec
 use Rattle.spec.specs.Listing.{first-line, run-lines, image-lines, listing}
-use Rattle.spec.proofs.ListsLaws.{All}
+use Rattle.spec.specs.Lists.{All}
 use Rattle.spec.proofs.CountLaws.{blocks-once}
 use Rattle.spec.proofs.ReadLaws.{free-list-below, image-told, runs-inside}
 use Rattle.index.specs.Elements.{elements-at, Inside}
 use Rattle.header.proofs.Laws.{slice-refused, slice-accepted, slice-has-header, slice-in-blocks}
-use Rattle.inspect.specs.Overview.{viewed, overview, AcceptedImage}
-use Rattle.inspect.proofs.Laws.{index-part, data-part, overview-refused, overview-sound, sound-figures}
+use Rattle.inspect.specs.Overview.{viewed, overview, AcceptedImage, index-part, data-part}
+use Rattle.inspect.proofs.Laws.{overview-refused, overview-sound, sound-figures}
 use Rattle.inspect.proofs.Accepted as Parts
 use Rattle.inspect.specs.declared.Inspected.{Inspected}
 use Rattle.listing.specs.Lines.{numbers, Printable, AllPrinted, Accepted, listed}
@@ -56,7 +57,7 @@ module _ (s : List ℕ) (w n d f : ℕ) (a : Accepted s (numbers w n d f)) where
     pub accepted-inside : Inside (index-part s n) 0 e
     accepted-inside = Parts.accepted-inside s n d parts e number
 
-    runs-read : runs-from format4 d (data-part s n) (elements-at (index-part s n) 0 e) ≡ ok (a .0 .runs)
+    runs-read : runs-from (below-of 0) d (data-part s n) (elements-at (index-part s n) 0 e) ≡ ok (a .0 .runs)
     unfolding parts
     runs-read = Parts.accepted-runs s n d parts e number
 
@@ -74,16 +75,16 @@ module _ (s : List ℕ) (w n d f : ℕ) (a : Accepted s (numbers w n d f)) where
         subst (λ (x : ℕ). All (λ b. b < x) (a .0 .free-list)) p (free-list-below _ _ _ _ (a .0 .free-list) (image-told format4 s (a .0) (a .1) .free-list))
 
     few : run-blocks (a .0 .runs) ≤ d
-    few = omega (arith, blocks-once d (a .0 .runs) (a .0 .free-list) its-once (runs-inside format4 d (data-part s n) (elements-at (index-part s n) 0 e) (a .0 .runs) runs-read) free-below)
+    few = omega (arith, blocks-once d (a .0 .runs) (a .0 .free-list) its-once (runs-inside (below-of 0) d (data-part s n) (elements-at (index-part s n) 0 e) (a .0 .runs) runs-read) free-below)
 
     -- the lines of its runs have room
     pub accepted-room : (start room : ℕ) → start ≡ 25 → length s % 256 ≡ 0 → length s ≤ 65_536 → (room′ : ℕ) → room′ ≡ room → 4_000_000 ≤ room
-        → Printable format4 d (data-part s n) (elements-at (index-part s n) 0 e) start room′
+        → Printable (below-of 0) d (data-part s n) (elements-at (index-part s n) 0 e) start room′
     accepted-room start room z m small room′ k p = (a .0 .runs, runs-read, omega (arith, few, Parts.accepted-whole s n d parts m))
 
     -- its first line and the lines of its runs are its list:
     module _ (start : ℕ) (out out₁ out₂ : List ℕ) (r : ℕ) (z : start ≡ 25) (p : out₁ ≡ write 0 (first-line (numbers w n d f)) out)
-        (q : AllPrinted format4 d (data-part s n) (elements-at (index-part s n) 0 e) start out₁ out₂ r) where
+        (q : AllPrinted (below-of 0) d (data-part s n) (elements-at (index-part s n) 0 e) start out₁ out₂ r) where
       first : List ℕ
       first = first-line (numbers w n d f)
 

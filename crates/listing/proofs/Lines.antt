@@ -60,7 +60,8 @@ module _ (d₀ d : List ℕ) (at w n left m : ℕ) (h : write at (digits false l
       sym (write-none d at) ∙ (rw k at h)
 
 -- a column by its last digit and those in front of it
-pub column-by : (d d₁ d₂ : List ℕ) (at w n b : ℕ) → 1 ≤ w → at + w ≤ length d → b ≡ 48 + n % 10 → d₁ ≡ write at (digits false (w - 1) (n / 10)) d → d₂ ≡ write (at + (w - 1)) (b ∷ []) d₁ → d₂ ≡ write at (column w n) d
+pub column-by : (d d₁ d₂ : List ℕ) (at w n b : ℕ) → 1 ≤ w → at + w ≤ length d → b ≡ 48 + n % 10 → d₁ ≡ write at (digits false (w - 1) (n / 10)) d
+    → d₂ ≡ write (at + (w - 1)) (b ∷ []) d₁ → d₂ ≡ write at (column w n) d
 unfolding digits column
 column-by d d₁ d₂ at w n b p q e u v =
     let k : suc (w - 1) ≡ w = omega arith in
@@ -89,7 +90,8 @@ unfolding ListingSpec.first-line ListingSpec.line
 first-length w i a f = rw (length-append, length-append, length-append, length-append, column-length 6 w, column-length 6 i, column-length 6 a, column-length 6 f)
 
 -- its columns, stored one after the other
-pub first-by : (d d₁ d₂ d₃ d₄ d₅ : List ℕ) (w i a f : ℕ) → d₁ ≡ write 0 (column 6 w) d → d₂ ≡ write 6 (column 6 i) d₁ → d₃ ≡ write 12 (column 6 a) d₂ → d₄ ≡ write 18 (column 6 f) d₃ → d₅ ≡ write 24 (10 ∷ []) d₄
+pub first-by : (d d₁ d₂ d₃ d₄ d₅ : List ℕ) (w i a f : ℕ) → d₁ ≡ write 0 (column 6 w) d → d₂ ≡ write 6 (column 6 i) d₁ → d₃ ≡ write 12 (column 6 a) d₂
+    → d₄ ≡ write 18 (column 6 f) d₃ → d₅ ≡ write 24 (10 ∷ []) d₄
     → d₅ ≡ write 0 (first-line (numbers w i a f)) d
 unfolding ListingSpec.first-line ListingSpec.line
 first-by d d₁ d₂ d₃ d₄ d₅ w i a f p₁ p₂ p₃ p₄ p₅ =

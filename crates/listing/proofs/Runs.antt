@@ -4,9 +4,9 @@ use mathlib.Core.Path.{_≡_, refl, sym, ap, _∙_}
 use mathlib.Core.List.{List, [], _∷_, _++_}
 use native.Mathlib.Omega.{arith}
 use lib.ListN.{length, drop, length-append}
+use Rattle.spec.specs.Order.{HeadwordOrder}
 use Rattle.spec.specs.Outcome.{ok}
 use Rattle.spec.specs.Bytes.{from-little-endian, write, bytes-at}
-use Rattle.spec.specs.Header.{Format}
 use Rattle.spec.specs.Run.{Run, entries-from}
 use Rattle.spec.specs.Index.{Element}
 use Rattle.spec.specs.Blocks as BlocksSpec
@@ -40,30 +40,31 @@ unfolding BlocksSpec.run-blocks
 blocks-cons r rs = refl
 
 -- the runs of the elements from `place` on: their lines, stored from `at` on in what stands there now, are the lines of all runs
-pub record Walking (F : Format) (index area : List ℕ) (n D : ℕ) (out₀ out : List ℕ) (start at ordinal place left : ℕ) : Type 0 where
+pub record Walking (below : HeadwordOrder) (index area : List ℕ) (n D : ℕ) (out₀ out : List ℕ) (start at ordinal place left : ℕ) : Type 0 where
   pub standing : Inside index place left
   pub kept : length out ≡ length out₀
   pub few : ordinal ≤ at
   pub all : List Run
-  pub all-read : runs-from F D area (elements-at index 0 n) ≡ ok all
+  pub all-read : runs-from below D area (elements-at index 0 n) ≡ ok all
   pub rest : List Run
-  pub read : runs-from F D area (elements-at index place left) ≡ ok rest
+  pub read : runs-from below D area (elements-at index place left) ≡ ok rest
   pub room : at + 14_336 * run-blocks rest ≤ length out₀
   pub lines : write at (run-lines ordinal rest) out ≡ write start (run-lines 1 all) out₀
   pub ends : at + length (run-lines ordinal rest) ≡ start + length (run-lines 1 all)
 
 -- no line is stored
-pub walking-start : (F : Format) (index area : List ℕ) (n D : ℕ) (out : List ℕ) (start : ℕ) → Inside index 0 n → 1 ≤ start → Printable F D area (elements-at index 0 n) start (length out)
-    → Walking F index area n D out out start start 1 0 n
-walking-start F index area n D out start p q (rs, h, room) = record { standing = p; kept = refl; few = q; all = rs; all-read = h; rest = rs; read = h; room = room; lines = refl; ends = refl }
+pub walking-start : (below : HeadwordOrder) (index area : List ℕ) (n D : ℕ) (out : List ℕ) (start : ℕ) → Inside index 0 n → 1 ≤ start
+    → Printable below D area (elements-at index 0 n) start (length out)
+    → Walking below index area n D out out start start 1 0 n
+walking-start below index area n D out start p q (rs, h, room) = record { standing = p; kept = refl; few = q; all = rs; all-read = h; rest = rs; read = h; room = room; lines = refl; ends = refl }
 
-module _ (F : Format) (index area : List ℕ) (n D : ℕ) (out₀ out : List ℕ) (start at ordinal place left : ℕ) (v : Walking F index area n D out₀ out start at ordinal place left) where
+module _ (below : HeadwordOrder) (index area : List ℕ) (n D : ℕ) (out₀ out : List ℕ) (start at ordinal place left : ℕ) (v : Walking below index area n D out₀ out start at ordinal place left) where
   -- all lines are stored
-  pub walking-end : left ≤ 0 → AllPrinted F D area (elements-at index 0 n) start out₀ out at
+  pub walking-end : left ≤ 0 → AllPrinted below D area (elements-at index 0 n) start out₀ out at
   unfolding ElementsSpec.elements-at
   walking-end p rs h =
       let z : left ≡ 0 = omega arith in
-      let e : v .rest ≡ [] = no-runs F D area (v .rest) (rw z at (v .read)) in
+      let e : v .rest ≡ [] = no-runs below D area (v .rest) (rw z at (v .read)) in
       let l : run-lines ordinal (v .rest) ≡ [] = ap (run-lines ordinal) e ∙ no-lines ordinal in
       let s : v .all ≡ rs = same-value (v .all) rs (sym (v .all-read) ∙ h) in
       rw (← s) (sym (write-none out at) ∙ (rw l at (v .lines)), omega (arith, v .ends, ap (λ (x : List ℕ). length x) l))
@@ -72,9 +73,9 @@ module _ (F : Format) (index area : List ℕ) (n D : ℕ) (out₀ out : List ℕ
     others : List Element
     others = elements-at index (element-end index place + 1) (left - 1)
 
-    first : (r : Run) × (rs : List Run) × (v .rest ≡ r ∷ rs) × RunTold F D area (element-at index place) (next-headword others) r × (runs-from F D area others ≡ ok rs)
+    first : (r : Run) × (rs : List Run) × (v .rest ≡ r ∷ rs) × RunTold below D area (element-at index place) (next-headword others) r × (runs-from below D area others ≡ ok rs)
     unfolding others
-    first = runs-told F D area (element-at index place) others (v .rest) (ap (runs-from F D area) (sym (elements-next index place left p)) ∙ v .read)
+    first = runs-told below D area (element-at index place) others (v .rest) (ap (runs-from below D area) (sym (elements-next index place left p)) ∙ v .read)
 
     its-block : first .0 .block ≡ b
     unfolding ElementsSpec.element-at
@@ -104,15 +105,15 @@ module _ (F : Format) (index area : List ℕ) (n D : ℕ) (out₀ out : List ℕ
       pub walking-room : at + 56 * length (run-slice area b size) ≤ length out
       walking-room = omega (arith, slice-length, its-size, v .room, v .kept, ap run-blocks (first .2), blocks-cons (first .0) (first .1))
 
-      its-entries : entries-from F (suc (length (run-slice area b size))) [] (drop 2 (run-slice area b size)) ≡ ok (first .0 .entries)
+      its-entries : entries-from below (suc (length (run-slice area b size))) [] (drop 2 (run-slice area b size)) ≡ ok (first .0 .entries)
       its-entries =
           let e : first .0 .bytes ≡ run-slice area b size = first .3 .bytes ∙ rw (its-block, its-size) (sym (slice-same area b size)) in
           rw e at (first .3 .read)
 
       -- the lines of one run more
-      pub walking-next : (out′ : List ℕ) (printed : Printed) → RunPrinted F b size (run-slice area b size) ordinal at out out′ printed → printed .next ≤ printed .at → length out′ ≡ length out
+      pub walking-next : (out′ : List ℕ) (printed : Printed) → RunPrinted below b size (run-slice area b size) ordinal at out out′ printed → printed .next ≤ printed .at → length out′ ≡ length out
           → printed .at ≤ at + 56 * length (run-slice area b size) → (end : ℕ) → end ≡ element-end index place
-          → Walking F index area n D out₀ out′ start (printed .at) (printed .next) (end + 1) (left - 1)
+          → Walking below index area n D out₀ out′ start (printed .at) (printed .next) (end + 1) (left - 1)
       unfolding others
       walking-next out′ printed told few′ same most end z =
           let r : Run = first .0 in
@@ -130,6 +131,8 @@ module _ (F : Format) (index area : List ℕ) (n D : ℕ) (out₀ out : List ℕ
             rest = rs;
             read = rw z (first .4);
             room = omega (arith, slice-length, its-size, v .room, ap run-blocks (first .2), blocks-cons r rs);
-            lines = ap (write (printed .at) y) u ∙ ap (λ (i : ℕ). write i y (write at x out)) w ∙ write-behind out x y at (omega (arith, v .room, v .kept)) ∙ ap (λ (l : List ℕ). write at l out) (sym all′) ∙ v .lines;
+            lines =
+                ap (write (printed .at) y) u ∙ ap (λ (i : ℕ). write i y (write at x out)) w ∙ write-behind out x y at (omega (arith, v .room, v .kept))
+                ∙ ap (λ (l : List ℕ). write at l out) (sym all′) ∙ v .lines;
             ends = omega (arith, v .ends, w, ap (λ (l : List ℕ). length l) all′, length-append x y);
           }

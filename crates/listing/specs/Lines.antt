@@ -5,9 +5,9 @@ use mathlib.Core.Bool.{true, false}
 use mathlib.Core.List.{List, [], _∷_, _++_}
 use lib.ListN.{length, drop}
 use lib.Dec.{ltb}
+use Rattle.spec.specs.Order.{HeadwordOrder}
 use Rattle.spec.specs.Outcome.{ok}
 use Rattle.spec.specs.Bytes.{write}
-use Rattle.spec.specs.Header.{Format}
 use Rattle.spec.specs.Run.{Run, entries-from}
 use Rattle.spec.specs.Index.{Element}
 use Rattle.spec.specs.Blocks.{run-blocks}
@@ -30,19 +30,19 @@ numbers h i d f = record { headwords = h; index-blocks = i; data-blocks = d; fre
 
 -- the lines of the run of n blocks at block b, whose bytes these are, the first with the ordinal k, stand in out′ from `start` on;
 -- the answer says where they end, and which ordinal is next
-abbrev pub RunPrinted : Format → ℕ → ℕ → List ℕ → ℕ → ℕ → List ℕ → List ℕ → Printed → Type 0
-RunPrinted F b n run k start out out′ p =
-    (r : Run) → r .block ≡ b → r .size ≡ n → entries-from F (suc (length run)) [] (drop 2 run) ≡ ok (r .entries)
+abbrev pub RunPrinted : HeadwordOrder → ℕ → ℕ → List ℕ → ℕ → ℕ → List ℕ → List ℕ → Printed → Type 0
+RunPrinted below b n run k start out out′ p =
+    (r : Run) → r .block ≡ b → r .size ≡ n → entries-from below (suc (length run)) [] (drop 2 run) ≡ ok (r .entries)
     → (out′ ≡ write start (entry-lines k r (r .entries)) out) × (p .at ≡ start + length (entry-lines k r (r .entries))) × (p .next ≡ k + length (r .entries))
 
 -- runs that are read without a refusal, and whose lines have room from `start` on: an entry takes at least 5 bytes of its run and its line
 -- at most 278, so that a byte of a run has at most 56 bytes of lines, and a block 14,336
-abbrev pub Printable : Format → ℕ → List ℕ → List Element → ℕ → ℕ → Type 0
-Printable F D area es start room = (rs : List Run) × (runs-from F D area es ≡ ok rs) × (start + 14_336 * run-blocks rs ≤ room)
+abbrev pub Printable : HeadwordOrder → ℕ → List ℕ → List Element → ℕ → ℕ → Type 0
+Printable below D area es start room = (rs : List Run) × (runs-from below D area es ≡ ok rs) × (start + 14_336 * run-blocks rs ≤ room)
 
 -- the lines of these runs, the first with the ordinal 1, stand in out′ from `start` up to `end`
-abbrev pub AllPrinted : Format → ℕ → List ℕ → List Element → ℕ → List ℕ → List ℕ → ℕ → Type 0
-AllPrinted F D area es start out out′ end = (rs : List Run) → runs-from F D area es ≡ ok rs → (out′ ≡ write start (run-lines 1 rs) out) × (end ≡ start + length (run-lines 1 rs))
+abbrev pub AllPrinted : HeadwordOrder → ℕ → List ℕ → List Element → ℕ → List ℕ → List ℕ → ℕ → Type 0
+AllPrinted below D area es start out out′ end = (rs : List Run) → runs-from below D area es ≡ ok rs → (out′ ≡ write start (run-lines 1 rs) out) × (end ≡ start + length (run-lines 1 rs))
 
 -- an accepted image with these four numbers
 abbrev pub Accepted : List ℕ → Figures → Type 0

@@ -4,9 +4,9 @@ ghost use mathlib.Core.Bool.{false, cond, not};
 ghost use Prim.Native.Nat.{_+_, _-_, _*_, _%_, _≤_, _<_};
 ghost use lib.ListN.{length, getD};
 ghost use lib.Dec.{eqb};
+ghost use Rattle.spec.specs.Order.{below-of};
 ghost use Rattle.spec.specs.Bytes.{write};
 ghost use Rattle.spec.specs.Outcome.{refused};
-ghost use Rattle.spec.specs.Header.{format4};
 ghost use Rattle.spec.specs.Check.{image-from};
 ghost use Rattle.spec.specs.Listing.{digits, column, first-line, image-lines, listing};
 ghost use Rattle.listing.specs.Lines.{entry-numbers, fields-line, numbers, RunPrinted, Printable, AllPrinted, Accepted, listed};
@@ -160,7 +160,7 @@ fn run_lines(
     run: &[u8],
 ) -> Printed
     requires { ⌜ (2 ≤ length (now run)) × (k ≤ start) × (start + 56 * length (now run) ≤ length (now out)) ⌝ }
-    ensures { λ r. ⌜ RunPrinted format4 block blocks (now (run .entry)) k start (now (out .entry)) (now (out .exit)) r ⌝ }
+    ensures { λ r. ⌜ RunPrinted (below-of 0) block blocks (now (run .entry)) k start (now (out .entry)) (now (out .exit)) r ⌝ }
     ensures { λ r. ⌜ (r .next ≤ r .at) × (r .at ≤ start + 56 * length (now (run .entry))) ⌝ }
     ensures { λ _. ⌜ length (now (out .exit)) ≡ length (now (out .entry)) ⌝ }
 {
@@ -208,8 +208,8 @@ fn run_lines(
 fn all_lines(out: &mut [u8], start: usize, index: &[u8], n: usize, area: &[u8], d: usize) -> usize
     requires { ⌜ Inside (now index) 0 n ⌝ }
     requires { ⌜ (1 ≤ start) × (256 * d ≡ length (now area)) ⌝ }
-    requires { ⌜ Printable format4 d (now area) (elements-at (now index) 0 n) start (length (now out)) ⌝ }
-    ensures { λ r. ⌜ AllPrinted format4 d (now (area .entry)) (elements-at (now (index .entry)) 0 n) start (now (out .entry)) (now (out .exit)) r ⌝ }
+    requires { ⌜ Printable (below-of 0) d (now area) (elements-at (now index) 0 n) start (length (now out)) ⌝ }
+    ensures { λ r. ⌜ AllPrinted (below-of 0) d (now (area .entry)) (elements-at (now (index .entry)) 0 n) start (now (out .entry)) (now (out .exit)) r ⌝ }
     ensures { λ r. ⌜ r ≤ length (now (out .entry)) ⌝ }
 {
     let mut at = start;

@@ -11,7 +11,8 @@ use borrow.Author.Tests.{lt-ltb, le-ltb, eq-eqb, ne-eqb, eqb-true, eqb-false}
 use Rattle.spec.specs.Bytes.{from-little-endian, bytes-at, write}
 use Rattle.spec.specs.Blocks.{best-fit}
 use Rattle.spec.specs.Index.{Element}
-use Rattle.spec.proofs.ListsLaws.{All, all-map, all-front, all-back}
+use Rattle.spec.specs.Lists.{All}
+use Rattle.spec.proofs.ListsLaws.{all-map, all-front, all-back}
 use Rattle.index.specs.Elements.{element-end, element-at, elements-at}
 use Rattle.index.proofs.Laws.{elements-next}
 use Rattle.marks.specs.Marks.{with-range}
@@ -295,7 +296,8 @@ module _ (area : List ℕ) (d g end : ℕ) (T₀ : List ℕ) (ms₀ : List Bool)
         ≡ tabled rest (spread g (now-at .end) (now-at .free) (map (size-at area d) rest) .places) (tabled here (now-at .places) T)
     tables =
         rw (sizes, spread-append-places g e ms (map (size-at area d) here) (map (size-at area d) rest), starts-next T b g h)
-        (tabled-append here rest (now-at .places) (spread g (now-at .end) (now-at .free) (map (size-at area d) rest) .places) T (length-places g e ms (map (size-at area d) here) ∙ length-map here (size-at area d)))
+        (tabled-append here rest (now-at .places) (spread g (now-at .end) (now-at .free) (map (size-at area d) rest) .places) T
+        (length-places g e ms (map (size-at area d) here) ∙ length-map here (size-at area d)))
 
     -- after one block the others
     pub place-turn : Placing area d g end T₀ ms₀ e₁ (b + 1) T₁ ms₁

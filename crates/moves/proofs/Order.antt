@@ -9,12 +9,13 @@ use lib.ListN.{length, getD, set, replicate, length-set, length-replicate, getD-
 use lib.Seq.{getD-set-same, getD-set-other, set-out}
 use lib.Dec.{leb, ltb, eqb}
 use borrow.Author.Tests.{le-leb, lt-leb, ltb-true, ltb-false, eq-eqb, ne-eqb, eqb-true, eqb-false}
-use Rattle.spec.specs.Lists.{any, filter, range-from}
+use Rattle.spec.specs.Lists.{any, filter, range-from, All}
 use Rattle.spec.specs.Run.{Run}
 use Rattle.spec.specs.Blocks.{covers}
 use Rattle.spec.specs.Place.{by-number, in-number-order, touches, moves, new-number}
-use Rattle.spec.proofs.ListsLaws.{All, all-true, all-map, less-or, or-right, or-neither, or-false, filter-yes, filter-no, filter-nothing, all-range, range-some}
-use Rattle.spec.proofs.BlocksLaws.{Apart, Laid, covers-inside, covers-outside}
+use Rattle.spec.proofs.ListsLaws.{all-true, all-map, less-or, or-right, or-neither, or-false, filter-yes, filter-no, filter-nothing, all-range, range-some}
+use Rattle.spec.specs.Sound.{Apart, Laid}
+use Rattle.spec.proofs.BlocksLaws.{covers-inside, covers-outside}
 use Rattle.spec.proofs.LaidLaws.{Sized}
 use Rattle.spec.proofs.FreeListLaws.{Ascending, filter-ascending}
 use Rattle.placing.specs.Spread.{spread}
@@ -119,7 +120,8 @@ by-number-blocks r [] = refl
 by-number-blocks r (q ∷ rs) = go (leb (r .block) (q .block)) refl (by-number-blocks r rs)
   where
     go : (t : Bool) → leb (r .block) (q .block) ≡ t → map (λ p. p .block) (by-number r rs) ≡ insert (r .block) (map (λ p. p .block) rs)
-        → map (λ (p : Run). p .block) (elim t as (λ y. List Run) [ true ↦ r ∷ q ∷ rs | false ↦ q ∷ by-number r rs ]) ≡ elim t as (λ y. List ℕ) [ true ↦ r .block ∷ q .block ∷ map (λ p. p .block) rs | false ↦ q .block ∷ insert (r .block) (map (λ p. p .block) rs) ]
+        → map (λ (p : Run). p .block) (elim t as (λ y. List Run) [ true ↦ r ∷ q ∷ rs | false ↦ q ∷ by-number r rs ])
+        ≡ elim t as (λ y. List ℕ) [ true ↦ r .block ∷ q .block ∷ map (λ p. p .block) rs | false ↦ q .block ∷ insert (r .block) (map (λ p. p .block) rs) ]
     go true e ih = refl
     go false e ih = ap (λ (l : List ℕ). q .block ∷ l) ih
 
@@ -268,7 +270,8 @@ unfolding tabled
 tabled-has [] ps T h k c = refl
 tabled-has (b ∷ bs) [] T h k c = refl
 tabled-has (b ∷ bs) (p ∷ ps) T (h, hs) (k, ks) c =
-    tabled-has bs ps (set T b p) hs (all-map (λ a. getD T a 0 ≡ 0 → ⊥) (λ a. getD (set T b p) a 0 ≡ 0 → ⊥) (λ a n z. n (eqb-true (getD T a 0) 0 (sym (set-has T b p a k h) ∙ eq-eqb (getD (set T b p) a 0) 0 z))) bs ks) c
+    tabled-has bs ps (set T b p) hs (all-map (λ a. getD T a 0 ≡ 0 → ⊥) (λ a. getD (set T b p) a 0 ≡ 0 → ⊥)
+    (λ a n z. n (eqb-true (getD T a 0) 0 (sym (set-has T b p a k h) ∙ eq-eqb (getD (set T b p) a 0) 0 z))) bs ks) c
     ∙ set-has T b p c k h
 
 -- places that are not 0, tabled where runs start, do not change where runs start

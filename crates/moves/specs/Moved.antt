@@ -1,11 +1,12 @@
 -- The runs that start among the first g blocks, by a table of these blocks.
 use Prim.Native.Nat.{ℕ, zero, suc, _-_, _*_, min, max}
 use mathlib.Core.Bool.{Bool, true, false}
-use mathlib.Core.List.{List, [], _∷_}
+use mathlib.Core.List.{List, [], _∷_, map}
 use lib.ListN.{getD, set}
 use lib.Dec.{ltb, eqb}
 use Rattle.spec.specs.Bytes.{from-little-endian, bytes-at, write}
 use Rattle.marks.specs.Marks.{with-range}
+use Rattle.placing.specs.Spread.{Spread, spread}
 
 -- the table with 1 at each of these blocks that is below g
 unfoldable pub noted : ℕ → List ℕ → List ℕ → List ℕ
@@ -25,6 +26,10 @@ size-at area D b = max 1 (min (from-little-endian (bytes-at (256 * b) 2 area)) (
 unfoldable pub freed : List ℕ → ℕ → List ℕ → List Bool → List Bool
 freed area D [] ms = ms
 freed area D (b ∷ bs) ms = freed area D bs (with-range b (size-at area D b) true ms)
+
+-- the runs at these blocks of D placed in order among the blocks g to end − 1, or from `end` on
+abbrev pub moved-to : List ℕ → ℕ → ℕ → ℕ → List Bool → List ℕ → Spread
+moved-to area D g end ms bs = spread g end ms (map (size-at area D) bs)
 
 -- the table with the places of the runs at these blocks
 unfoldable pub tabled : List ℕ → List ℕ → List ℕ → List ℕ

@@ -6,9 +6,9 @@ ghost use Prim.Native.Nat.{_+_, _*_, _≤_, _<_};
 ghost use lib.ListN.{length, getD};
 ghost use Rattle.index.specs.Elements.{elements-at, Inside};
 ghost use Rattle.marks.specs.Marks.{marks};
-ghost use Rattle.placing.specs.Spread.{spread, Within};
-ghost use Rattle.spec.proofs.ListsLaws.{All};
-ghost use Rattle.moves.specs.Moved.{noted, starts, size-at, freed, tabled, moved-written};
+ghost use Rattle.placing.specs.Spread.{Within};
+ghost use Rattle.spec.specs.Lists.{All};
+ghost use Rattle.moves.specs.Moved.{noted, starts, size-at, freed, moved-to, tabled, moved-written};
 use byteops::read_u16;
 use index::element_end;
 
@@ -95,12 +95,10 @@ fn place_one(
 ) -> usize
     requires { ⌜ (256 * d ≤ length (now area)) × (d ≤ 65536) × (b < g) × (g ≤ 32767) × (g ≤ length (now numbers)) ⌝ }
     requires { ⌜ (g ≤ end) × (end ≤ 98304) × (2560 ≤ length (now free)) ⌝ }
-    ensures { λ r. ⌜ r ≡ spread g end (marks (now (free .entry))) (map (size-at (now (area .entry)) d) (starts b 1 (now (numbers .entry)))) .end ⌝ }
-    ensures { λ r. ⌜ marks (now (free .exit)) ≡ spread g end (marks (now (free .entry))) (map (size-at (now (area .entry)) d) (starts b 1 (now (numbers .entry)))) .free ⌝ }
-    ensures { λ r. ⌜ now (numbers .exit)
-        ≡ tabled (starts b 1 (now (numbers .entry)))
-        (spread g end (marks (now (free .entry))) (map (size-at (now (area .entry)) d) (starts b 1 (now (numbers .entry)))) .places)
-        (now (numbers .entry)) ⌝ }
+    ensures { λ r. ⌜ r ≡ moved-to (now (area .entry)) d g end (marks (now (free .entry))) (starts b 1 (now (numbers .entry))) .end ⌝ }
+    ensures { λ r. ⌜ marks (now (free .exit)) ≡ moved-to (now (area .entry)) d g end (marks (now (free .entry))) (starts b 1 (now (numbers .entry))) .free ⌝ }
+    ensures { λ r. ⌜ now (numbers .exit) ≡ tabled (starts b 1 (now (numbers .entry)))
+        (moved-to (now (area .entry)) d g end (marks (now (free .entry))) (starts b 1 (now (numbers .entry))) .places) (now (numbers .entry)) ⌝ }
     ensures { λ r. ⌜ (length (now (free .exit)) ≡ length (now (free .entry))) × (length (now (numbers .exit)) ≡ length (now (numbers .entry))) × (end ≤ r) ⌝ }
 {
     if numbers[b] == 0 {
@@ -124,12 +122,9 @@ pub fn place_moved(
 ) -> usize
     requires { ⌜ (256 * d ≤ length (now area)) × (d ≤ 65536) × (g ≤ 32767) × (g ≤ length (now numbers)) ⌝ }
     requires { ⌜ (g ≤ end) × (end ≤ limit) × (limit ≤ 98304) × (2560 ≤ length (now free)) ⌝ }
-    ensures { λ r. ⌜ Within limit (spread g end (marks (now (free .entry))) (map (size-at (now (area .entry)) d) (starts 0 g (now (numbers .entry))))) r (marks (now (free .exit))) ⌝ }
-    ensures { λ r. ⌜ (r ≤ limit
-        → now (numbers .exit)
-        ≡ tabled (starts 0 g (now (numbers .entry)))
-        (spread g end (marks (now (free .entry))) (map (size-at (now (area .entry)) d) (starts 0 g (now (numbers .entry)))) .places)
-        (now (numbers .entry))) ⌝ }
+    ensures { λ r. ⌜ Within limit (moved-to (now (area .entry)) d g end (marks (now (free .entry))) (starts 0 g (now (numbers .entry)))) r (marks (now (free .exit))) ⌝ }
+    ensures { λ r. ⌜ (r ≤ limit → now (numbers .exit) ≡ tabled (starts 0 g (now (numbers .entry)))
+        (moved-to (now (area .entry)) d g end (marks (now (free .entry))) (starts 0 g (now (numbers .entry))) .places) (now (numbers .entry))) ⌝ }
     ensures { λ r. ⌜ (length (now (free .exit)) ≡ length (now (free .entry))) × (length (now (numbers .exit)) ≡ length (now (numbers .entry))) × (end ≤ r) ⌝ }
 {
     let mut last = end;

@@ -7,13 +7,12 @@ use native.Mathlib.Omega.{arith}
 use lib.ListN.{length, take, drop, length-append, length-take, length-drop, take-append-drop, drop-of-length-le}
 use lib.Seq.{length-take-le, take-all, drop-drop}
 use Rattle.spec.specs.Bytes.{write, bytes-at, no-zero, blocks-for}
-use Rattle.spec.specs.Header.{format4}
 use Rattle.spec.specs.Entry.{Entry, entry-bytes}
 use Rattle.spec.specs.Run.{entries-bytes, run-size, run-bytes}
 use Rattle.spec.specs.Index.{element-bytes, elements-bytes}
 use Rattle.spec.specs.Blocks.{best-fit}
 use Rattle.spec.specs.Place.{cut, first-headword, new-run, at-block, element-of}
-use Rattle.spec.proofs.ListsLaws.{All}
+use Rattle.spec.specs.Lists.{All}
 use Rattle.spec.proofs.IndexLaws.{headword-no-zero}
 use Rattle.spec.proofs.WriteLaws.{write-right}
 use Rattle.marks.specs.Marks.{with-range}
@@ -26,59 +25,48 @@ use Rattle.parts.specs.Part.{part-of, past-part}
 use Rattle.parts.proofs.PartLaws.{Short, part-first, part-headword, part-size, front-stored, some-left, cut-next}
 use Rattle.parts.proofs.Laws.{headword-at}
 use Rattle.plan.specs.Written.{part-element, parts-written, part-runs}
-
--- the blocks of the parts of entries
-abbrev pub sizes-of : List Entry → List ℕ
-sizes-of es = map run-size (cut 1_024 es)
-
--- the parts of entries spread
-abbrev pub laid : ℕ → ℕ → List Bool → List Entry → Spread
-laid g d ms es = spread g d ms (sizes-of es)
-
--- the bytes of their elements, where they have these places
-abbrev pub elements-long : ℕ → List ℕ → List Entry → ℕ
-elements-long g places es = length (elements-bytes format4 (map element-of (part-runs g places (cut 1_024 es))))
+use Rattle.newruns.specs.Laid.{sizes-of, laid, elements-long}
 
 -- ---- what is planned and written, and what is still to come
 -- the parts placed from now on make the end and the marks of the whole
 pub record Planning (g end : ℕ) (ms₀ : List Bool) (es₀ : List Entry) (d : ℕ) (ms : List Bool) (es : List Entry) : Type 0 where
-  pub end-all : laid g d ms es .end ≡ laid g end ms₀ es₀ .end
-  pub free-all : laid g d ms es .free ≡ laid g end ms₀ es₀ .free
+  pub end-all : laid 1_024 g d ms es .end ≡ laid 1_024 g end ms₀ es₀ .end
+  pub free-all : laid 1_024 g d ms es .free ≡ laid 1_024 g end ms₀ es₀ .free
 
 -- nothing is placed at first
 pub planning-start : (g end : ℕ) (ms : List Bool) (es₀ es : List Entry) → es ≡ es₀ → Planning g end ms es₀ end ms es
-planning-start g end ms es₀ es e = record { end-all = ap (λ (l : List Entry). laid g end ms l .end) e; free-all = ap (λ (l : List Entry). laid g end ms l .free) e }
+planning-start g end ms es₀ es e = record { end-all = ap (λ (l : List Entry). laid 1_024 g end ms l .end) e; free-all = ap (λ (l : List Entry). laid 1_024 g end ms l .free) e }
 
 -- the parts written from now on make the bytes of the whole
 pub record Writing (start g at end : ℕ) (ms₀ : List Bool) (es₀ : List Entry) (image₀ : List ℕ) (out d : ℕ) (ms : List Bool) (es : List Entry) (image : List ℕ) : Type 0 where
   pub planning : Planning g end ms₀ es₀ d ms es
-  pub whole : parts-written start g out (laid g d ms es .places) (cut 1_024 es) image ≡ parts-written start g at (laid g end ms₀ es₀ .places) (cut 1_024 es₀) image₀
-  pub size : out + elements-long g (laid g d ms es .places) es ≡ at + elements-long g (laid g end ms₀ es₀ .places) es₀
+  pub whole : parts-written 2 start g out (laid 1_024 g d ms es .places) (cut 1_024 es) image ≡ parts-written 2 start g at (laid 1_024 g end ms₀ es₀ .places) (cut 1_024 es₀) image₀
+  pub size : out + elements-long 2 1_024 g (laid 1_024 g d ms es .places) es ≡ at + elements-long 2 1_024 g (laid 1_024 g end ms₀ es₀ .places) es₀
 
 -- nothing is written at first
 pub writing-start : (start g at end : ℕ) (ms : List Bool) (es₀ es : List Entry) (image : List ℕ) → es ≡ es₀ → Writing start g at end ms es₀ image at end ms es image
 writing-start start g at end ms es₀ es image e =
     record {
       planning = planning-start g end ms es₀ es e;
-      whole = ap (λ (l : List Entry). parts-written start g at (laid g end ms l .places) (cut 1_024 l) image) e;
-      size = ap (λ (l : List Entry). at + elements-long g (laid g end ms l .places) l) e;
+      whole = ap (λ (l : List Entry). parts-written 2 start g at (laid 1_024 g end ms l .places) (cut 1_024 l) image) e;
+      size = ap (λ (l : List Entry). at + elements-long 2 1_024 g (laid 1_024 g end ms l .places) l) e;
     }
 
 module _ (g end : ℕ) (ms₀ : List Bool) (es₀ : List Entry) (d : ℕ) (ms : List Bool) (es : List Entry) (planning : Planning g end ms₀ es₀ d ms es) where
   -- the end now is no higher than that of the whole
-  pub planning-under : d ≤ laid g end ms₀ es₀ .end
-  planning-under = omega (arith, spread-grows g d ms (sizes-of es), planning .end-all)
+  pub planning-under : d ≤ laid 1_024 g end ms₀ es₀ .end
+  planning-under = omega (arith, spread-grows g d ms (sizes-of 1_024 es), planning .end-all)
 
   -- past the limit: so is the whole
-  pub planned-over : (limit : ℕ) → limit < d → Within limit (laid g end ms₀ es₀) d ms
+  pub planned-over : (limit : ℕ) → limit < d → Within limit (laid 1_024 g end ms₀ es₀) d ms
   planned-over limit h = (λ k. absurd (omega arith), λ k. omega (arith, planning-under))
 
   -- no entry is left: all is placed
-  pub planned : (limit : ℕ) → es ≡ [] → Within limit (laid g end ms₀ es₀) d ms
+  pub planned : (limit : ℕ) → es ≡ [] → Within limit (laid 1_024 g end ms₀ es₀) d ms
   unfolding spread cut
   planned limit e =
-      let p : d ≡ laid g end ms₀ es₀ .end = sym (ap (λ (l : List Entry). laid g d ms l .end) e) ∙ planning .end-all in
-      let q : ms ≡ laid g end ms₀ es₀ .free = sym (ap (λ (l : List Entry). laid g d ms l .free) e) ∙ planning .free-all in
+      let p : d ≡ laid 1_024 g end ms₀ es₀ .end = sym (ap (λ (l : List Entry). laid 1_024 g d ms l .end) e) ∙ planning .end-all in
+      let q : ms ≡ laid 1_024 g end ms₀ es₀ .free = sym (ap (λ (l : List Entry). laid 1_024 g d ms l .free) e) ∙ planning .free-all in
       (λ k. (p, q), λ k. omega arith)
 
 -- ---- a lent part
@@ -114,12 +102,12 @@ run-room used n a k part image p q e ek h =
 
 -- ---- the next part
 -- its element takes three bytes beside its headword
-pub element-long : (number : ℕ) (p : List Entry) (head : List ℕ) → head ≡ first-headword p → length (element-bytes format4 (part-element number p)) ≡ 3 + length head
+pub element-long : (number : ℕ) (p : List Entry) (head : List ℕ) → head ≡ first-headword p → length (element-bytes 2 (part-element number p)) ≡ 3 + length head
 unfolding part-element
 element-long number p head e = element-size (part-element number p) ∙ ap (λ (l : List ℕ). 3 + length l) (sym e)
 
 -- it ends behind them
-pub element-past : (out r number : ℕ) (p : List Entry) (head : List ℕ) → head ≡ first-headword p → r ≡ out + 3 + length head → r ≡ out + length (element-bytes format4 (part-element number p))
+pub element-past : (out r number : ℕ) (p : List Entry) (head : List ℕ) → head ≡ first-headword p → r ≡ out + 3 + length head → r ≡ out + length (element-bytes 2 (part-element number p))
 element-past out r number p head e q = omega (arith, element-long number p head e)
 
 module _ (es : List Entry) (used : ℕ) (size : used ≡ length (entries-bytes [] (part-of 1_024 0 [] es))) (some : used ≡ 0 → ⊥) (Q : List Entry) (behind : Q ≡ past-part 1_024 0 [] es) where
@@ -127,9 +115,10 @@ module _ (es : List Entry) (used : ℕ) (size : used ≡ length (entries-bytes [
   parts-next : cut 1_024 es ≡ part-of 1_024 0 [] es ∷ cut 1_024 Q
   parts-next = cut-next es used size some Q behind
 
-  module _ (g d d′ n b : ℕ) (ms ms′ : List Bool) (blocks : n ≡ blocks-for (2 + used + 2)) (place : b ≡ best-fit g d (take (d - g) (drop g ms)) n) (later : d′ ≡ max d (b + n)) (taken : ms′ ≡ with-range b n false ms) where
+  module _ (g d d′ n b : ℕ) (ms ms′ : List Bool) (blocks : n ≡ blocks-for (2 + used + 2)) (place : b ≡ best-fit g d (take (d - g) (drop g ms)) n)
+      (later : d′ ≡ max d (b + n)) (taken : ms′ ≡ with-range b n false ms) where
     -- its place, then the others'
-    pub laid-next : laid g d ms es ≡ placed-first b (laid g d′ ms′ Q)
+    pub laid-next : laid 1_024 g d ms es ≡ placed-first b (laid 1_024 g d′ ms′ Q)
     unfolding spread
     laid-next =
         let q : run-size (part-of 1_024 0 [] es) ≡ n = part-size (part-of 1_024 0 [] es) ∙ sym (blocks ∙ ap (λ (k : ℕ). blocks-for (2 + k + 2)) size) in
@@ -141,32 +130,35 @@ module _ (es : List Entry) (used : ℕ) (size : used ≡ length (entries-bytes [
     planning-more end ms₀ es₀ p = record { end-all = sym (ap (λ (s : Spread). s .end) laid-next) ∙ p .end-all; free-all = sym (ap (λ (s : Spread). s .free) laid-next) ∙ p .free-all }
 
     -- the bytes of its element, then the others'
-    pub elements-next : elements-long g (laid g d ms es .places) es ≡ length (element-bytes format4 (part-element (b - g) (part-of 1_024 0 [] es))) + elements-long g (laid g d′ ms′ Q .places) Q
+    pub elements-next : elements-long 2 1_024 g (laid 1_024 g d ms es .places) es
+        ≡ length (element-bytes 2 (part-element (b - g) (part-of 1_024 0 [] es))) + elements-long 2 1_024 g (laid 1_024 g d′ ms′ Q .places) Q
     unfolding placed-first part-runs elements-bytes part-element element-of at-block new-run
     elements-next =
-        ap₂ (λ (s : Spread) (l : List (List Entry)). length (elements-bytes format4 (map element-of (part-runs g (s .places) l)))) laid-next parts-next
-        ∙ length-append (element-bytes format4 (part-element (b - g) (part-of 1_024 0 [] es))) (elements-bytes format4 (map element-of (part-runs g (laid g d′ ms′ Q .places) (cut 1_024 Q))))
+        ap₂ (λ (s : Spread) (l : List (List Entry)). length (elements-bytes 2 (map element-of (part-runs g (s .places) l)))) laid-next parts-next
+        ∙ length-append (element-bytes 2 (part-element (b - g) (part-of 1_024 0 [] es))) (elements-bytes 2 (map element-of (part-runs g (laid 1_024 g d′ ms′ Q .places) (cut 1_024 Q))))
 
     -- what `put_element` requires
     pub element-fits : (start at end : ℕ) (ms₀ : List Bool) (es₀ : List Entry) (image₀ : List ℕ) (out m : ℕ) (image head : List ℕ) → head ≡ first-headword (part-of 1_024 0 [] es)
-        → Writing start g at end ms₀ es₀ image₀ out d ms es image → at + elements-long g (laid g end ms₀ es₀ .places) es₀ ≤ length image₀ → length image ≡ length image₀ → m ≡ length image → out + 3 + length head ≤ m
+        → Writing start g at end ms₀ es₀ image₀ out d ms es image → at + elements-long 2 1_024 g (laid 1_024 g end ms₀ es₀ .places) es₀ ≤ length image₀
+        → length image ≡ length image₀ → m ≡ length image → out + 3 + length head ≤ m
     element-fits start at end ms₀ es₀ image₀ out m image head e w h l k = omega (arith, elements-next, w .size, element-long (b - g) (part-of 1_024 0 [] es) head e)
 
     -- it is written
     pub writing-more : (start at end : ℕ) (ms₀ : List Bool) (es₀ : List Entry) (image₀ : List ℕ) (out out′ : ℕ) (image image′ : List ℕ)
-        → image′ ≡ write out (element-bytes format4 (part-element (b - g) (part-of 1_024 0 [] es))) (write (start + 256 * b) (run-bytes (part-of 1_024 0 [] es)) image)
-        → out′ ≡ out + length (element-bytes format4 (part-element (b - g) (part-of 1_024 0 [] es)))
+        → image′ ≡ write out (element-bytes 2 (part-element (b - g) (part-of 1_024 0 [] es))) (write (start + 256 * b) (run-bytes (part-of 1_024 0 [] es)) image)
+        → out′ ≡ out + length (element-bytes 2 (part-element (b - g) (part-of 1_024 0 [] es)))
         → Writing start g at end ms₀ es₀ image₀ out d ms es image → Writing start g at end ms₀ es₀ image₀ out′ d′ ms′ Q image′
     unfolding placed-first parts-written
     writing-more start at end ms₀ es₀ image₀ out out′ image image′ ei eo w =
         record {
           planning = planning-more end ms₀ es₀ (w .planning);
-          whole = rw (ei, eo) (sym (ap₂ (λ (s : Spread) (l : List (List Entry)). parts-written start g out (s .places) l image) laid-next parts-next) ∙ w .whole);
+          whole = rw (ei, eo) (sym (ap₂ (λ (s : Spread) (l : List (List Entry)). parts-written 2 start g out (s .places) l image) laid-next parts-next) ∙ w .whole);
           size = omega (arith, elements-next, w .size);
         }
 
 -- ---- the bytes of the next part
-module _ (es : List Entry) (used : ℕ) (part part′ : List ℕ) (size : used ≡ length (entries-bytes [] (part-of 1_024 0 [] es))) (there : part′ ≡ write 0 (entries-bytes [] (part-of 1_024 0 [] es)) part) where
+module _ (es : List Entry) (used : ℕ) (part part′ : List ℕ) (size : used ≡ length (entries-bytes [] (part-of 1_024 0 [] es)))
+    (there : part′ ≡ write 0 (entries-bytes [] (part-of 1_024 0 [] es)) part) where
   -- they stand at the front of the slice
   pub entries-stand : take used part′ ≡ entries-bytes [] (part-of 1_024 0 [] es)
   entries-stand = front-stored (entries-bytes [] (part-of 1_024 0 [] es)) part part′ used there size
@@ -176,7 +168,8 @@ module _ (es : List Entry) (used : ℕ) (part part′ : List ℕ) (size : used �
   run-stands = ap framed-run entries-stand ∙ run-framed (part-of 1_024 0 [] es)
 
   -- its headword is found there
-  pub head-stands : (used ≡ 0 → ⊥) → All Short es → (r : ℕ) → ((e : Entry) (ds : List Entry) → take used part′ ≡ entries-bytes [] (e ∷ ds) → no-zero (e .headword) ≡ true → r ≡ 3 + length (e .headword))
+  pub head-stands : (used ≡ 0 → ⊥) → All Short es → (r : ℕ)
+      → ((e : Entry) (ds : List Entry) → take used part′ ≡ entries-bytes [] (e ∷ ds) → no-zero (e .headword) ≡ true → r ≡ 3 + length (e .headword))
       → take (r - 3) (drop 3 part′) ≡ first-headword (part-of 1_024 0 [] es)
   unfolding bytes-at
   head-stands some short r found =
@@ -196,29 +189,30 @@ module _ (es : List Entry) (used : ℕ) (part part′ : List ℕ) (size : used �
   pub part-stored : (a k n out number : ℕ) (head image image₁ image₂ : List ℕ) → n ≡ blocks-for (2 + used + 2) → k ≡ length image - a → a + 256 * n ≤ length image
       → image₁ ≡ write 0 (framed-run (take used part′)) (take k (drop a image))
       → head ≡ first-headword (part-of 1_024 0 [] es)
-      → image₂ ≡ write out (element-bytes format4 (record { block = number; headword = head })) (take a image ++ (image₁ ++ drop k (drop a image)))
-      → image₂ ≡ write out (element-bytes format4 (part-element number (part-of 1_024 0 [] es))) (write a (run-bytes (part-of 1_024 0 [] es)) image)
+      → image₂ ≡ write out (element-bytes 2 (record { block = number; headword = head })) (take a image ++ (image₁ ++ drop k (drop a image)))
+      → image₂ ≡ write out (element-bytes 2 (part-element number (part-of 1_024 0 [] es))) (write a (run-bytes (part-of 1_024 0 [] es)) image)
   unfolding part-element
   part-stored a k n out number head image image₁ image₂ en ek r e₁ eh e₂ =
       let w : take a image ++ (image₁ ++ drop k (drop a image)) ≡ write a (run-bytes (part-of 1_024 0 [] es)) image =
       write-lent a k (framed-run (take used part′)) image image₁ ek (omega (arith, run-long n en)) e₁ ∙ ap (λ (x : List ℕ). write a x image) run-stands in
-      e₂ ∙ ap₂ (λ (x y : List ℕ). write out (element-bytes format4 (record { block = number; headword = x })) y) eh w
+      e₂ ∙ ap₂ (λ (x y : List ℕ). write out (element-bytes 2 (record { block = number; headword = x })) y) eh w
 
 -- ---- no entry is left
-module _ (start g at end : ℕ) (ms₀ : List Bool) (es₀ : List Entry) (image₀ : List ℕ) (out d : ℕ) (ms : List Bool) (es : List Entry) (image : List ℕ) (writing : Writing start g at end ms₀ es₀ image₀ out d ms es image) (none : es ≡ []) where
+module _ (start g at end : ℕ) (ms₀ : List Bool) (es₀ : List Entry) (image₀ : List ℕ) (out d : ℕ) (ms : List Bool) (es : List Entry) (image : List ℕ)
+    (writing : Writing start g at end ms₀ es₀ image₀ out d ms es image) (none : es ≡ []) where
   -- all is written
-  pub written-image : image ≡ parts-written start g at (laid g end ms₀ es₀ .places) (cut 1_024 es₀) image₀
+  pub written-image : image ≡ parts-written 2 start g at (laid 1_024 g end ms₀ es₀ .places) (cut 1_024 es₀) image₀
   unfolding spread cut parts-written
-  written-image = sym (ap (λ (l : List Entry). parts-written start g out (laid g d ms l .places) (cut 1_024 l) image) none) ∙ writing .whole
+  written-image = sym (ap (λ (l : List Entry). parts-written 2 start g out (laid 1_024 g d ms l .places) (cut 1_024 l) image) none) ∙ writing .whole
 
   -- the elements end where all of them do
-  pub written-size : out ≡ at + elements-long g (laid g end ms₀ es₀ .places) es₀
+  pub written-size : out ≡ at + elements-long 2 1_024 g (laid 1_024 g end ms₀ es₀ .places) es₀
   unfolding spread cut part-runs elements-bytes
   written-size =
-      let z : elements-long g (laid g d ms es .places) es ≡ 0 = ap (λ (l : List Entry). elements-long g (laid g d ms l .places) l) none in
+      let z : elements-long 2 1_024 g (laid 1_024 g d ms es .places) es ≡ 0 = ap (λ (l : List Entry). elements-long 2 1_024 g (laid 1_024 g d ms l .places) l) none in
       omega (arith, writing .size)
 
   -- all blocks are taken
-  pub written-free : ms ≡ laid g end ms₀ es₀ .free
+  pub written-free : ms ≡ laid 1_024 g end ms₀ es₀ .free
   unfolding spread cut
-  written-free = sym (ap (λ (l : List Entry). laid g d ms l .free) none) ∙ writing .planning .free-all
+  written-free = sym (ap (λ (l : List Entry). laid 1_024 g d ms l .free) none) ∙ writing .planning .free-all

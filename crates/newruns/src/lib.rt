@@ -1,18 +1,13 @@
 // The new runs of a change, one for each part: placed on the marks, and written with their index elements.
 ghost use mathlib.Core.Path.{_≡_};
 ghost use mathlib.Core.Bool.{true};
-ghost use mathlib.Core.List.{map};
-ghost use Prim.Native.Nat.{_+_, _*_, _≤_};
+ghost use Prim.Native.Nat.{_≤_};
 ghost use lib.ListN.{length};
-ghost use Rattle.spec.specs.Header.{format4};
 ghost use Rattle.spec.specs.Entry.{headword-ok};
-ghost use Rattle.spec.specs.Run.{run-size};
-ghost use Rattle.spec.specs.Index.{elements-bytes};
-ghost use Rattle.spec.specs.Place.{cut, element-of};
 ghost use Rattle.marks.specs.Marks.{marks};
-ghost use Rattle.placing.specs.Spread.{spread, Within};
+ghost use Rattle.placing.specs.Spread.{Within};
 ghost use Rattle.parts.specs.Merge.{changed-entries};
-ghost use Rattle.plan.specs.Written.{part-runs, parts-written};
+ghost use Rattle.newruns.specs.Laid.{laid, PartsFit, PartsPut};
 
 // Places all parts of the changed run, and answers the end of the blocks then. Stops where that passes the limit.
 pub fn plan_parts(
@@ -27,7 +22,7 @@ pub fn plan_parts(
 ) -> usize
     requires { ⌜ (headword-ok (now h) ≡ true) × (length (now body) ≤ 3001) × (length (now run) ≤ 8388608) ⌝ }
     requires { ⌜ (g ≤ end) × (end ≤ limit) × (limit ≤ 98304) × (2560 ≤ length (now free)) ⌝ }
-    ensures { λ r. ⌜ Within limit (spread g end (marks (now (free .entry))) (map run-size (cut 1024 (changed-entries (now (run .entry)) (now (h .entry)) (now (body .entry)) fresh)))) r (marks (now (free .exit))) ⌝ }
+    ensures { λ r. ⌜ Within limit (laid 1024 g end (marks (now (free .entry))) (changed-entries (now (run .entry)) (now (h .entry)) (now (body .entry)) fresh)) r (marks (now (free .exit))) ⌝ }
     ensures { λ r. ⌜ (end ≤ r) × (r ≤ 98404) × (length (now (free .exit)) ≡ length (now (free .entry))) ⌝ }
 {
     let mut word = [0u8; 256];
@@ -64,11 +59,9 @@ pub fn write_parts(
 ) -> usize
     requires { ⌜ (headword-ok (now h) ≡ true) × (length (now body) ≤ 3001) × (length (now run) ≤ 8388608) ⌝ }
     requires { ⌜ (g ≤ end) × (2560 ≤ length (now free)) ⌝ }
-    requires { ⌜ (spread g end (marks (now free)) (map run-size (cut 1024 (changed-entries (now run) (now h) (now body) fresh))) .end ≤ 98304) × (start + 256 * spread g end (marks (now free)) (map run-size (cut 1024 (changed-entries (now run) (now h) (now body) fresh))) .end ≤ length (now image)) ⌝ }
-    requires { ⌜ at + length (elements-bytes format4 (map element-of (part-runs g (spread g end (marks (now free)) (map run-size (cut 1024 (changed-entries (now run) (now h) (now body) fresh))) .places) (cut 1024 (changed-entries (now run) (now h) (now body) fresh))))) ≤ length (now image) ⌝ }
-    ensures { λ r. ⌜ now (image .exit) ≡ parts-written start g at (spread g end (marks (now (free .entry))) (map run-size (cut 1024 (changed-entries (now (run .entry)) (now (h .entry)) (now (body .entry)) fresh))) .places) (cut 1024 (changed-entries (now (run .entry)) (now (h .entry)) (now (body .entry)) fresh)) (now (image .entry)) ⌝ }
-    ensures { λ r. ⌜ r ≡ at + length (elements-bytes format4 (map element-of (part-runs g (spread g end (marks (now (free .entry))) (map run-size (cut 1024 (changed-entries (now (run .entry)) (now (h .entry)) (now (body .entry)) fresh))) .places) (cut 1024 (changed-entries (now (run .entry)) (now (h .entry)) (now (body .entry)) fresh))))) ⌝ }
-    ensures { λ r. ⌜ marks (now (free .exit)) ≡ spread g end (marks (now (free .entry))) (map run-size (cut 1024 (changed-entries (now (run .entry)) (now (h .entry)) (now (body .entry)) fresh))) .free ⌝ }
+    requires { ⌜ PartsFit 2 1024 start at g end (marks (now free)) (changed-entries (now run) (now h) (now body) fresh) (length (now image)) ⌝ }
+    ensures { λ r. ⌜ PartsPut 2 1024 start at g end (marks (now (free .entry))) (changed-entries (now (run .entry)) (now (h .entry)) (now (body .entry)) fresh)
+        (now (image .entry)) (now (image .exit)) r (marks (now (free .exit))) ⌝ }
     ensures { λ r. ⌜ (length (now (image .exit)) ≡ length (now (image .entry))) × (length (now (free .exit)) ≡ length (now (free .entry))) ⌝ }
 {
     let mut word = [0u8; 256];

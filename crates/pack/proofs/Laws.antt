@@ -6,10 +6,10 @@ use mathlib.Core.List.{List, [], _∷_, _++_, map}
 use native.Mathlib.Omega.{arith}
 use lib.ListN.{length, take, drop, length-append}
 use borrow.Author.Needs.{needs}
+use Rattle.spec.specs.Order.{below-of}
 use Rattle.spec.specs.Outcome.{ok}
 use Rattle.spec.specs.Bytes as BytesSpec
 use Rattle.spec.specs.Bytes.{from-little-endian, write, bytes-at}
-use Rattle.spec.specs.Header.{format4}
 use Rattle.spec.specs.Run.{Run}
 use Rattle.spec.specs.Index.{Element, element-bytes, elements-bytes}
 use Rattle.spec.specs.Blocks as BlocksSpec
@@ -17,12 +17,14 @@ use Rattle.spec.specs.Blocks.{run-blocks}
 use Rattle.spec.specs.Check.{next-headword, runs-from}
 use Rattle.spec.specs.Place as PlaceSpec
 use Rattle.spec.specs.Place.{element-of, packed, runs-written}
-use Rattle.spec.proofs.ListsLaws.{All, all-map, less-or}
+use Rattle.spec.specs.Lists.{All}
+use Rattle.spec.proofs.ListsLaws.{all-map, less-or}
 use Rattle.spec.proofs.OutcomeLaws.{same-value, not-both}
 use Rattle.spec.proofs.PartLaws.{length-bytes-at}
 use Rattle.spec.proofs.WriteLaws.{length-write, write-swap, write-behind, write-ahead, write-none}
 use Rattle.spec.proofs.ReadLaws.{RunTold, run-told, no-runs, runs-first, runs-elements}
-use Rattle.spec.proofs.HoldsLaws.{Holds, runs-hold}
+use Rattle.spec.specs.Sound.{Holds}
+use Rattle.spec.proofs.HoldsLaws.{runs-hold}
 use Rattle.index.specs.Elements as Elements
 use Rattle.index.specs.Elements.{element-end, element-headword, element-at, elements-at, Inside}
 use Rattle.index.proofs.Laws.{inside-start, here-end, here-next, elements-next}
@@ -43,7 +45,7 @@ write-two d x y g h i p i₁ p₁ e f front back =
 
 -- ---- packed runs
 -- their elements, one and those behind it
-pub packed-next : (b : ℕ) (r : Run) (rs : List Run) → packed-elements b (r ∷ rs) ≡ element-bytes format4 (record { block = b; headword = r .headword }) ++ packed-elements (b + r .size) rs
+pub packed-next : (b : ℕ) (r : Run) (rs : List Run) → packed-elements b (r ∷ rs) ≡ element-bytes 2 (record { block = b; headword = r .headword }) ++ packed-elements (b + r .size) rs
 unfolding Packing.packed-elements PlaceSpec.packed PlaceSpec.at-block PlaceSpec.element-of elements-bytes
 packed-next b r rs = refl
 
@@ -53,12 +55,12 @@ unfolding Packing.packed-elements PlaceSpec.packed elements-bytes
 packed-none b = refl
 
 -- as no element takes no byte
-elements-none : elements-bytes format4 [] ≡ []
+elements-none : elements-bytes 2 [] ≡ []
 unfolding elements-bytes
 elements-none = refl
 
 -- they take as many bytes as they took
-pub packed-same : (b : ℕ) (rs : List Run) → length (packed-elements b rs) ≡ length (elements-bytes format4 (map element-of rs))
+pub packed-same : (b : ℕ) (rs : List Run) → length (packed-elements b rs) ≡ length (elements-bytes 2 (map element-of rs))
 unfolding PlaceSpec.element-of
 packed-same b [] = ap length (packed-none b) ∙ sym (ap length elements-none)
 packed-same b (r ∷ rs) =
@@ -66,7 +68,7 @@ packed-same b (r ∷ rs) =
     omega (
       arith,
       ap length (packed-next b r rs),
-      length-append (element-bytes format4 e) (packed-elements (b + r .size) rs),
+      length-append (element-bytes 2 e) (packed-elements (b + r .size) rs),
       element-size e,
       packed-same (b + r .size) rs,
       elements-size (element-of r) (map element-of rs),
@@ -112,10 +114,10 @@ pub ruleset need-laws = (need-none, need-some, needs)
 -- the runs from `at` on are still to be written: their elements from `out` on, they from block b on
 pub record Underway (index area : List ℕ) (n d base : ℕ) (image₀ image : List ℕ) (at out b left : ℕ) : Type 0 where
   pub runs : List Run
-  pub read : runs-from format4 d area (elements-at index at left) ≡ ok runs
-  pub index-room : out + length (packed-elements b runs) ≡ 256 + length (elements-bytes format4 (elements-at index 0 n))
+  pub read : runs-from (below-of 0) d area (elements-at index at left) ≡ ok runs
+  pub index-room : out + length (packed-elements b runs) ≡ 256 + length (elements-bytes 2 (elements-at index 0 n))
   pub area-room : base + 256 * b + 256 * run-blocks runs ≤ length image
-  pub whole : (rs : List Run) → runs-from format4 d area (elements-at index 0 n) ≡ ok rs
+  pub whole : (rs : List Run) → runs-from (below-of 0) d area (elements-at index 0 n) ≡ ok rs
       → write out (packed-elements b runs) (write (base + 256 * b) (runs-bytes runs) image) ≡ runs-packed base rs image₀
 
 -- at the start all are
@@ -126,7 +128,9 @@ underway-start index area image n d base v =
     record {
       runs = v .runs;
       read = v .read;
-      index-room = ap (λ (k : ℕ). 256 + k) (packed-same 0 (v .runs) ∙ ap (λ (es : List Element). length (elements-bytes format4 es)) (runs-elements format4 d area (elements-at index 0 n) (v .runs) (v .read)));
+      index-room =
+          ap (λ (k : ℕ). 256 + k) (packed-same 0 (v .runs)
+          ∙ ap (λ (es : List Element). length (elements-bytes 2 es)) (runs-elements (below-of 0) d area (elements-at index 0 n) (v .runs) (v .read)));
       area-room = omega (arith, v .area-room);
       whole = λ rs h. rw (e, same-value (v .runs) rs (sym (v .read) ∙ h));
     }
@@ -140,15 +144,17 @@ pub record RunHere (area : List ℕ) (d : ℕ) (runs : List Run) (others : List 
   pub bytes-are : run .bytes ≡ bytes-at (256 * from) (256 * size) area
   pub headword-is : run .headword ≡ headword
   pub inside : from + size ≤ d
-  pub others-read : runs-from format4 d area others ≡ ok rest
+  pub others-read : runs-from (below-of 0) d area others ≡ ok rest
 
 -- it is so by the size that row 7 allows
-run-here : (area : List ℕ) (d : ℕ) (e : Element) (others : List Element) (runs : List Run) → runs-from format4 d area (e ∷ others) ≡ ok runs → (size : ℕ) → Sized format4 d area (e .block) size
+run-here : (area : List ℕ) (d : ℕ) (e : Element) (others : List Element) (runs : List Run) → runs-from (below-of 0) d area (e ∷ others) ≡ ok runs → (size : ℕ)
+    → Sized (below-of 0) d area (e .block) size
     → RunHere area d runs others (e .block) size (e .headword)
 run-here area d e others runs h size sized =
-    let (r, rs, p, u, k) = runs-first format4 d area e others runs h in
-    let t : RunTold format4 d area e (next-headword others) r = run-told format4 d area e (next-headword others) r u in
-    let z : size ≡ r .size = ⊎-elim (λ (x : size < 1). absurd (not-both _ r 7 u (sized .0 e (next-headword others) refl (omega arith)))) (λ (x : 1 ≤ size). sized .1 x .1 ∙ sym (t .size)) (less-or size 1) in
+    let (r, rs, p, u, k) = runs-first (below-of 0) d area e others runs h in
+    let t : RunTold (below-of 0) d area e (next-headword others) r = run-told (below-of 0) d area e (next-headword others) r u in
+    let z : size ≡ r .size = ⊎-elim (λ (x : size < 1). absurd (not-both _ r 7 u (sized .0 e (next-headword others) refl (omega arith))))
+    (λ (x : 1 ≤ size). sized .1 x .1 ∙ sym (t .size)) (less-or size 1) in
     record {
       run = r;
       rest = rs;
@@ -167,14 +173,14 @@ module _ (area : List ℕ) (d : ℕ) (runs : List Run) (others : List Element) (
   here-blocks = ap run-blocks (w .runs-are) ∙ rw (w .size-is)
 
   -- to their elements,
-  here-elements : packed-elements b runs ≡ element-bytes format4 (record { block = b; headword = word }) ++ packed-elements (b + size) (w .rest)
+  here-elements : packed-elements b runs ≡ element-bytes 2 (record { block = b; headword = word }) ++ packed-elements (b + size) (w .rest)
   here-elements = ap (packed-elements b) (w .runs-are) ∙ packed-next b (w .run) (w .rest) ∙ rw (w .headword-is, w .size-is)
 
   -- to the bytes of these,
   here-long : length (packed-elements b runs) ≡ 3 + length word + length (packed-elements (b + size) (w .rest))
   here-long =
       let e : Element = record { block = b; headword = word } in
-      omega (arith, ap length here-elements, length-append (element-bytes format4 e) (packed-elements (b + size) (w .rest)), element-size e)
+      omega (arith, ap length here-elements, length-append (element-bytes 2 e) (packed-elements (b + size) (w .rest)), element-size e)
 
   -- and to their own bytes
   here-bytes : runs-bytes runs ≡ bytes-at (256 * from) (256 * size) area ++ runs-bytes (w .rest)
@@ -182,8 +188,8 @@ module _ (area : List ℕ) (d : ℕ) (runs : List Run) (others : List Element) (
   here-bytes = ap runs-bytes (w .runs-are) ∙ rw (w .bytes-are)
 
 -- runs that are read have the bytes of their blocks
-pub runs-whole : (d : ℕ) (area : List ℕ) (es : List Element) (rs : List Run) → 256 * d ≡ length area → runs-from format4 d area es ≡ ok rs → Whole rs
-runs-whole d area es rs long h = all-map (Holds format4) (λ r. length (r .bytes) ≡ 256 * r .size) (λ r k. k .whole) rs (runs-hold format4 d area es rs (omega arith) h)
+pub runs-whole : (d : ℕ) (area : List ℕ) (es : List Element) (rs : List Run) → 256 * d ≡ length area → runs-from (below-of 0) d area es ≡ ok rs → Whole rs
+runs-whole d area es rs long h = all-map (Holds (below-of 0)) (λ r. length (r .bytes) ≡ 256 * r .size) (λ r k. k .whole) rs (runs-hold (below-of 0) d area es rs (omega arith) h)
 
 module _ (index area : List ℕ) (n d base : ℕ) (image₀ image : List ℕ) (at out b left : ℕ) (v : Underway index area n d base image₀ image at out b left) where
   -- the next block lies in the slice
@@ -191,24 +197,26 @@ module _ (index area : List ℕ) (n d base : ℕ) (image₀ image : List ℕ) (a
   underway-low = omega (arith, v .area-room)
 
   -- at the end none is: the code stands where all elements end
-  pub underway-out : left ≤ 0 → out ≡ 256 + length (elements-bytes format4 (elements-at index 0 n))
+  pub underway-out : left ≤ 0 → out ≡ 256 + length (elements-bytes 2 (elements-at index 0 n))
   unfolding Elements.elements-at
   underway-out z =
       let k : left ≡ 0 = omega arith in
-      let e : v .runs ≡ [] = no-runs format4 d area (v .runs) (rw k at (v .read)) in
+      let e : v .runs ≡ [] = no-runs (below-of 0) d area (v .runs) (rw k at (v .read)) in
       omega (arith, v .index-room, ap (λ (rs : List Run). length (packed-elements b rs)) e, ap length (packed-none b))
 
   -- and what stands there now is the whole written
-  pub underway-end : left ≤ 0 → (rs : List Run) → runs-from format4 d area (elements-at index 0 n) ≡ ok rs → image ≡ runs-packed base rs image₀
+  pub underway-end : left ≤ 0 → (rs : List Run) → runs-from (below-of 0) d area (elements-at index 0 n) ≡ ok rs → image ≡ runs-packed base rs image₀
   unfolding Elements.elements-at Packing.runs-bytes
   underway-end z rs h =
       let k : left ≡ 0 = omega arith in
-      let e : v .runs ≡ [] = no-runs format4 d area (v .runs) (rw k at (v .read)) in
-      sym (ap (λ (qs : List Run). write out (packed-elements b qs) (write (base + 256 * b) (runs-bytes qs) image)) e ∙ rw (packed-none b) (write-none (write (base + 256 * b) [] image) out) ∙ write-none image (base + 256 * b))
+      let e : v .runs ≡ [] = no-runs (below-of 0) d area (v .runs) (rw k at (v .read)) in
+      sym (ap (λ (qs : List Run). write out (packed-elements b qs) (write (base + 256 * b) (runs-bytes qs) image)) e
+      ∙ rw (packed-none b) (write-none (write (base + 256 * b) [] image) out) ∙ write-none image (base + 256 * b))
       ∙ v .whole rs h
 
-  module _ (more : 0 < left) (inside : Inside index at left) (long : 256 * d ≡ length area) (end : ℕ) (ends : end ≡ element-end index at) (from : ℕ) (number : from ≡ from-little-endian (bytes-at at 2 index))
-      (size : ℕ) (sized : Sized format4 d area from size) where
+  module _ (more : 0 < left) (inside : Inside index at left) (long : 256 * d ≡ length area) (end : ℕ) (ends : end ≡ element-end index at) (from : ℕ)
+      (number : from ≡ from-little-endian (bytes-at at 2 index))
+      (size : ℕ) (sized : Sized (below-of 0) d area from size) where
     -- the headword here, as the code cuts it out
     abbrev word : List ℕ
     word = take (end - (at + 2)) (drop (at + 2) index)
@@ -217,7 +225,8 @@ module _ (index area : List ℕ) (n d base : ℕ) (image₀ image : List ℕ) (a
     here : RunHere area d (v .runs) (elements-at index (end + 1) (left - 1)) from size word
     unfolding Elements.element-at Elements.element-headword BytesSpec.bytes-at
     here =
-        let q : runs-from format4 d area (element-at index at ∷ elements-at index (end + 1) (left - 1)) ≡ ok (v .runs) = sym (ap (runs-from format4 d area) (elements-next index at left more ∙ rw ends)) ∙ v .read in
+        let q : runs-from (below-of 0) d area (element-at index at ∷ elements-at index (end + 1) (left - 1)) ≡ ok (v .runs)
+        = sym (ap (runs-from (below-of 0) d area) (elements-next index at left more ∙ rw ends)) ∙ v .read in
         let w : element-headword index at ≡ word = rw ends in
         rw (number, ← w) (run-here area d (element-at index at) (elements-at index (end + 1) (left - 1)) (v .runs) q size (rw number at sized))
 
@@ -230,20 +239,20 @@ module _ (index area : List ℕ) (n d base : ℕ) (image₀ image : List ℕ) (a
     run-fits = omega (arith, v .area-room, here-blocks _ _ _ _ _ _ _ here b)
 
     -- the element fits in front of the runs
-    pub element-fits : out + 3 + length word ≤ 256 + length (elements-bytes format4 (elements-at index 0 n))
+    pub element-fits : out + 3 + length word ≤ 256 + length (elements-bytes 2 (elements-at index 0 n))
     element-fits = omega (arith, v .index-room, here-long _ _ _ _ _ _ _ here b)
 
     -- one run more
-    pub underway-turn : (image₁ image₂ : List ℕ) (out₁ : ℕ) → 256 + length (elements-bytes format4 (elements-at index 0 n)) ≤ base
+    pub underway-turn : (image₁ image₂ : List ℕ) (out₁ : ℕ) → 256 + length (elements-bytes 2 (elements-at index 0 n)) ≤ base
         → image₁ ≡ write (base + 256 * b) (bytes-at (256 * from) (256 * size) area) image
-        → image₂ ≡ write out (element-bytes format4 (record { block = b; headword = word })) image₁
+        → image₂ ≡ write out (element-bytes 2 (record { block = b; headword = word })) image₁
         → out₁ ≡ out + 3 + length word
         → Underway index area n d base image₀ image₂ (end + 1) out₁ (b + size) (left - 1)
     underway-turn image₁ image₂ out₁ front e₁ e₂ e₃ =
         let x : List ℕ = bytes-at (256 * from) (256 * size) area in
         let y : List ℕ = runs-bytes (here .rest) in
         let e : Element = record { block = b; headword = word } in
-        let g : List ℕ = element-bytes format4 e in
+        let g : List ℕ = element-bytes 2 e in
         let h : List ℕ = packed-elements (b + size) (here .rest) in
         let l : length x ≡ 256 * size = length-bytes-at area (256 * from) (256 * size) (omega (arith, run-inside)) in
         let k : length y ≡ 256 * run-blocks (here .rest) = runs-bytes-length (here .rest) (runs-whole d area (elements-at index (end + 1) (left - 1)) (here .rest) long (here .others-read)) in
@@ -266,7 +275,7 @@ module _ (index area : List ℕ) (n d base : ℕ) (image₀ image : List ℕ) (a
         }
 
 -- the room for elements that the caller gives
-pub fit-front : (index area : List ℕ) (n d base long : ℕ) → RunsFit index area n d base long → 256 + length (elements-bytes format4 (elements-at index 0 n)) ≤ base
+pub fit-front : (index area : List ℕ) (n d base long : ℕ) → RunsFit index area n d base long → 256 + length (elements-bytes 2 (elements-at index 0 n)) ≤ base
 fit-front index area n d base long v = v .index-room
 
 -- the needs of write_runs

@@ -3,9 +3,9 @@ use Prim.Native.Nat.{ℕ, zero, suc, _+_, _*_, _≤_}
 use mathlib.Core.Path.{_≡_}
 use mathlib.Core.List.{List, [], _∷_, _++_, map}
 use lib.ListN.{length}
+use Rattle.spec.specs.Order.{below-of}
 use Rattle.spec.specs.Outcome.{ok}
 use Rattle.spec.specs.Bytes.{write, blocks-for}
-use Rattle.spec.specs.Header.{format4}
 use Rattle.spec.specs.Run.{Run}
 use Rattle.spec.specs.Index.{elements-bytes}
 use Rattle.spec.specs.Blocks.{run-blocks}
@@ -25,7 +25,7 @@ runs-bytes (r ∷ rs) = r .bytes ++ runs-bytes rs
 
 -- the elements of runs that stand one after the other from block b on
 unfoldable pub packed-elements : ℕ → List Run → List ℕ
-packed-elements b rs = elements-bytes format4 (map element-of (packed b rs))
+packed-elements b rs = elements-bytes 2 (map element-of (packed b rs))
 
 -- a slice with runs written one after the other from `base` on, and their elements behind the header
 unfoldable pub runs-packed : ℕ → List Run → List ℕ → List ℕ
@@ -34,8 +34,8 @@ runs-packed base rs s = write 256 (packed-elements 0 rs) (write base (runs-bytes
 -- the runs of an index and a data area are read; their elements fit in front of `base`, and they from there on in a slice of that length
 pub record RunsFit (index area : List ℕ) (n d base long : ℕ) : Type 0 where
   pub runs : List Run
-  pub read : runs-from format4 d area (elements-at index 0 n) ≡ ok runs
-  pub index-room : 256 + length (elements-bytes format4 (elements-at index 0 n)) ≤ base
+  pub read : runs-from (below-of 0) d area (elements-at index 0 n) ≡ ok runs
+  pub index-room : 256 + length (elements-bytes 2 (elements-at index 0 n)) ≤ base
   pub area-room : base + 256 * run-blocks runs ≤ long
 
 -- names all definitions of this module: who unfolds it unfolds them

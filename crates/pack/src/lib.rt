@@ -3,11 +3,11 @@ ghost use mathlib.Core.Path.{_≡_};
 ghost use mathlib.Core.List.{List};
 ghost use Prim.Native.Nat.{_+_, _*_, _≤_};
 ghost use lib.ListN.{length};
+ghost use Rattle.spec.specs.Order.{below-of};
 ghost use Rattle.spec.specs.Outcome.{ok};
 ghost use Rattle.spec.specs.Check.{Image, runs-from, image-from, entries-of};
 ghost use Rattle.spec.specs.Place.{plan-packed, plan-written};
 ghost use Rattle.spec.specs.Calls.{plan-length, given-up-zeroed};
-ghost use Rattle.spec.specs.Header.{format4};
 ghost use Rattle.spec.specs.Index.{elements-bytes};
 ghost use Rattle.spec.specs.Run.{Run};
 ghost use Rattle.index.specs.Elements.{elements-at, Inside};
@@ -34,8 +34,8 @@ fn write_runs(image: &mut [u8], base: usize, index: &[u8], n: usize, area: &[u8]
     requires { ⌜ Inside (now index) 0 n ⌝ }
     requires { ⌜ (256 * d ≡ length (now area)) × (d ≤ 65536) ⌝ }
     requires { ⌜ RunsFit (now index) (now area) n d base (length (now image)) ⌝ }
-    ensures { λ r. ⌜ ((rs : List Run) → runs-from format4 d (now (area .entry)) (elements-at (now (index .entry)) 0 n) ≡ ok rs → now (image .exit) ≡ runs-packed base rs (now (image .entry))) ⌝ }
-    ensures { λ r. ⌜ r ≡ 256 + length (elements-bytes format4 (elements-at (now (index .entry)) 0 n)) ⌝ }
+    ensures { λ r. ⌜ ((rs : List Run) → runs-from (below-of 0) d (now (area .entry)) (elements-at (now (index .entry)) 0 n) ≡ ok rs → now (image .exit) ≡ runs-packed base rs (now (image .entry))) ⌝ }
+    ensures { λ r. ⌜ r ≡ 256 + length (elements-bytes 2 (elements-at (now (index .entry)) 0 n)) ⌝ }
     ensures { λ r. ⌜ length (now (image .exit)) ≡ length (now (image .entry)) ⌝ }
 {
     let mut at = 0;
@@ -62,7 +62,9 @@ pub fn pack(image: &mut [u8], old: &[u8], n: usize, d: usize, end: usize, words:
     requires { ⌜ (256 + 256 * n + 256 * d ≡ length (now old)) × (length (now old) ≤ length (now image)) ⌝ }
     requires { ⌜ end ≡ index-end (now old) n ⌝ }
     requires { ⌜ ((i : Image) → image-from (now old) ≡ ok i → words ≡ length (entries-of i)) ⌝ }
-    ensures { λ r. ⌜ ((i : Image) → image-from (now (old .entry)) ≡ ok i → now (image .exit) ≡ given-up-zeroed (length (now (old .entry))) (plan-packed (i .frame .format) (i .runs)) (plan-written (plan-packed (i .frame .format) (i .runs)) (now (image .entry)))) ⌝ }
+    ensures { λ r. ⌜ ((i : Image) → image-from (now (old .entry)) ≡ ok i
+        → now (image .exit) ≡ given-up-zeroed (length (now (old .entry))) (plan-packed (i .frame .format) (i .runs))
+        (plan-written (plan-packed (i .frame .format) (i .runs)) (now (image .entry)))) ⌝ }
     ensures { λ r. ⌜ ((i : Image) → image-from (now (old .entry)) ≡ ok i → r ≡ plan-length (plan-packed (i .frame .format) (i .runs))) ⌝ }
     ensures { λ r. ⌜ length (now (image .exit)) ≡ length (now (image .entry)) ⌝ }
 {

@@ -9,13 +9,12 @@ use lib.ListN.{length, take, drop, length-append, length-take, length-drop}
 use lib.Seq.{take-at, take-all, take-length, length-take-le}
 use lib.Dec.{eqb}
 use borrow.Author.Tests.{eq-eqb, ne-eqb, eqb-false, le-leb, lt-leb}
-use Rattle.spec.specs.Lists.{all}
+use Rattle.spec.specs.Lists.{all, All}
 use Rattle.spec.specs.Bytes.{to-little-endian, write, bytes-at, no-zero}
-use Rattle.spec.specs.Order.{below-of, common-prefix}
-use Rattle.spec.specs.Header.{format4}
+use Rattle.spec.specs.Order.{below-of, common-prefix, HeadwordOrder}
 use Rattle.spec.specs.Entry.{Entry, headword-ok, headword-suffix, shared-front, field-bytes, entry-bytes}
 use Rattle.spec.specs.Run.{read-entry, entries-bytes}
-use Rattle.spec.proofs.ListsLaws.{All, all-map, one, or-right}
+use Rattle.spec.proofs.ListsLaws.{all-map, one, or-right}
 use Rattle.spec.proofs.RunLaws.{body-short, headword-by}
 use Rattle.spec.proofs.WriteLaws.{bytes-at-take}
 use Rattle.scans.specs.declared.Comparison.{Comparison}
@@ -39,24 +38,24 @@ pub first-bytes : (s : List ℕ) (n : ℕ) → n ≤ length s → n ≡ length (
 first-bytes s n h = sym (length-take-le n s h)
 
 -- ---- advance
-module _ (run word word′ : List ℕ) (at n : ℕ) (fresh : Bool) (st : Step) (told : step-entry run word′ st ≡ read-entry format4 (take n word) (drop at run)) where
+module _ (run word word′ : List ℕ) (at n : ℕ) (fresh : Bool) (st : Step) (told : step-entry run word′ st ≡ read-entry (below-of 0) (take n word) (drop at run)) where
   -- a broken entry ends the run
-  pub broken-ahead : st ≡ Step.Broken → ahead run word′ (record { length = 0; zero = 0; next = 0; fresh = fresh }) ≡ entries-left format4 (take n word) (drop at run)
+  pub broken-ahead : st ≡ Step.Broken → ahead run word′ (record { length = 0; zero = 0; next = 0; fresh = fresh }) ≡ entries-left (below-of 0) (take n word) (drop at run)
   unfolding ahead
-  broken-ahead q = sym (left-refused format4 (take n word) (drop at run) 8 (told-broken format4 (take n word) (drop at run) run word′ st told q))
+  broken-ahead q = sym (left-refused (below-of 0) (take n word) (drop at run) 8 (told-broken (below-of 0) (take n word) (drop at run) run word′ st told q))
 
   -- so do the end marks
-  pub end-ahead : st ≡ Step.End → ahead run word′ (record { length = 0; zero = 0; next = 0; fresh = fresh }) ≡ entries-left format4 (take n word) (drop at run)
+  pub end-ahead : st ≡ Step.End → ahead run word′ (record { length = 0; zero = 0; next = 0; fresh = fresh }) ≡ entries-left (below-of 0) (take n word) (drop at run)
   unfolding ahead
-  end-ahead q = sym (left-none format4 (take n word) (drop at run) (told-end format4 (take n word) (drop at run) run word′ st told q))
+  end-ahead q = sym (left-none (below-of 0) (take n word) (drop at run) (told-end (below-of 0) (take n word) (drop at run) run word′ st told q))
 
   module _ (k z e : ℕ) (q : st ≡ Step.Entry k z e) (inside : Inside at run st) where
     -- an entry, and those behind it
-    pub entry-ahead : ahead run word′ (record { length = k; zero = z; next = e; fresh = fresh }) ≡ entries-left format4 (take n word) (drop at run)
+    pub entry-ahead : ahead run word′ (record { length = k; zero = z; next = e; fresh = fresh }) ≡ entries-left (below-of 0) (take n word) (drop at run)
     entry-ahead =
         let i = inside k z e q in
         ahead-some run word′ (record { length = k; zero = z; next = e; fresh = fresh }) (ne-eqb k 0 (λ w. omega arith))
-        ∙ sym (left-some format4 (take n word) (drop at run) _ _ (told-entry format4 (take n word) (drop at run) run word′ st told k z e q))
+        ∙ sym (left-some (below-of 0) (take n word) (drop at run) _ _ (told-entry (below-of 0) (take n word) (drop at run) run word′ st told k z e q))
 
     -- and the cursor stands at it
     pub entry-cursor : length word′ ≡ length word → 248 ≤ length word → CursorOk run word′ (record { length = k; zero = z; next = e; fresh = fresh })
@@ -65,7 +64,7 @@ module _ (run word word′ : List ℕ) (at n : ℕ) (fresh : Bool) (st : Step) (
         record {
           room = omega arith;
           short = i .5;
-          clean = told-no-zero format4 (take n word) (drop at run) run word′ st told k z e q;
+          clean = told-no-zero (below-of 0) (take n word) (drop at run) run word′ st told k z e q;
           inside = i .2;
           body = λ h. i .1;
           body-short = i .3;
@@ -77,7 +76,7 @@ unfolding no-zero all
 end-cursor run word word₀ fresh e h = record { room = omega arith; short = omega arith; clean = refl; inside = omega arith; body = λ k. absurd (omega arith); body-short = omega arith }
 
 -- ---- next_turn
-module _ (below : List ℕ → List ℕ → Bool) (h word : List ℕ) (n : ℕ) (fresh : Bool) where
+module _ (below : HeadwordOrder) (h word : List ℕ) (n : ℕ) (fresh : Bool) where
   -- no old entry is left: the new one comes, if it is still to come
   pub last-new : n ≡ 0 → fresh ≡ true → Turn.New ≡ turn-of below h fresh n word
   unfolding turn-of
@@ -137,7 +136,8 @@ abbrev pub work : List ℕ → List ℕ → Cursor → ℕ
 work run word c = length (ahead run word c) + one (c .fresh)
 
 -- what is to do behind an old entry
-todo-behind : (run word h body : List ℕ) (c : Cursor) (fresh : Bool) (es : List Entry) → ahead run word c ≡ es → c .fresh ≡ fresh → todo run word h body c ≡ merge (below-of 0) (record { headword = h; body = body }) fresh es
+todo-behind : (run word h body : List ℕ) (c : Cursor) (fresh : Bool) (es : List Entry) → ahead run word c ≡ es → c .fresh ≡ fresh
+    → todo run word h body c ≡ merge (below-of 0) (record { headword = h; body = body }) fresh es
 unfolding todo
 todo-behind run word h body c fresh es p f = rw (p, f)
 
@@ -150,7 +150,7 @@ module _ (es₀ : List Entry) (part₀ run word h body part prev : List ℕ) (us
       rw e (filling-end es₀ part₀ part prev used (rw e at filling))
 
   -- an old entry is dropped
-  pub part-skips : (word′ : List ℕ) (c′ : Cursor) → t ≡ Turn.Skip → ahead run word′ c′ ≡ entries-left format4 (take (c .length) word) (drop (c .next) run) → c′ .fresh ≡ c .fresh
+  pub part-skips : (word′ : List ℕ) (c′ : Cursor) → t ≡ Turn.Skip → ahead run word′ c′ ≡ entries-left (below-of 0) (take (c .length) word) (drop (c .next) run) → c′ .fresh ≡ c .fresh
       → Filling es₀ part₀ (todo run word′ h body c′) part prev used
   part-skips word′ c′ q p f =
       let e = todo-skip run word h body c (sym told ∙ q) in
@@ -167,8 +167,9 @@ module _ (es₀ : List Entry) (part₀ run word h body part prev : List ℕ) (us
         rw (s, e) (filling-full es₀ part₀ part prev used _ _ (rw e at filling) r)
 
     -- it is kept
-    pub part-keeps : (word′ : List ℕ) (c′ : Cursor) → t ≡ Turn.Old → Appended used prev (record { headword = take (c .length) word; body = take (c .next - (c .zero + 1)) (drop (c .zero + 1) run) }) part part′ last′ u
-        → (u ≡ 0 → ⊥) → used ≤ length part → c .length ≤ length word → ahead run word′ c′ ≡ entries-left format4 (take (c .length) word) (drop (c .next) run) → c′ .fresh ≡ c .fresh
+    pub part-keeps : (word′ : List ℕ) (c′ : Cursor) → t ≡ Turn.Old
+        → Appended used prev (record { headword = take (c .length) word; body = take (c .next - (c .zero + 1)) (drop (c .zero + 1) run) }) part part′ last′ u
+        → (u ≡ 0 → ⊥) → used ≤ length part → c .length ≤ length word → ahead run word′ c′ ≡ entries-left (below-of 0) (take (c .length) word) (drop (c .next) run) → c′ .fresh ≡ c .fresh
         → Filling es₀ part₀ (todo run word′ h body c′) part′ (take (c .length) last′) u
     unfolding bytes-at
     part-keeps word′ c′ q a z l m p f =
@@ -197,11 +198,11 @@ module _ (es₀ : List Entry) (part₀ run word h body part prev : List ℕ) (us
 module _ (run word h : List ℕ) (c : Cursor) (t : Turn) (told : t ≡ turn-of (below-of 0) h (c .fresh) (c .length) word) where
   module _ (word′ : List ℕ) (c′ : Cursor) where
     -- an old entry dropped
-    pub skip-less : t ≡ Turn.Skip → ahead run word′ c′ ≡ entries-left format4 (take (c .length) word) (drop (c .next) run) → c′ .fresh ≡ c .fresh → work run word′ c′ < work run word c
+    pub skip-less : t ≡ Turn.Skip → ahead run word′ c′ ≡ entries-left (below-of 0) (take (c .length) word) (drop (c .next) run) → c′ .fresh ≡ c .fresh → work run word′ c′ < work run word c
     skip-less q p f = rw (ahead-some run word c (skip-some run word h [] c (sym told ∙ q)), p, f) (omega arith)
 
     -- an old entry kept
-    pub old-less : t ≡ Turn.Old → ahead run word′ c′ ≡ entries-left format4 (take (c .length) word) (drop (c .next) run) → c′ .fresh ≡ c .fresh → work run word′ c′ < work run word c
+    pub old-less : t ≡ Turn.Old → ahead run word′ c′ ≡ entries-left (below-of 0) (take (c .length) word) (drop (c .next) run) → c′ .fresh ≡ c .fresh → work run word′ c′ < work run word c
     old-less q p f = rw (ahead-some run word c (old-some run word h [] c (sym told ∙ q)), p, f) (omega arith)
 
   -- the new entry
@@ -229,7 +230,8 @@ ahead-short run word c k = go (eqb (c .length) 0) refl
         let p : 1 ≤ c .length = omega (arith, eqb-false (c .length) 0 q) in
         rw (ahead-some run word c q) (
           (headword-by (take (c .length) word) (omega arith) (omega (arith, k .short)) (k .clean), body-few run (c .zero) (c .next) (k .body-short)),
-          all-map _ _ (λ d w. (w .0, body-short (d .body) (w .1))) (entries-left format4 (take (c .length) word) (drop (c .next) run)) (left-ok format4 (take (c .length) word) (drop (c .next) run)),
+          all-map _ _ (λ d w. (w .0, body-short (d .body) (w .1))) (entries-left (below-of 0) (take (c .length) word) (drop (c .next) run))
+              (left-ok (below-of 0) (take (c .length) word) (drop (c .next) run)),
         )
 
 -- all of them
@@ -240,7 +242,7 @@ todo-short run word h body c k p q = merge-all (below-of 0) (record { headword =
 -- the entries of a changed run are no more than its bytes and one
 pub changed-few : (run h body : List ℕ) (fresh : Bool) → length (changed-entries run h body fresh) ≤ length run + 1
 unfolding changed-entries
-changed-few run h body fresh = omega (arith, merge-few (below-of 0) (record { headword = h; body = body }) fresh (entries-left format4 [] run), left-few format4 [] run)
+changed-few run h body fresh = omega (arith, merge-few (below-of 0) (record { headword = h; body = body }) fresh (entries-left (below-of 0) [] run), left-few (below-of 0) [] run)
 
 -- ---- the headword of a part's first entry
 -- what stands behind its field length and its shared front
@@ -251,7 +253,8 @@ entry-front e es = append-assoc (e .headword) (0 ∷ e .body) (entries-bytes (e 
 module _ (part : List ℕ) (used : ℕ) (e : Entry) (es : List Entry) (stands : take used part ≡ entries-bytes [] (e ∷ es)) where
   front-long : 3 + length (e .headword) ≤ used
   front-long =
-      let a : length (drop 3 (entries-bytes [] (e ∷ es))) ≡ length (e .headword) + suc (length (e .body ++ entries-bytes (e .headword) es)) = ap length (entry-front e es) ∙ length-append (e .headword) (0 ∷ (e .body ++ entries-bytes (e .headword) es)) in
+      let a : length (drop 3 (entries-bytes [] (e ∷ es))) ≡ length (e .headword) + suc (length (e .body ++ entries-bytes (e .headword) es))
+      = ap length (entry-front e es) ∙ length-append (e .headword) (0 ∷ (e .body ++ entries-bytes (e .headword) es)) in
       omega (arith, length-drop 3 (entries-bytes [] (e ∷ es)), ap length stands, length-take used part)
 
   -- it is found there
@@ -292,7 +295,7 @@ pub none-zero : no-zero [] ≡ true
 unfolding no-zero all
 none-zero = refl
 
-module _ (run word h body : List ℕ) (fresh : Bool) (c : Cursor) (begun : ahead run word c ≡ entries-left format4 [] run) (same : c .fresh ≡ fresh) where
+module _ (run word h body : List ℕ) (fresh : Bool) (c : Cursor) (begun : ahead run word c ≡ entries-left (below-of 0) [] run) (same : c .fresh ≡ fresh) where
   -- at first all entries of the changed run are to do
   pub begun-todo : todo run word h body c ≡ changed-entries run h body fresh
   unfolding todo changed-entries

@@ -6,13 +6,12 @@ use mathlib.Core.List.{List, [], _∷_, map}
 use native.Mathlib.Omega.{arith}
 use lib.ListN.{length, take, length-append}
 use Rattle.spec.specs.Bytes.{write, no-zero, blocks-for}
-use Rattle.spec.specs.Header.{format4}
 use Rattle.spec.specs.Entry.{Entry, entry-bytes}
 use Rattle.spec.specs.Run.{entries-bytes}
 use Rattle.spec.specs.Index.{element-bytes, elements-bytes}
 use Rattle.spec.specs.Blocks.{run-blocks}
 use Rattle.spec.specs.Place.{cut, first-headword, new-run, element-of}
-use Rattle.spec.proofs.ListsLaws.{All}
+use Rattle.spec.specs.Lists.{All}
 use Rattle.spec.proofs.BytesLaws.{length-to-little-endian}
 use Rattle.spec.proofs.IndexLaws.{headword-no-zero}
 use Rattle.spec.proofs.RunLaws.{head-bounds}
@@ -25,7 +24,7 @@ parts-in es = length (map new-run (cut 1_024 es))
 
 -- the bytes of their elements
 unfoldable pub bytes-in : List Entry → ℕ
-bytes-in es = length (elements-bytes format4 (map element-of (map new-run (cut 1_024 es))))
+bytes-in es = length (elements-bytes 2 (map element-of (map new-run (cut 1_024 es))))
 
 -- their blocks
 unfoldable pub blocks-in : List Entry → ℕ
@@ -42,8 +41,8 @@ module _ (e : Entry) (es : List Entry) where
   unfolding parts-in
   parts-cons = rw (cut-parts 1_024 e es) (omega arith)
 
-  element-long : length (element-bytes format4 (element-of (new-run (part-of 1_024 0 [] (e ∷ es))))) ≡ 3 + length (e .headword)
-  unfolding element-bytes element-of new-run first-headword format4
+  element-long : length (element-bytes 2 (element-of (new-run (part-of 1_024 0 [] (e ∷ es))))) ≡ 3 + length (e .headword)
+  unfolding element-bytes element-of new-run first-headword
   element-long = rw (part-first 1_024 [] e es) (simp (length-append, length-to-little-endian) (omega arith))
 
   bytes-cons : bytes-in (e ∷ es) ≡ 3 + length (e .headword) + bytes-in (past-part 1_024 0 [] (e ∷ es))
@@ -129,7 +128,8 @@ module _ (es₀ es : List Entry) (parts bytes blocks used : ℕ) (counting : Cou
         let k : bytes + bytes-in (e ∷ ds) ≡ bytes-in es₀ = rw p at (counting .bytes-all) in
         let X : List ℕ = entries-bytes [] (part-of 1_024 0 [] es) in
         let a : take used part′ ≡ X = front-stored X part part′ used w size in
-        let b : X ≡ entries-bytes [] (e ∷ part-of 1_024 (length (entry-bytes [] e)) (e .headword) ds) = ap (λ (xs : List Entry). entries-bytes [] (part-of 1_024 0 [] xs)) p ∙ ap (entries-bytes []) (part-first 1_024 [] e ds) in
+        let b : X ≡ entries-bytes [] (e ∷ part-of 1_024 (length (entry-bytes [] e)) (e .headword) ds)
+        = ap (λ (xs : List Entry). entries-bytes [] (part-of 1_024 0 [] xs)) p ∙ ap (entries-bytes []) (part-first 1_024 [] e ds) in
         let ok : All Short (e ∷ ds) = rw p at s in
         let q : r ≡ 3 + length (e .headword) = h e (part-of 1_024 (length (entry-bytes [] e)) (e .headword) ds) (a ∙ b) (headword-no-zero (e .headword) (ok .0 .0)) in
         rw (behind, p) (omega (arith, bytes-cons e ds))

@@ -9,14 +9,13 @@ use native.Mathlib.Omega.{arith}
 use lib.ListN.{length, take, drop}
 use lib.Dec.{eqb}
 use Rattle.spec.specs.Outcome.{Outcome, refused, ok}
-use Rattle.spec.specs.Lists.{all, filter}
+use Rattle.spec.specs.Lists.{all, filter, All}
 use Rattle.spec.specs.Bytes.{bytes-at, bytes-equal}
-use Rattle.spec.specs.Order.{IsOrder, Ascend, below-of}
-use Rattle.spec.specs.Header.{Format, format4}
+use Rattle.spec.specs.Order.{IsOrder, Ascend, below-of, HeadwordOrder}
 use Rattle.spec.specs.Entry.{Entry, headword-ok, body-ok}
 use Rattle.spec.specs.Run.{read-entry, entries-from}
 use Rattle.spec.specs.SortedList.{Sorted, has-headword, replace, remove}
-use Rattle.spec.proofs.ListsLaws.{All, all-map, clash, and-left, and-right, filter-yes, filter-no, filter-every, filter-nothing}
+use Rattle.spec.proofs.ListsLaws.{all-map, clash, and-left, and-right, filter-yes, filter-no, filter-every, filter-nothing}
 use Rattle.spec.proofs.OutcomeLaws.{ok-not-refused, same-value, bind-ok}
 use Rattle.spec.proofs.OrderLaws.{one-way, order-of}
 use Rattle.spec.proofs.ReadLaws.{entry-told, after-step, bytes-self}
@@ -31,106 +30,107 @@ use Rattle.parts.specs.Merge.{entries-until, entries-left, merge, ahead,
 
 -- ---- the entries left
 -- by what stands at the front
-module _ (F : Format) (n : ℕ) (prev s : List ℕ) where
-  until-refused : (k : ℕ) → read-entry F prev s ≡ refused k → entries-until F (suc n) prev s ≡ []
+module _ (below : HeadwordOrder) (n : ℕ) (prev s : List ℕ) where
+  until-refused : (k : ℕ) → read-entry below prev s ≡ refused k → entries-until below (suc n) prev s ≡ []
   unfolding entries-until
   until-refused k q = rw (q, entries-until)
 
-  until-none : read-entry F prev s ≡ ok none → entries-until F (suc n) prev s ≡ []
+  until-none : read-entry below prev s ≡ ok none → entries-until below (suc n) prev s ≡ []
   unfolding entries-until
   until-none q = rw (q, entries-until)
 
-  until-some : (p : Entry × List ℕ) → read-entry F prev s ≡ ok (some p) → entries-until F (suc n) prev s ≡ p .0 ∷ entries-until F n (p .0 .headword) (p .1)
+  until-some : (p : Entry × List ℕ) → read-entry below prev s ≡ ok (some p) → entries-until below (suc n) prev s ≡ p .0 ∷ entries-until below n (p .0 .headword) (p .1)
   unfolding entries-until
   until-some p q = rw (q, entries-until)
 
 -- a bound that is not reached does not count
-until-enough : (F : Format) (n m : ℕ) (prev s : List ℕ) → length s < n → length s < m → entries-until F n prev s ≡ entries-until F m prev s
-until-enough F zero m prev s p q = absurd (omega arith)
-until-enough F (suc n) zero prev s p q = absurd (omega arith)
-until-enough F (suc n) (suc m) prev s p q = go (λ w t a b. until-enough F n m w t a b) (read-entry F prev s) refl
+until-enough : (below : HeadwordOrder) (n m : ℕ) (prev s : List ℕ) → length s < n → length s < m → entries-until below n prev s ≡ entries-until below m prev s
+until-enough below zero m prev s p q = absurd (omega arith)
+until-enough below (suc n) zero prev s p q = absurd (omega arith)
+until-enough below (suc n) (suc m) prev s p q = go (λ w t a b. until-enough below n m w t a b) (read-entry below prev s) refl
   where
-    go : ((w t : List ℕ) → length t < n → length t < m → entries-until F n w t ≡ entries-until F m w t) → (o : Outcome (Option (Entry × List ℕ))) → read-entry F prev s ≡ o
-        → entries-until F (suc n) prev s ≡ entries-until F (suc m) prev s
-    go ih (refused k) e = until-refused F n prev s k e ∙ sym (until-refused F m prev s k e)
-    go ih (ok none) e = until-none F n prev s e ∙ sym (until-none F m prev s e)
+    go : ((w t : List ℕ) → length t < n → length t < m → entries-until below n w t ≡ entries-until below m w t) → (o : Outcome (Option (Entry × List ℕ))) → read-entry below prev s ≡ o
+        → entries-until below (suc n) prev s ≡ entries-until below (suc m) prev s
+    go ih (refused k) e = until-refused below n prev s k e ∙ sym (until-refused below m prev s k e)
+    go ih (ok none) e = until-none below n prev s e ∙ sym (until-none below m prev s e)
     go ih (ok (some x)) e =
-        let l : length (x .1) < length s = entry-told F prev s (x .0) (x .1) e .1 in
-        until-some F n prev s x e ∙ ap (λ (es : List Entry). x .0 ∷ es) (ih (x .0 .headword) (x .1) (omega arith) (omega arith)) ∙ sym (until-some F m prev s x e)
+        let l : length (x .1) < length s = entry-told below prev s (x .0) (x .1) e .1 in
+        until-some below n prev s x e ∙ ap (λ (es : List Entry). x .0 ∷ es) (ih (x .0 .headword) (x .1) (omega arith) (omega arith)) ∙ sym (until-some below m prev s x e)
 
-module _ (F : Format) (prev s : List ℕ) where
+module _ (below : HeadwordOrder) (prev s : List ℕ) where
   -- none at a broken rule
-  pub left-refused : (k : ℕ) → read-entry F prev s ≡ refused k → entries-left F prev s ≡ []
+  pub left-refused : (k : ℕ) → read-entry below prev s ≡ refused k → entries-left below prev s ≡ []
   unfolding entries-left
-  left-refused k q = until-refused F (length s) prev s k q
+  left-refused k q = until-refused below (length s) prev s k q
 
   -- none at the end marks
-  pub left-none : read-entry F prev s ≡ ok none → entries-left F prev s ≡ []
+  pub left-none : read-entry below prev s ≡ ok none → entries-left below prev s ≡ []
   unfolding entries-left
-  left-none q = until-none F (length s) prev s q
+  left-none q = until-none below (length s) prev s q
 
   -- an entry, and those behind it
-  pub left-some : (e : Entry) (rest : List ℕ) → read-entry F prev s ≡ ok (some (e, rest)) → entries-left F prev s ≡ e ∷ entries-left F (e .headword) rest
+  pub left-some : (e : Entry) (rest : List ℕ) → read-entry below prev s ≡ ok (some (e, rest)) → entries-left below prev s ≡ e ∷ entries-left below (e .headword) rest
   unfolding entries-left
   left-some e rest q =
-      let l : length rest < length s = entry-told F prev s e rest q .1 in
-      until-some F (length s) prev s (e, rest) q ∙ ap (λ (es : List Entry). e ∷ es) (until-enough F (length s) (suc (length rest)) (e .headword) rest l (omega arith))
+      let l : length rest < length s = entry-told below prev s e rest q .1 in
+      until-some below (length s) prev s (e, rest) q ∙ ap (λ (es : List Entry). e ∷ es) (until-enough below (length s) (suc (length rest)) (e .headword) rest l (omega arith))
 
 -- entries that were read are those left
-pub entries-left-read : (F : Format) (n : ℕ) (prev s : List ℕ) (es : List Entry) → entries-from F n prev s ≡ ok es → entries-left F prev s ≡ es
+pub entries-left-read : (below : HeadwordOrder) (n : ℕ) (prev s : List ℕ) (es : List Entry) → entries-from below n prev s ≡ ok es → entries-left below prev s ≡ es
 unfolding entries-from
-entries-left-read F zero prev s es h = absurd (ok-not-refused es 8 (sym h))
-entries-left-read F (suc n) prev s es h =
-    let (r, p, q) = bind-ok (read-entry F prev s) (after-step F n) es h in
-    go (λ w t ds k. entries-left-read F n w t ds k) r p q
+entries-left-read below zero prev s es h = absurd (ok-not-refused es 8 (sym h))
+entries-left-read below (suc n) prev s es h =
+    let (r, p, q) = bind-ok (read-entry below prev s) (after-step below n) es h in
+    go (λ w t ds k. entries-left-read below n w t ds k) r p q
   where
-    go : ((w t : List ℕ) (ds : List Entry) → entries-from F n w t ≡ ok ds → entries-left F w t ≡ ds) → (r : Option (Entry × List ℕ)) → read-entry F prev s ≡ ok r
-        → after-step F n r ≡ ok es → entries-left F prev s ≡ es
-    go ih none p q = left-none F prev s p ∙ same-value [] es q
+    go : ((w t : List ℕ) (ds : List Entry) → entries-from below n w t ≡ ok ds → entries-left below w t ≡ ds) → (r : Option (Entry × List ℕ)) → read-entry below prev s ≡ ok r
+        → after-step below n r ≡ ok es → entries-left below prev s ≡ es
+    go ih none p q = left-none below prev s p ∙ same-value [] es q
     go ih (some x) p q =
-        let (ds, u, v) = bind-ok (entries-from F n (x .0 .headword) (x .1)) (λ ds. ok (x .0 ∷ ds)) es q in
-        left-some F prev s (x .0) (x .1) p ∙ ap (λ (l : List Entry). x .0 ∷ l) (ih (x .0 .headword) (x .1) ds u) ∙ same-value (x .0 ∷ ds) es v
+        let (ds, u, v) = bind-ok (entries-from below n (x .0 .headword) (x .1)) (λ ds. ok (x .0 ∷ ds)) es q in
+        left-some below prev s (x .0) (x .1) p ∙ ap (λ (l : List Entry). x .0 ∷ l) (ih (x .0 .headword) (x .1) ds u) ∙ same-value (x .0 ∷ ds) es v
 
 -- an entry that keeps its rules
 abbrev pub Ruled : Entry → Type 0
 Ruled e = (headword-ok (e .headword) ≡ true) × (body-ok (e .body) ≡ true)
 
-until-ok : (F : Format) (n : ℕ) (prev s : List ℕ) → All Ruled (entries-until F n prev s)
+until-ok : (below : HeadwordOrder) (n : ℕ) (prev s : List ℕ) → All Ruled (entries-until below n prev s)
 unfolding entries-until
-until-ok F zero prev s = tt
-until-ok F (suc n) prev s = go (λ w t. until-ok F n w t) (read-entry F prev s) refl
+until-ok below zero prev s = tt
+until-ok below (suc n) prev s = go (λ w t. until-ok below n w t) (read-entry below prev s) refl
   where
-    go : ((w t : List ℕ) → All Ruled (entries-until F n w t)) → (o : Outcome (Option (Entry × List ℕ))) → read-entry F prev s ≡ o → All Ruled (entries-until F (suc n) prev s)
-    go ih (refused k) e = rw (until-refused F n prev s k e) tt
-    go ih (ok none) e = rw (until-none F n prev s e) tt
+    go : ((w t : List ℕ) → All Ruled (entries-until below n w t)) → (o : Outcome (Option (Entry × List ℕ))) → read-entry below prev s ≡ o → All Ruled (entries-until below (suc n) prev s)
+    go ih (refused k) e = rw (until-refused below n prev s k e) tt
+    go ih (ok none) e = rw (until-none below n prev s e) tt
     go ih (ok (some x)) e =
-        let t = entry-told F prev s (x .0) (x .1) e .0 in
-        rw (until-some F n prev s x e) ((t .0, t .1), ih (x .0 .headword) (x .1))
+        let t = entry-told below prev s (x .0) (x .1) e .0 in
+        rw (until-some below n prev s x e) ((t .0, t .1), ih (x .0 .headword) (x .1))
 
 -- all entries left keep their rules
-pub left-ok : (F : Format) (prev s : List ℕ) → All Ruled (entries-left F prev s)
+pub left-ok : (below : HeadwordOrder) (prev s : List ℕ) → All Ruled (entries-left below prev s)
 unfolding entries-left
-left-ok F prev s = until-ok F (suc (length s)) prev s
+left-ok below prev s = until-ok below (suc (length s)) prev s
 
-until-few : (F : Format) (n : ℕ) (prev s : List ℕ) → length (entries-until F n prev s) ≤ length s
+until-few : (below : HeadwordOrder) (n : ℕ) (prev s : List ℕ) → length (entries-until below n prev s) ≤ length s
 unfolding entries-until
-until-few F zero prev s = omega arith
-until-few F (suc n) prev s = go (λ w t. until-few F n w t) (read-entry F prev s) refl
+until-few below zero prev s = omega arith
+until-few below (suc n) prev s = go (λ w t. until-few below n w t) (read-entry below prev s) refl
   where
-    go : ((w t : List ℕ) → length (entries-until F n w t) ≤ length t) → (o : Outcome (Option (Entry × List ℕ))) → read-entry F prev s ≡ o → length (entries-until F (suc n) prev s) ≤ length s
-    go ih (refused k) e = rw (until-refused F n prev s k e) (omega arith)
-    go ih (ok none) e = rw (until-none F n prev s e) (omega arith)
+    go : ((w t : List ℕ) → length (entries-until below n w t) ≤ length t) → (o : Outcome (Option (Entry × List ℕ))) → read-entry below prev s ≡ o
+        → length (entries-until below (suc n) prev s) ≤ length s
+    go ih (refused k) e = rw (until-refused below n prev s k e) (omega arith)
+    go ih (ok none) e = rw (until-none below n prev s e) (omega arith)
     go ih (ok (some x)) e =
-        let l : length (x .1) < length s = entry-told F prev s (x .0) (x .1) e .1 in
-        rw (until-some F n prev s x e) (omega (arith, ih (x .0 .headword) (x .1)))
+        let l : length (x .1) < length s = entry-told below prev s (x .0) (x .1) e .1 in
+        rw (until-some below n prev s x e) (omega (arith, ih (x .0 .headword) (x .1)))
 
 -- they are no more than the bytes
-pub left-few : (F : Format) (prev s : List ℕ) → length (entries-left F prev s) ≤ length s
+pub left-few : (below : HeadwordOrder) (prev s : List ℕ) → length (entries-left below prev s) ≤ length s
 unfolding entries-left
-left-few F prev s = until-few F (suc (length s)) prev s
+left-few below prev s = until-few below (suc (length s)) prev s
 
 -- ---- the change merged in
-module _ (below : List ℕ → List ℕ → Bool) (a : Entry) where
+module _ (below : HeadwordOrder) (a : Entry) where
   -- an entry below the new one stays in front
   pub merge-below : (fresh : Bool) (e : Entry) (es : List Entry) → comparison below (e .headword) (a .headword) ≡ Below → merge below a fresh (e ∷ es) ≡ e ∷ merge below a fresh es
   unfolding merge
@@ -171,7 +171,8 @@ module _ (below : List ℕ → List ℕ → Bool) (a : Entry) where
   merge-few false [] = omega arith
   merge-few fresh (e ∷ es) = go fresh (λ t. merge-few t es) (comparison below (e .headword) (a .headword)) refl
     where
-      go : (t : Bool) → ((u : Bool) → length (merge below a u es) ≤ length es + 1) → (k : Comparison) → comparison below (e .headword) (a .headword) ≡ k → length (merge below a t (e ∷ es)) ≤ suc (length es) + 1
+      go : (t : Bool) → ((u : Bool) → length (merge below a u es) ≤ length es + 1) → (k : Comparison) → comparison below (e .headword) (a .headword) ≡ k
+          → length (merge below a t (e ∷ es)) ≤ suc (length es) + 1
       go t ih Below q = rw (merge-below t e es q) (omega (arith, ih t))
       go t ih Same q = rw (merge-same t e es q) (omega (arith, ih t))
       go true ih Above q = rw (merge-enters e es q) (omega (arith, merge-old es))
@@ -203,7 +204,8 @@ module _ (below : List ℕ → List ℕ → Bool) (a : Entry) where
         go ih Same q = merge-same false e es q ∙ ih
             ∙ sym (filter-no (λ d. not (bytes-equal (d .headword) (a .headword))) e es (rw (comparison-same below (e .headword) (a .headword) order q, bytes-self (a .headword))))
         go ih Above q = merge-above e es q ∙ ap (λ (l : List Entry). e ∷ l) ih
-            ∙ sym (filter-yes (λ d. not (bytes-equal (d .headword) (a .headword))) e es (ap not (other-way below order (a .headword) (e .headword) (comparison-above below (e .headword) (a .headword) q))))
+            ∙ sym (filter-yes (λ d. not (bytes-equal (d .headword) (a .headword))) e es
+            (ap not (other-way below order (a .headword) (e .headword) (comparison-above below (e .headword) (a .headword) q))))
 
     -- entries above the new one stay as they are
     merge-stays : (es : List Entry) → All (λ d. below (a .headword) (d .headword) ≡ true) es → merge below a false es ≡ es
@@ -227,23 +229,28 @@ module _ (below : List ℕ → List ℕ → Bool) (a : Entry) where
         upper : Entry → Bool
         upper d = below (a .headword) (d .headword)
 
-        go : merge below a true es ≡ replace below a es → (k : Comparison) → comparison below (e .headword) (a .headword) ≡ k → merge below a true (e ∷ es) ≡ filter lower (e ∷ es) ++ a ∷ filter upper (e ∷ es)
+        go : merge below a true es ≡ replace below a es → (k : Comparison) → comparison below (e .headword) (a .headword) ≡ k
+            → merge below a true (e ∷ es) ≡ filter lower (e ∷ es) ++ a ∷ filter upper (e ∷ es)
         go ih Below q =
             merge-below true e es q
-            ∙ rw (filter-yes lower e es (comparison-below below (e .headword) (a .headword) q), filter-no upper e es (comparison-below-not below (e .headword) (a .headword) order q)) (ap (λ (l : List Entry). e ∷ l) ih)
+            ∙ rw (
+              filter-yes lower e es (comparison-below below (e .headword) (a .headword) q),
+              filter-no upper e es (comparison-below-not below (e .headword) (a .headword) order q),
+            ) (ap (λ (l : List Entry). e ∷ l) ih)
         go ih Same q =
             let s : e .headword ≡ a .headword = comparison-same below (e .headword) (a .headword) order q in
             let i : below (a .headword) (a .headword) ≡ false = order .irreflexive (a .headword) in
             merge-same true e es q ∙ rw (filter-no lower e es (rw s i), filter-no upper e es (rw s i)) ih
         go ih Above q =
             let up : below (a .headword) (e .headword) ≡ true = comparison-above below (e .headword) (a .headword) q in
-            let every : All (λ d. below (a .headword) (d .headword) ≡ true) es = all-map _ _ (λ d r. order .transitive (a .headword) (e .headword) (d .headword) up r) es (headwords-above (e .headword) es h) in
+            let every : All (λ d. below (a .headword) (d .headword) ≡ true) es
+            = all-map _ _ (λ d r. order .transitive (a .headword) (e .headword) (d .headword) up r) es (headwords-above (e .headword) es h) in
             let none-lower : filter lower es ≡ [] = filter-nothing lower es (all-map _ _ (λ d r. one-way below order (a .headword) (d .headword) r) es every) in
             merge-enters e es q
             ∙ rw (filter-no lower e es (comparison-above-not below (e .headword) (a .headword) q), filter-yes upper e es up, none-lower, filter-every upper es every, merge-stays es every)
 
 -- a new entry that comes next, alone or before one above it
-module _ (below : List ℕ → List ℕ → Bool) (a : Entry) (es : List Entry) where
+module _ (below : HeadwordOrder) (a : Entry) (es : List Entry) where
   new-alone : es ≡ [] → merge below a true es ≡ a ∷ merge below a false es
   unfolding merge
   new-alone q = rw q
@@ -260,7 +267,8 @@ module _ (run word : List ℕ) (c : Cursor) where
 
   -- an entry, and those behind it
   pub ahead-some : eqb (c .length) 0 ≡ false
-      → ahead run word c ≡ record { headword = take (c .length) word; body = bytes-at (c .zero + 1) (c .next - (c .zero + 1)) run } ∷ entries-left format4 (take (c .length) word) (drop (c .next) run)
+      → ahead run word c ≡ record { headword = take (c .length) word; body = bytes-at (c .zero + 1) (c .next - (c .zero + 1)) run }
+      ∷ entries-left (below-of 0) (take (c .length) word) (drop (c .next) run)
   unfolding ahead
   ahead-some q = rw (q, ahead)
 
@@ -304,7 +312,7 @@ by-new false true Above h = (refl, inr (refl, refl))
 by-new false false Above h = clash (cc)
 
 -- a turn where an old entry is left, by how it stands to the new one
-module _ (below : List ℕ → List ℕ → Bool) (h word : List ℕ) (n : ℕ) (fresh : Bool) (b : eqb n 0 ≡ false) where
+module _ (below : HeadwordOrder) (h word : List ℕ) (n : ℕ) (fresh : Bool) (b : eqb n 0 ≡ false) where
   -- below the new one it is kept
   pub turn-keeps : comparison below (take n word) h ≡ Below → turn-of below h fresh n word ≡ Turn.Old
   unfolding turn-of
@@ -350,7 +358,7 @@ module _ (run word h body : List ℕ) (c : Cursor) where
 
   -- the old entry, which the change drops
   pub todo-skip : turn-of (below-of 0) h (c .fresh) (c .length) word ≡ Turn.Skip
-      → todo run word h body c ≡ merge (below-of 0) (record { headword = h; body = body }) (c .fresh) (entries-left format4 (take (c .length) word) (drop (c .next) run))
+      → todo run word h body c ≡ merge (below-of 0) (record { headword = h; body = body }) (c .fresh) (entries-left (below-of 0) (take (c .length) word) (drop (c .next) run))
   unfolding turn-of todo
   todo-skip q =
       let (b, k) = by-skip (eqb (c .length) 0) (c .fresh) (comparison (below-of 0) (take (c .length) word) h) q in
@@ -359,7 +367,7 @@ module _ (run word h body : List ℕ) (c : Cursor) where
   -- the old entry
   pub todo-old : turn-of (below-of 0) h (c .fresh) (c .length) word ≡ Turn.Old
       → todo run word h body c ≡ record { headword = take (c .length) word; body = bytes-at (c .zero + 1) (c .next - (c .zero + 1)) run }
-      ∷ merge (below-of 0) (record { headword = h; body = body }) (c .fresh) (entries-left format4 (take (c .length) word) (drop (c .next) run))
+      ∷ merge (below-of 0) (record { headword = h; body = body }) (c .fresh) (entries-left (below-of 0) (take (c .length) word) (drop (c .next) run))
   unfolding turn-of todo
   todo-old q =
       let (b, k) = by-old (eqb (c .length) 0) (c .fresh) (comparison (below-of 0) (take (c .length) word) h) q in

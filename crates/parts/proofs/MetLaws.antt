@@ -9,7 +9,6 @@ use borrow.Author.Tests.{eq-eqb}
 use Rattle.spec.specs.Lists.{filter, first}
 use Rattle.spec.specs.Bytes.{bytes-equal}
 use Rattle.spec.specs.Order.{below-of}
-use Rattle.spec.specs.Header.{format4}
 use Rattle.spec.specs.Entry.{Entry}
 use Rattle.spec.specs.SortedList.{has-headword, lookup}
 use Rattle.spec.specs.Claim.{is-there}
@@ -38,7 +37,7 @@ met-start h es = record { told = refl }
 
 module _ (run word h : List ℕ) (c : Cursor) (t : Turn) (told : t ≡ turn-of (below-of 0) h (c .fresh) (c .length) word) where
   module _ (es₀ : List Entry) (found : Bool) (met : Met h es₀ found (ahead run word c)) (word′ : List ℕ) (c′ : Cursor)
-      (p : ahead run word′ c′ ≡ entries-left format4 (take (c .length) word) (drop (c .next) run)) where
+      (p : ahead run word′ c′ ≡ entries-left (below-of 0) (take (c .length) word) (drop (c .next) run)) where
     -- an old entry that is dropped is found
     pub met-skip : t ≡ Turn.Skip → Met h es₀ true (ahead run word′ c′)
     met-skip q =
@@ -69,8 +68,8 @@ full-some used prev e part part′ last u a z q = true≢false (sym (rw (eq-eqb 
 
 -- ---- measure
 -- nothing is found where reading begins
-pub met-begun : (h run word : List ℕ) (c : Cursor) → ahead run word c ≡ entries-left format4 [] run → Met h (entries-left format4 [] run) false (ahead run word c)
-met-begun h run word c p = rw p (met-start h (entries-left format4 [] run))
+pub met-begun : (h run word : List ℕ) (c : Cursor) → ahead run word c ≡ entries-left (below-of 0) [] run → Met h (entries-left (below-of 0) [] run) false (ahead run word c)
+met-begun h run word c p = rw p (met-start h (entries-left (below-of 0) [] run))
 
 -- one part more
 pub met-part : (h : List ℕ) (es₀ es₁ es₂ : List Entry) (a b : Bool) → Met h es₀ a es₁ → Met h es₁ b es₂ → Met h es₀ (a || b) es₂

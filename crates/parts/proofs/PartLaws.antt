@@ -13,7 +13,8 @@ use Rattle.spec.specs.Bytes.{write, bytes-at, blocks-for}
 use Rattle.spec.specs.Entry.{Entry, headword-ok, entry-bytes}
 use Rattle.spec.specs.Run.{entries-bytes, encoded-size, run-size}
 use Rattle.spec.specs.Place.{into-first, cut-after, cut, first-headword}
-use Rattle.spec.proofs.ListsLaws.{All, or-cases}
+use Rattle.spec.specs.Lists.{All}
+use Rattle.spec.proofs.ListsLaws.{or-cases}
 use Rattle.spec.proofs.RunLaws.{head-bounds}
 use Rattle.spec.proofs.WriteLaws.{written-front, written-behind, write-none}
 use Rattle.encoder.proofs.Laws.{length-entry}
@@ -103,7 +104,8 @@ cut-rest limit n prev (e ∷ es) h = go (cut-rest limit (n + length (entry-bytes
     sum : 4 + n + length (entry-bytes prev e) ≡ 4 + (n + length (entry-bytes prev e))
     sum = omega arith
 
-    go : cut-after limit (4 + (n + length (entry-bytes prev e))) (e .headword) es ≡ part-of limit (n + length (entry-bytes prev e)) (e .headword) es ∷ cut limit (past-part limit (n + length (entry-bytes prev e)) (e .headword) es)
+    go : cut-after limit (4 + (n + length (entry-bytes prev e))) (e .headword) es
+        ≡ part-of limit (n + length (entry-bytes prev e)) (e .headword) es ∷ cut limit (past-part limit (n + length (entry-bytes prev e)) (e .headword) es)
         → (t : Bool) → leb (4 + (n + length (entry-bytes prev e))) limit ≡ t
         → cut-after limit (4 + n) prev (e ∷ es) ≡ part-of limit n prev (e ∷ es) ∷ cut limit (past-part limit n prev (e ∷ es))
     go ih true q =
@@ -125,7 +127,8 @@ pub cut-parts : (limit : ℕ) (e : Entry) (es : List Entry) → cut limit (e ∷
 unfolding cut into-first
 cut-parts limit e es =
     let n : ℕ = length (entry-bytes [] e) in
-    let q : cut-after limit (4 + n) (e .headword) es ≡ part-of limit n (e .headword) es ∷ cut limit (past-part limit n (e .headword) es) = cut-rest limit n (e .headword) es (omega (arith, entry-some [] e)) in
+    let q : cut-after limit (4 + n) (e .headword) es ≡ part-of limit n (e .headword) es ∷ cut limit (past-part limit n (e .headword) es)
+    = cut-rest limit n (e .headword) es (omega (arith, entry-some [] e)) in
     ap (into-first e) q ∙ sym (rw (part-first limit [] e es, past-first limit [] e es))
 
 -- ---- facts of all entries

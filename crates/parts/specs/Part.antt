@@ -6,7 +6,6 @@ use mathlib.Core.List.{List, [], _∷_, map}
 use lib.ListN.{length, take}
 use lib.Dec.{leb, eqb}
 use Rattle.spec.specs.Bytes.{write}
-use Rattle.spec.specs.Header.{format4}
 use Rattle.spec.specs.Entry.{Entry, entry-bytes}
 use Rattle.spec.specs.Run.{Run}
 use Rattle.spec.specs.Index.{elements-bytes}
@@ -41,7 +40,7 @@ Appended used prev e part part′ last r =
 
 -- parts by their numbers: how many, the bytes of their elements, their blocks
 abbrev pub Measured : List Run → ℕ → ℕ → ℕ → Type 0
-Measured ps n bytes blocks = (n ≡ length ps) × (bytes ≡ length (elements-bytes format4 (map element-of ps))) × (blocks ≡ run-blocks ps)
+Measured ps n bytes blocks = (n ≡ length ps) × (bytes ≡ length (elements-bytes 2 (map element-of ps))) × (blocks ≡ run-blocks ps)
 
 -- names all definitions of this module: who unfolds it unfolds them
 unfoldable pub open-part : Unit {0}

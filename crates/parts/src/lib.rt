@@ -6,7 +6,6 @@ ghost use Prim.Native.Nat.{_+_, _≤_, _<_};
 ghost use lib.ListN.{length, take, drop};
 ghost use Rattle.spec.specs.Bytes.{write, no-zero};
 ghost use Rattle.spec.specs.Order.{below-of};
-ghost use Rattle.spec.specs.Header.{format4};
 ghost use Rattle.spec.specs.Entry.{Entry, headword-ok};
 ghost use Rattle.spec.specs.Run.{entries-bytes};
 ghost use Rattle.spec.specs.Place.{cut, new-run};
@@ -57,7 +56,7 @@ pub struct Sizes {
 pub fn advance(run: &[u8], at: usize, word: &mut [u8], n: usize, fresh: bool) -> Cursor
     requires { ⌜ at ≤ length (now run) ⌝ }
     requires { ⌜ (248 ≤ length (now word)) × (n ≤ 248) × (no-zero (take n (now word)) ≡ true) ⌝ }
-    ensures { λ r. ⌜ ahead (now (run .entry)) (now (word .exit)) r ≡ entries-left format4 (take n (now (word .entry))) (drop at (now (run .entry))) ⌝ }
+    ensures { λ r. ⌜ ahead (now (run .entry)) (now (word .exit)) r ≡ entries-left (below-of 0) (take n (now (word .entry))) (drop at (now (run .entry))) ⌝ }
     ensures { λ r. ⌜ r .fresh ≡ fresh ⌝ }
     ensures { λ r. ⌜ CursorOk (now (run .entry)) (now (word .exit)) r ⌝ }
     ensures { λ r. ⌜ length (now (word .exit)) ≡ length (now (word .entry)) ⌝ }
@@ -148,7 +147,8 @@ pub fn encode_part(
     requires { ⌜ (headword-ok (now h) ≡ true) × (length (now body) ≤ 3001) × (3328 ≤ length (now part)) ⌝ }
     ensures { λ r. ⌜ now (part .exit) ≡ write 0 (entries-bytes [] (part-of 1024 0 [] (todo (now (run .entry)) (now (word .entry)) (now (h .entry)) (now (body .entry)) start))) (now (part .entry)) ⌝ }
     ensures { λ r. ⌜ r .used ≡ length (entries-bytes [] (part-of 1024 0 [] (todo (now (run .entry)) (now (word .entry)) (now (h .entry)) (now (body .entry)) start))) ⌝ }
-    ensures { λ r. ⌜ todo (now (run .entry)) (now (word .exit)) (now (h .entry)) (now (body .entry)) (r .cursor) ≡ past-part 1024 0 [] (todo (now (run .entry)) (now (word .entry)) (now (h .entry)) (now (body .entry)) start) ⌝ }
+    ensures { λ r. ⌜ todo (now (run .entry)) (now (word .exit)) (now (h .entry)) (now (body .entry)) (r .cursor)
+        ≡ past-part 1024 0 [] (todo (now (run .entry)) (now (word .entry)) (now (h .entry)) (now (body .entry)) start) ⌝ }
     ensures { λ r. ⌜ CursorOk (now (run .entry)) (now (word .exit)) (r .cursor) ⌝ }
     ensures { λ r. ⌜ (r .used ≤ 3253) × (length (now (part .exit)) ≡ length (now (part .entry))) × (length (now (word .exit)) ≡ length (now (word .entry))) ⌝ }
     ensures { λ r. ⌜ Met (now (h .entry)) (ahead (now (run .entry)) (now (word .entry)) start) (r .found) (ahead (now (run .entry)) (now (word .exit)) (r .cursor)) ⌝ }
@@ -226,7 +226,7 @@ pub fn measure(run: &[u8], h: &[u8], body: &[u8], fresh: bool) -> Sizes
     requires { ⌜ (headword-ok (now h) ≡ true) × (length (now body) ≤ 3001) × (length (now run) ≤ 8388608) ⌝ }
     ensures { λ r. ⌜ Measured (map new-run (cut 1024 (changed-entries (now (run .entry)) (now (h .entry)) (now (body .entry)) fresh))) (r .parts) (r .bytes) (r .blocks) ⌝ }
     ensures { λ r. ⌜ (r .parts ≤ 8388609) × (r .bytes ≤ 2105540859) × (r .blocks ≤ 109051917) ⌝ }
-    ensures { λ r. ⌜ r .found ≡ is-there (lookup (now (h .entry)) (entries-left format4 [] (now (run .entry)))) ⌝ }
+    ensures { λ r. ⌜ r .found ≡ is-there (lookup (now (h .entry)) (entries-left (below-of 0) [] (now (run .entry)))) ⌝ }
 {
     let mut word = [0u8; 256];
     let mut part = [0u8; 3328];

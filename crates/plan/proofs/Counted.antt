@@ -6,7 +6,7 @@ use mathlib.Core.List.{List, [], _∷_, _++_, map}
 use native.Mathlib.Omega.{arith}
 use lib.ListN.{length, length-append, length-map}
 use Rattle.spec.specs.Lists.{filter}
-use Rattle.spec.specs.Header.{Format, format4}
+use Rattle.spec.specs.Header.{Format}
 use Rattle.spec.specs.Entry.{Entry}
 use Rattle.spec.specs.Run.{Run}
 use Rattle.spec.specs.Index.{index-need}
@@ -54,12 +54,12 @@ grown-blocks g D before after = (renumbered-blocks g _ before, renumbered-blocks
 
 -- the plan of a change has the other runs and one for each part
 pub change-length : (F : Format) (i : Image) (h : List ℕ) (f : List Entry → List Entry)
-    → let c : Target = target-run F h (i .runs) in length (plan-change F i h f .runs) ≡ length (c .before) + length (map new-run (cut (F .run-limit) (f (c .entries)))) + length (c .after)
+    → let c : Target = target-run (F .below) h (i .runs) in length (plan-change F i h f .runs) ≡ length (c .before) + length (map new-run (cut (F .run-limit) (f (c .entries)))) + length (c .after)
 unfolding plan-change
 change-length F i h f =
-    let c : Target = target-run F h (i .runs) in
+    let c : Target = target-run (F .below) h (i .runs) in
     let ps : List Run = map new-run (cut (F .run-limit) (f (c .entries))) in
-    let g : ℕ = index-need F (map element-of (c .before ++ ps ++ c .after)) - i .frame .index-blocks in
+    let g : ℕ = index-need (F .number-width) (map element-of (c .before ++ ps ++ c .after)) - i .frame .index-blocks in
     let m : Grown = grown g (i .frame .data-blocks) (c .before) (c .after) in
     let p : Placed = place 0 (m .data-blocks) (m .before ++ m .after) ps in
     let (a, b) = grown-lengths g (i .frame .data-blocks) (c .before) (c .after) in
@@ -67,16 +67,24 @@ change-length F i h f =
 
 -- with their blocks
 pub change-blocks : (F : Format) (i : Image) (h : List ℕ) (f : List Entry → List Entry)
-    → let c : Target = target-run F h (i .runs) in run-blocks (plan-change F i h f .runs) ≡ run-blocks (c .before ++ c .after) + run-blocks (map new-run (cut (F .run-limit) (f (c .entries))))
+    → let c : Target = target-run (F .below) h (i .runs) in run-blocks (plan-change F i h f .runs) ≡ run-blocks (c .before ++ c .after) + run-blocks (map new-run (cut (F .run-limit) (f (c .entries))))
 unfolding plan-change
 change-blocks F i h f =
-    let c : Target = target-run F h (i .runs) in
+    let c : Target = target-run (F .below) h (i .runs) in
     let ps : List Run = map new-run (cut (F .run-limit) (f (c .entries))) in
-    let g : ℕ = index-need F (map element-of (c .before ++ ps ++ c .after)) - i .frame .index-blocks in
+    let g : ℕ = index-need (F .number-width) (map element-of (c .before ++ ps ++ c .after)) - i .frame .index-blocks in
     let m : Grown = grown g (i .frame .data-blocks) (c .before) (c .after) in
     let p : Placed = place 0 (m .data-blocks) (m .before ++ m .after) ps in
     let (a, b) = grown-blocks g (i .frame .data-blocks) (c .before) (c .after) in
-    omega (arith, blocks-joined (m .before ++ p .runs) (m .after), blocks-joined (m .before) (p .runs), blocks-joined (c .before) (c .after), a, b, place-blocks 0 (m .data-blocks) (m .before ++ m .after) ps)
+    omega (
+      arith,
+      blocks-joined (m .before ++ p .runs) (m .after),
+      blocks-joined (m .before) (p .runs),
+      blocks-joined (c .before) (c .after),
+      a,
+      b,
+      place-blocks 0 (m .data-blocks) (m .before ++ m .after) ps,
+    )
 
 -- the growing index and the displaced runs take no block from the end
 grown-blocks-kept : (g D : ℕ) (before after : List Run) → D ≤ g + grown g D before after .data-blocks
@@ -85,11 +93,12 @@ grown-blocks-kept g D before after =
     omega (arith, place-grows g (max D g) (filter (λ r. not (touches g r)) (before ++ after)) (in-number-order (filter (touches g) (before ++ after))))
 
 -- an insertion or a deletion never shortens the image
-pub change-longer : (i : Image) (h : List ℕ) (f : List Entry → List Entry) → 256 + 256 * i .frame .index-blocks + 256 * i .frame .data-blocks ≤ plan-length (plan-change format4 i h f)
-unfolding plan-change plan-length frame-length data-start format4
-change-longer i h f =
-    let c : Target = target-run format4 h (i .runs) in
-    let ps : List Run = map new-run (cut 1_024 (f (c .entries))) in
-    let g : ℕ = index-need format4 (map element-of (c .before ++ ps ++ c .after)) - i .frame .index-blocks in
+pub change-longer : (F : Format) (i : Image) (h : List ℕ) (f : List Entry → List Entry)
+    → F .header-bytes + 256 * i .frame .index-blocks + 256 * i .frame .data-blocks ≤ plan-length (plan-change F i h f)
+unfolding plan-change plan-length frame-length data-start
+change-longer F i h f =
+    let c : Target = target-run (F .below) h (i .runs) in
+    let ps : List Run = map new-run (cut (F .run-limit) (f (c .entries))) in
+    let g : ℕ = index-need (F .number-width) (map element-of (c .before ++ ps ++ c .after)) - i .frame .index-blocks in
     let m : Grown = grown g (i .frame .data-blocks) (c .before) (c .after) in
     omega (arith, grown-blocks-kept g (i .frame .data-blocks) (c .before) (c .after), place-grows 0 (m .data-blocks) (m .before ++ m .after) ps)

@@ -9,7 +9,7 @@ use lib.ListN.{length, take, drop}
 use lib.Dec.{ltb}
 use borrow.Author.Tests.{lt-ltb, le-ltb}
 use Rattle.spec.specs.Bytes.{blocks-for}
-use Rattle.spec.specs.Header.{format4, layout4, changed-header}
+use Rattle.spec.specs.Header.{Format, changed-header}
 use Rattle.spec.specs.Entry.{Entry}
 use Rattle.spec.specs.Run.{Run, run-size, encoded-size}
 use Rattle.spec.specs.Index.{index-need, index-bytes}
@@ -17,75 +17,80 @@ use Rattle.spec.specs.Blocks.{is-free, place-for, free-blocks, free-list-writte
 use Rattle.spec.specs.Check.{Image, data-start, data-area, frame-length}
 use Rattle.spec.specs.Place.{Target, Placed, Grown, target-run, cut, new-run, at-block, with-run, place, element-of, grown, plan-change, plan-full, plan-counts, plan-written, runs-written}
 use Rattle.spec.specs.Calls.{plan-length}
-use Rattle.spec.proofs.ListsLaws.{All, all-map, or-right}
-use Rattle.spec.proofs.PlanLaws.{plan-of}
+use Rattle.spec.specs.Lists.{All}
+use Rattle.spec.proofs.ListsLaws.{all-map, or-right}
+use Rattle.spec.specs.Sound.{plan-of}
 use Rattle.spec.proofs.LaidLaws.{between-perm}
 use Rattle.chain.specs.Numbers.{numbers}
 use Rattle.chain.proofs.Laws.{numbers-filter}
-use Rattle.placing.specs.Spread.{Spread, spread}
-use Rattle.placing.proofs.SpreadLaws.{Marked, SpreadIs, free-perm, marked-part, spread-place, spread-over}
+use Rattle.placing.specs.Spread.{Spread, spread, Marked}
+use Rattle.placing.proofs.SpreadLaws.{SpreadIs, free-perm, marked-part, spread-place, spread-over}
 use Rattle.moves.proofs.Order.{filter-range}
 use Rattle.plan.specs.Written.{part-runs}
 
 -- the plan of a change by the index's growth, the runs under it, and the new runs' places
-pub plan-is : (i : Image) (h : List ℕ) (f : List Entry → List Entry) (n d g : ℕ) → n ≡ i .frame .index-blocks → d ≡ i .frame .data-blocks
-    → let c : Target = target-run format4 h (i .runs) in
-    let ps : List Run = map new-run (cut 1_024 (f (c .entries))) in
+pub plan-is : (F : Format) (i : Image) (h : List ℕ) (f : List Entry → List Entry) (n d g : ℕ) → n ≡ i .frame .index-blocks → d ≡ i .frame .data-blocks
+    → let c : Target = target-run (F .below) h (i .runs) in
+    let ps : List Run = map new-run (cut (F .run-limit) (f (c .entries))) in
     let m : Grown = grown g d (c .before) (c .after) in
     let p : Placed = place 0 (m .data-blocks) (m .before ++ m .after) ps in
-    g ≡ index-need format4 (map element-of (c .before ++ ps ++ c .after)) - n → plan-change format4 i h f ≡ plan-of format4 (n + g) (p .data-blocks) (m .before ++ p .runs ++ m .after)
-unfolding plan-change format4
-plan-is i h f n d g en ed eg = rw (eg, en, ed)
+    g ≡ index-need (F .number-width) (map element-of (c .before ++ ps ++ c .after)) - n → plan-change F i h f ≡ plan-of F (n + g) (p .data-blocks) (m .before ++ p .runs ++ m .after)
+unfolding plan-change
+plan-is F i h f n d g en ed eg = rw (eg, en, ed)
 
 -- the same by the parts as they are known
-pub plan-parts : (i : Image) (h : List ℕ) (f : List Entry → List Entry) (n d g : ℕ) → n ≡ i .frame .index-blocks → d ≡ i .frame .data-blocks → (qs : List (List Entry)) → cut 1_024 (f (target-run format4 h (i .runs) .entries)) ≡ qs
-    → let c : Target = target-run format4 h (i .runs) in
+pub plan-parts : (F : Format) (i : Image) (h : List ℕ) (f : List Entry → List Entry) (n d g : ℕ) → n ≡ i .frame .index-blocks → d ≡ i .frame .data-blocks
+    → (qs : List (List Entry)) → cut (F .run-limit) (f (target-run (F .below) h (i .runs) .entries)) ≡ qs
+    → let c : Target = target-run (F .below) h (i .runs) in
     let ps : List Run = map new-run qs in
     let m : Grown = grown g d (c .before) (c .after) in
     let p : Placed = place 0 (m .data-blocks) (m .before ++ m .after) ps in
-    g ≡ index-need format4 (map element-of (c .before ++ ps ++ c .after)) - n → plan-change format4 i h f ≡ plan-of format4 (n + g) (p .data-blocks) (m .before ++ p .runs ++ m .after)
-plan-parts i h f n d g en ed qs e eg =
-    let c : Target = target-run format4 h (i .runs) in
+    g ≡ index-need (F .number-width) (map element-of (c .before ++ ps ++ c .after)) - n → plan-change F i h f ≡ plan-of F (n + g) (p .data-blocks) (m .before ++ p .runs ++ m .after)
+plan-parts F i h f n d g en ed qs e eg =
+    let c : Target = target-run (F .below) h (i .runs) in
     let m : Grown = grown g d (c .before) (c .after) in
-    let k : g ≡ index-need format4 (map element-of (c .before ++ map new-run (cut 1_024 (f (c .entries))) ++ c .after)) - n = subst (λ (x : List (List Entry)). g ≡ index-need format4 (map element-of (c .before ++ map new-run x ++ c .after)) - n) (sym e) eg in
+    let k : g ≡ index-need (F .number-width) (map element-of (c .before ++ map new-run (cut (F .run-limit) (f (c .entries))) ++ c .after)) - n
+    = subst (λ (x : List (List Entry)). g ≡ index-need (F .number-width) (map element-of (c .before ++ map new-run x ++ c .after)) - n) (sym e) eg in
     subst
     (λ (x : List (List Entry)).
-    plan-change format4 i h f
-    ≡ plan-of format4 (n + g) (place 0 (m .data-blocks) (m .before ++ m .after) (map new-run x) .data-blocks) (m .before ++ place 0 (m .data-blocks) (m .before ++ m .after) (map new-run x) .runs ++ m .after))
+    plan-change F i h f
+    ≡ plan-of F (n + g) (place 0 (m .data-blocks) (m .before ++ m .after) (map new-run x) .data-blocks)
+    (m .before ++ place 0 (m .data-blocks) (m .before ++ m .after) (map new-run x) .runs ++ m .after))
     e
-    (plan-is i h f n d g en ed k)
+    (plan-is F i h f n d g en ed k)
 
 -- row 15 by the numbers of a plan
-pub full-is : (s : List ℕ) (n D : ℕ) (rs : List Run) → plan-full s (plan-of format4 n D rs) ≡ (ltb (length s) (256 + 256 * n + 256 * D) || ltb 65_536 D || ltb 32_767 n)
-unfolding plan-full frame-length data-start format4
-full-is s n D rs = refl
+pub full-is : (F : Format) (s : List ℕ) (n D : ℕ) (rs : List Run) → plan-full s (plan-of F n D rs) ≡ (ltb (length s) (F .header-bytes + 256 * n + 256 * D) || ltb (F .most-blocks) D || ltb 32_767 n)
+unfolding plan-full frame-length data-start
+full-is F s n D rs = refl
 
-pub full-index : (s : List ℕ) (n D : ℕ) (rs : List Run) → 32_767 < n → plan-full s (plan-of format4 n D rs) ≡ true
-full-index s n D rs h = full-is s n D rs ∙ rw (lt-ltb 32_767 n h) (or-right (ltb (length s) (256 + 256 * n + 256 * D) || ltb 65_536 D) true refl)
+pub full-index : (F : Format) (s : List ℕ) (n D : ℕ) (rs : List Run) → 32_767 < n → plan-full s (plan-of F n D rs) ≡ true
+full-index F s n D rs h = full-is F s n D rs ∙ rw (lt-ltb 32_767 n h) (or-right (ltb (length s) (F .header-bytes + 256 * n + 256 * D) || ltb (F .most-blocks) D) true refl)
 
-pub full-blocks : (s : List ℕ) (n D : ℕ) (rs : List Run) → 65_536 < D → plan-full s (plan-of format4 n D rs) ≡ true
-full-blocks s n D rs h = full-is s n D rs ∙ rw (lt-ltb 65_536 D h) (or-middle (ltb (length s) (256 + 256 * n + 256 * D)) (ltb 32_767 n))
+pub full-blocks : (F : Format) (s : List ℕ) (n D : ℕ) (rs : List Run) → F .most-blocks < D → plan-full s (plan-of F n D rs) ≡ true
+full-blocks F s n D rs h = full-is F s n D rs ∙ rw (lt-ltb (F .most-blocks) D h) (or-middle (ltb (length s) (F .header-bytes + 256 * n + 256 * D)) (ltb 32_767 n))
   where
     or-middle : (t u : Bool) → t || true || u ≡ true
     or-middle true u = refl
     or-middle false u = refl
 
-pub full-length : (s : List ℕ) (n D : ℕ) (rs : List Run) → length s < 256 + 256 * n + 256 * D → plan-full s (plan-of format4 n D rs) ≡ true
-full-length s n D rs h = full-is s n D rs ∙ rw (lt-ltb (length s) (256 + 256 * n + 256 * D) h)
+pub full-length : (F : Format) (s : List ℕ) (n D : ℕ) (rs : List Run) → length s < F .header-bytes + 256 * n + 256 * D → plan-full s (plan-of F n D rs) ≡ true
+full-length F s n D rs h = full-is F s n D rs ∙ rw (lt-ltb (length s) (F .header-bytes + 256 * n + 256 * D) h)
 
-pub full-not : (s : List ℕ) (n D : ℕ) (rs : List Run) → 256 + 256 * n + 256 * D ≤ length s → D ≤ 65_536 → n ≤ 32_767 → plan-full s (plan-of format4 n D rs) ≡ false
-full-not s n D rs a b c = full-is s n D rs ∙ rw (le-ltb (length s) (256 + 256 * n + 256 * D) a, le-ltb 65_536 D b, le-ltb 32_767 n c)
+pub full-not : (F : Format) (s : List ℕ) (n D : ℕ) (rs : List Run) → F .header-bytes + 256 * n + 256 * D ≤ length s → D ≤ F .most-blocks → n ≤ 32_767 → plan-full s (plan-of F n D rs) ≡ false
+full-not F s n D rs a b c = full-is F s n D rs ∙ rw (le-ltb (length s) (F .header-bytes + 256 * n + 256 * D) a, le-ltb (F .most-blocks) D b, le-ltb 32_767 n c)
 
 -- its length
-pub length-is : (n D : ℕ) (rs : List Run) → plan-length (plan-of format4 n D rs) ≡ 256 + 256 * n + 256 * D
-unfolding plan-length frame-length data-start format4
-length-is n D rs = refl
+pub length-is : (F : Format) (n D : ℕ) (rs : List Run) → plan-length (plan-of F n D rs) ≡ F .header-bytes + 256 * n + 256 * D
+unfolding plan-length frame-length data-start
+length-is F n D rs = refl
 
 -- and what it writes
-pub written-is : (s : List ℕ) (n D : ℕ) (rs : List Run) → plan-written (plan-of format4 n D rs) s
-    ≡ changed-header layout4 (plan-counts (plan-of format4 n D rs)) (take 256 s) ++ index-bytes format4 n (map element-of rs) ++ free-list-written (free-blocks rs D) (runs-written rs (drop (256 + 256 * n) s))
-unfolding plan-written data-area data-start format4
-written-is s n D rs = refl
+pub written-is : (F : Format) (s : List ℕ) (n D : ℕ) (rs : List Run) → plan-written (plan-of F n D rs) s
+    ≡ changed-header (F .layout) (plan-counts (plan-of F n D rs)) (take (F .header-bytes) s) ++ index-bytes (F .number-width) n (map element-of rs)
+    ++ free-list-written (free-blocks rs D) (runs-written rs (drop (F .header-bytes + 256 * n) s))
+unfolding plan-written data-area data-start
+written-is F s n D rs = refl
 
 -- ---- parts and their places
 -- the blocks of parts as runs
@@ -132,7 +137,9 @@ module _ (m : Grown) (g : ℕ) (ps : List (List Entry)) (ms : List Bool) (end : 
   same = let z : g + 0 ≡ g = omega arith in rw (z, new-sizes ps, ← end-is)
 
   told : (k : ℕ) → All (λ q. run-size q ≤ k) ps → sp .end ≤ length ms → SpreadIs g 0 (m .data-blocks) ms there (map new-run ps)
-  told k small fits = spread-place g 0 (m .data-blocks) ms there (map new-run ps) (omega arith) (all-map _ _ (λ r x. x .0) (map new-run ps) (sizes-some k ps small)) marked (subst (λ (x : Spread). x .end ≤ length ms) (sym same) fits)
+  told k small fits =
+      spread-place g 0 (m .data-blocks) ms there (map new-run ps) (omega arith) (all-map _ _ (λ r x. x .0) (map new-run ps) (sizes-some k ps small)) marked
+      (subst (λ (x : Spread). x .end ≤ length ms) (sym same) fits)
 
   module _ (k : ℕ) (small : All (λ q. run-size q ≤ k) ps) (fits : sp .end ≤ length ms) where
     -- the places on the marks
@@ -153,7 +160,8 @@ module _ (m : Grown) (g : ℕ) (ps : List (List Entry)) (ms : List Bool) (end : 
         let t : SpreadIs g 0 (m .data-blocks) ms there (map new-run ps) = told k small fits in
         let e : sp .free ≡ spread (g + 0) (g + m .data-blocks) ms (map (λ r. r .size) (map new-run ps)) .free = ap (λ (x : Spread). x .free) (sym same) in
         let w : sp .end ≡ g + p .data-blocks = parts-end in
-        let u : List·Permᴰ (p .runs ++ there) (m .before ++ p .runs ++ m .after) = subst (λ (x : List Run). List·Permᴰ (p .runs ++ there) x) (sym (append-assoc (m .before) (p .runs) (m .after))) (Permᴰ·symm (between-perm (m .before) (p .runs) (m .after))) in
+        let u : List·Permᴰ (p .runs ++ there) (m .before ++ p .runs ++ m .after) = subst (λ (x : List Run). List·Permᴰ (p .runs ++ there) x)
+        (sym (append-assoc (m .before) (p .runs) (m .after))) (Permᴰ·symm (between-perm (m .before) (p .runs) (m .after))) in
         ap₂ (λ (x : ℕ) (y : List Bool). numbers 0 (take (x - g) (drop g y))) w e ∙ free-numbers g (p .data-blocks) _ u (omega (arith, fits, w, t .long)) (t .marked)
 
   -- where placing on the marks passes the limit, the plan has too many blocks

@@ -11,20 +11,21 @@ use lib.ListN.{length, getD, take, drop, replicate, length-map, length-replicate
 use lib.Seq.{length-take-le}
 use lib.Dec.{eqb}
 use borrow.Author.Tests.{eq-eqb}
-use Rattle.spec.specs.Lists.{any}
+use Rattle.spec.specs.Lists.{any, All}
 use Rattle.spec.specs.Bytes.{from-little-endian, bytes-at, write}
 use Rattle.spec.specs.Run.{Run}
 use Rattle.spec.specs.Blocks.{covers, is-free}
 use Rattle.spec.specs.Place.{Placed, Move, Grown, at-block, place, in-number-order, touches, moves, new-number, renumbered, grown, element-of, runs-written}
-use Rattle.spec.proofs.ListsLaws.{All, all-append, all-front, all-back, all-map, all-both, less-or, or-right, filter-nothing}
+use Rattle.spec.proofs.ListsLaws.{all-append, all-front, all-back, all-map, all-both, less-or, or-right, filter-nothing}
 use Rattle.spec.proofs.WriteLaws.{write-right, bytes-at-take}
-use Rattle.spec.proofs.BlocksLaws.{Laid, laid-inside, covers-inside, covers-outside, apart-free, free-no}
+use Rattle.spec.specs.Sound.{Laid}
+use Rattle.spec.proofs.BlocksLaws.{laid-inside, covers-inside, covers-outside, apart-free, free-no}
 use Rattle.spec.proofs.LaidLaws.{Sized, moved, all-perm, laid-perm, map-perm, laid-back, laid-differ, laid-wider, placed-beside, staying-from, staying, moving, grown-place, grown-moves, parted, moved-all, moved-from, moved-placed}
 use Rattle.spec.proofs.FreeListLaws.{Ascending, ascending-below, Stands}
 use Rattle.marks.specs.Marks.{with-range}
 use Rattle.marks.proofs.Laws.{length-range, get-range-in, get-range-below, get-range-above}
-use Rattle.placing.specs.Spread.{Spread, spread}
-use Rattle.placing.proofs.SpreadLaws.{Marked, SpreadIs, free-perm, spread-place, spread-over}
+use Rattle.placing.specs.Spread.{Spread, spread, Marked}
+use Rattle.placing.proofs.SpreadLaws.{SpreadIs, free-perm, spread-place, spread-over}
 use Rattle.elements.specs.Renewed.{number-after, renewed}
 use Rattle.elements.proofs.Laws.{number-moved, number-kept, renewed-none-all}
 use Rattle.moves.specs.Moved.{noted, starts, size-at, freed, tabled, moved-written}
@@ -33,23 +34,7 @@ use Rattle.moves.proofs.Order.{not-among, starts-ascending, length-noted, noted
 use Rattle.plan.specs.Written.{runs-put}
 use Rattle.plan.proofs.RunsWritten.{runs-perm, runs-joined, runs-still, put-written}
 use Rattle.plan.proofs.Whole.{laid-front}
-
--- what is known of the index grown by g blocks, over an area of D blocks with the runs before and after the run concerned:
--- T is the table of the moved runs, `end` and `free` are the end of the blocks and the n marks of the free ones, counted as before
-pub record Growing (area : List ℕ) (D g : ℕ) (before after : List Run) (n : ℕ) (T : List ℕ) (end : ℕ) (free : List Bool) : Type 0 where
-  -- "Then all numbers and D fall by g."
-  pub end-is : end ≡ g + grown g D before after .data-blocks
-  -- the mark of a block stands g behind its number
-  pub marked : Marked g 0 (grown g D before after .data-blocks) free (grown g D before after .before ++ grown g D before after .after)
-  pub long : length free ≡ n
-  -- the elements with their numbers renewed are those of the runs
-  pub before-new : map (renewed T g) (map element-of before) ≡ map element-of (grown g D before after .before)
-  pub after-new : map (renewed T g) (map element-of after) ≡ map element-of (grown g D before after .after)
-  -- each run that moves starts among the old blocks, and its new place is inside the new ones
-  pub moved-inside : All (λ b. (b < D) × (getD T b 0 + size-at area D b ≤ end)) (starts 0 g T)
-  -- these runs copied, all runs stand behind the first g blocks
-  pub moved-is : (A : List ℕ) → take (256 * D) A ≡ area → 256 * end ≤ length A
-      → moved-written area D T (starts 0 g T) A ≡ take (256 * g) A ++ runs-written (grown g D before after .before ++ grown g D before after .after) (drop (256 * g) A)
+use Rattle.plan.specs.Growing.{Growing}
 
 -- ---- lists
 -- a fact of the values of a function
@@ -101,7 +86,8 @@ pub marked-perm : (o g d : ℕ) (ms : List Bool) {l m : List Run} → List·Perm
 marked-perm o g d ms e m = record { inside = λ x p q. m .inside x p q ∙ free-perm e x; beyond = m .beyond }
 
 -- a run freed: the marks are those of the other runs
-pub freed-one : (D n : ℕ) (ms : List Bool) (r : Run) (rest : List Run) → Laid D (r ∷ rest) → n ≡ r .size → D ≤ length ms → Marked 0 0 D ms (r ∷ rest) → Marked 0 0 D (with-range (r .block) n true ms) rest
+pub freed-one : (D n : ℕ) (ms : List Bool) (r : Run) (rest : List Run) → Laid D (r ∷ rest) → n ≡ r .size → D ≤ length ms → Marked 0 0 D ms (r ∷ rest)
+    → Marked 0 0 D (with-range (r .block) n true ms) rest
 freed-one D n ms r rest (e, i, a, l) z long m =
     record { inside = λ x p₁ p₂. inner x p₂ (less-or x (r .block)) (less-or x (r .block + n)); beyond = λ x p. past x p }
   where
@@ -264,7 +250,9 @@ module _ (area : List ℕ) (D g k : ℕ) (before after : List Run) (ms₀ : List
     -- the area tells the size of each run
     sizes-are : All (λ r. size-at area D (r .block) ≡ r .size) rs
     sizes-are =
-        all-both Sized _ _ (λ r s p. size-is area D r (s .0) (p .0) (p .1)) rs sized (all-both _ _ (λ r. (r .block + r .size ≤ D) × (from-little-endian (bytes-at (256 * r .block) 2 area) ≡ r .size)) (λ r p q. (p, q)) rs (laid-inside D rs laid) counts)
+        all-both Sized _ _ (λ r s p. size-is area D r (s .0) (p .0) (p .1)) rs sized
+        (all-both _ _ (λ r. (r .block + r .size ≤ D) × (from-little-endian (bytes-at (256 * r .block) 2 area) ≡ r .size)) (λ r p q. (p, q)) rs
+        (laid-inside D rs laid) counts)
 
     -- of those that move
     moving-sizes : All (λ r. size-at area D (r .block) ≡ r .size) mv
@@ -330,7 +318,8 @@ module _ (area : List ℕ) (D g k : ℕ) (before after : List Run) (ms₀ : List
       numbers =
           let n : length (gp .runs) ≡ length mv = sym (ap length placed-are) ∙ length-map mv (moved gm) in
           all-map _ _ (λ r h. ap (λ (x : List ℕ). getD x (r .block) 0) table-is
-          ∙ get-tabled-moves 0 g mv (gp .runs) T₀ (r .block) starts-ascend (omega (arith, length-noted g (map (λ r. r .block) rs) (replicate k 0), length-replicate {A = ℕ} k 0)) n h) mv (own-blocks mv)
+          ∙ get-tabled-moves 0 g mv (gp .runs) T₀ (r .block) starts-ascend
+          (omega (arith, length-noted g (map (λ r. r .block) rs) (replicate k 0), length-replicate {A = ℕ} k 0)) n h) mv (own-blocks mv)
 
       -- they started among the first g blocks
       moving-below : All (λ r. r .block < g) mv
@@ -347,7 +336,9 @@ module _ (area : List ℕ) (D g k : ℕ) (before after : List Run) (ms₀ : List
       numbers-after =
           all-perm _ (parted g D rs) (all-append _ mv st
           (all-both _ _ _ (λ r p q. number-moved T g (r .block) p ∙ ap (λ (n : ℕ). n - g) q) mv moving-below numbers)
-          (all-map _ _ (λ r p. number-kept T g (r .block) p ∙ ap (λ (n : ℕ). n - g) (sym (number-stays mv (gp .runs) (r .block) (not-among (r .block) 0 g (map (λ r. r .block) mv) (inr p) starts-ascend)))) st staying-above))
+          (all-map _ _
+          (λ r p. number-kept T g (r .block) p ∙ ap (λ (n : ℕ). n - g) (sym (number-stays mv (gp .runs) (r .block) (not-among (r .block) 0 g (map (λ r. r .block) mv) (inr p) starts-ascend))))
+          st staying-above))
 
       -- the runs start at the same blocks after placing
       starts-after : starts 0 g T ≡ map (λ r. r .block) mv
@@ -422,7 +413,10 @@ module _ (area : List ℕ) (D g k : ℕ) (before after : List Run) (ms₀ : List
           old = all-both _ _ _ (λ r s i. omega (arith, s, i)) mv (all-front Sized mv st parts-sized) (all-front _ mv st (laid-inside D (mv ++ st) parts-laid))
 
           new : All (λ r. getD T (r .block) 0 + size-at area D (r .block) ≤ sp .end) mv
-          new = all-both _ _ _ (λ r p q. omega (arith, p, q, end-place)) mv numbers (all-both _ _ (λ r. new-number gm (r .block) + size-at area D (r .block) ≤ gp .data-blocks) (λ r p q. omega (arith, p, q)) mv moving-sizes moving-inside)
+          new =
+              all-both _ _ _ (λ r p q. omega (arith, p, q, end-place)) mv numbers
+              (all-both _ _ (λ r. new-number gm (r .block) + size-at area D (r .block) ≤ gp .data-blocks) (λ r p q. omega (arith, p, q)) mv moving-sizes
+              moving-inside)
 
           ready : All (λ r. (r .block < D) × (getD T (r .block) 0 + size-at area D (r .block) ≤ sp .end)) mv
           ready = all-both _ _ _ (λ r p q. (p, q)) mv old new

@@ -10,7 +10,7 @@ use Rattle.spec.specs.Bytes.{write, bytes-at}
 use Rattle.spec.specs.Run.{Run}
 use Rattle.spec.specs.Place.{runs-written}
 use Rattle.spec.proofs.WriteLaws.{length-write, write-swap, write-same}
-use Rattle.spec.proofs.BlocksLaws.{Laid}
+use Rattle.spec.specs.Sound.{Laid}
 use Rattle.spec.proofs.FreeListLaws.{Stands}
 use Rattle.spec.proofs.LaidLaws.{laid-perm}
 use Rattle.plan.specs.Written.{runs-put}

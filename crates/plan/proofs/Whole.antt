@@ -6,26 +6,27 @@ use native.Mathlib.Omega.{arith}
 use lib.ListN.{length, take, drop, length-append, length-drop}
 use lib.Seq.{take-at, drop-at, length-take-le, take-take, drop-length}
 use Rattle.spec.specs.Bytes.{write, zeros}
-use Rattle.spec.specs.Header.{layout4, format4, Counts, changed-header}
+use Rattle.spec.specs.Header.{Layout, Format, Lawful, Counts, changed-header}
 use Rattle.spec.specs.Entry.{Entry}
 use Rattle.spec.specs.Run.{Run, run-bytes}
 use Rattle.spec.specs.Index.{Element, element-bytes, elements-bytes, index-bytes}
 use Rattle.spec.specs.Blocks.{free-list-written}
 use Rattle.spec.specs.Place.{at-block, new-run, element-of, runs-written}
-use Rattle.spec.proofs.ListsLaws.{All, all-front}
+use Rattle.spec.specs.Lists.{All}
+use Rattle.spec.proofs.ListsLaws.{all-front}
 use Rattle.header.proofs.Laws.{header-front}
 use Rattle.spec.proofs.BytesLaws.{length-zeros}
 use Rattle.spec.proofs.WriteLaws.{length-write, write-left, write-right, write-behind, write-none}
-use Rattle.spec.proofs.BlocksLaws.{Laid}
+use Rattle.spec.specs.Sound.{Laid}
 use Rattle.spec.proofs.LaidLaws.{laid-perm, laid-back, between-perm}
 use Rattle.plan.specs.Written.{part-element, parts-written, part-runs, runs-put}
 use Rattle.plan.proofs.RunsWritten.{runs-perm, runs-joined, put-written, length-runs}
 
 -- elements of two lists
-pub elements-joined : (es ds : List Element) → elements-bytes format4 (es ++ ds) ≡ elements-bytes format4 es ++ elements-bytes format4 ds
+pub elements-joined : (width : ℕ) (es ds : List Element) → elements-bytes width (es ++ ds) ≡ elements-bytes width es ++ elements-bytes width ds
 unfolding elements-bytes
-elements-joined [] ds = refl
-elements-joined (e ∷ es) ds = ap (λ l. element-bytes format4 e ++ l) (elements-joined es ds) ∙ sym (append-assoc (element-bytes format4 e) (elements-bytes format4 es) (elements-bytes format4 ds))
+elements-joined width [] ds = refl
+elements-joined width (e ∷ es) ds = ap (λ l. element-bytes width e ++ l) (elements-joined width es ds) ∙ sym (append-assoc (element-bytes width e) (elements-bytes width es) (elements-bytes width ds))
 
 -- ---- parts
 -- the element, the bytes and the block of a part's run
@@ -48,21 +49,21 @@ front-back at i j x r H A h e =
     rw (write-right i r H A (omega arith), k) (write-left at x H (write j r A) h)
 
 -- parts written over a front and the blocks behind it: the elements go into the front, the runs behind it
-pub parts-apart : (start g at : ℕ) (bs : List ℕ) (ps : List (List Entry)) (H A : List ℕ) → length H ≡ start + 256 * g → All (λ b. g ≤ b) bs
-    → at + length (elements-bytes format4 (map element-of (part-runs g bs ps))) ≤ length H
-    → parts-written start g at bs ps (H ++ A) ≡ write at (elements-bytes format4 (map element-of (part-runs g bs ps))) H ++ runs-put (part-runs g bs ps) A
+pub parts-apart : (width start g at : ℕ) (bs : List ℕ) (ps : List (List Entry)) (H A : List ℕ) → length H ≡ start + 256 * g → All (λ b. g ≤ b) bs
+    → at + length (elements-bytes width (map element-of (part-runs g bs ps))) ≤ length H
+    → parts-written width start g at bs ps (H ++ A) ≡ write at (elements-bytes width (map element-of (part-runs g bs ps))) H ++ runs-put (part-runs g bs ps) A
 unfolding parts-written part-runs runs-put elements-bytes
-parts-apart start g at [] ps H A l a r = ap (λ x. x ++ A) (sym (write-none H at))
-parts-apart start g at (b ∷ bs) [] H A l a r = ap (λ x. x ++ A) (sym (write-none H at))
-parts-apart start g at (b ∷ bs) (p ∷ ps) H A l (a, as′) r =
-    let x : List ℕ = element-bytes format4 (part-element (b - g) p) in
-    let y : List ℕ = elements-bytes format4 (map element-of (part-runs g bs ps)) in
-    let e : element-bytes format4 (element-of (at-block (b - g) (new-run p))) ≡ x = ap (element-bytes format4) (part-element-is g b p) in
-    let q : length (element-bytes format4 (element-of (at-block (b - g) (new-run p))) ++ y) ≡ length x + length y = ap (λ (z : List ℕ). length (z ++ y)) e ∙ length-append x y in
+parts-apart width start g at [] ps H A l a r = ap (λ x. x ++ A) (sym (write-none H at))
+parts-apart width start g at (b ∷ bs) [] H A l a r = ap (λ x. x ++ A) (sym (write-none H at))
+parts-apart width start g at (b ∷ bs) (p ∷ ps) H A l (a, as′) r =
+    let x : List ℕ = element-bytes width (part-element (b - g) p) in
+    let y : List ℕ = elements-bytes width (map element-of (part-runs g bs ps)) in
+    let e : element-bytes width (element-of (at-block (b - g) (new-run p))) ≡ x = ap (element-bytes width) (part-element-is g b p) in
+    let q : length (element-bytes width (element-of (at-block (b - g) (new-run p))) ++ y) ≡ length x + length y = ap (λ (z : List ℕ). length (z ++ y)) e ∙ length-append x y in
     let t : at + (length x + length y) ≤ length H = omega (arith, r, q) in
     let m : length (write at x H) ≡ length H = length-write at x H (omega arith) in
-    ap (parts-written start g (at + length x) bs ps) (front-back at (start + 256 * b) (256 * (b - g)) x (run-bytes p) H A (omega arith) (omega arith))
-    ∙ parts-apart start g (at + length x) bs ps (write at x H) (write (256 * (b - g)) (run-bytes p) A) (m ∙ l) as′ (omega arith)
+    ap (parts-written width start g (at + length x) bs ps) (front-back at (start + 256 * b) (256 * (b - g)) x (run-bytes p) H A (omega arith) (omega arith))
+    ∙ parts-apart width start g (at + length x) bs ps (write at x H) (write (256 * (b - g)) (run-bytes p) A) (m ∙ l) as′ (omega arith)
     ∙ ap₂ (λ (u v : List ℕ). u ++ v) (write-behind H x y at (omega arith) ∙ ap (λ (z : List ℕ). write at (z ++ y) H) (sym e))
     (ap₂ (λ (k : ℕ) (z : List ℕ). runs-put (part-runs g bs ps) (write (256 * k) z A)) (sym (part-block (b - g) p)) (sym (part-bytes (b - g) p)))
 
@@ -108,20 +109,33 @@ beside-written D mb q ma area l h =
 
 -- ---- the whole image
 -- the elements of all runs
-elements-parts : (mb q ma : List Run) → elements-bytes format4 (map element-of (mb ++ q ++ ma)) ≡ elements-bytes format4 (map element-of mb) ++ elements-bytes format4 (map element-of q) ++ elements-bytes format4 (map element-of ma)
-elements-parts mb q ma =
-    rw (map-append element-of (mb ++ q) ma, map-append element-of mb q, elements-joined (map element-of mb ++ map element-of q) (map element-of ma), elements-joined (map element-of mb) (map element-of q))
+elements-parts : (width : ℕ) (mb q ma : List Run) → elements-bytes width (map element-of (mb ++ q ++ ma))
+    ≡ elements-bytes width (map element-of mb) ++ elements-bytes width (map element-of q) ++ elements-bytes width (map element-of ma)
+elements-parts width mb q ma =
+    rw (
+      map-append element-of (mb ++ q) ma,
+      map-append element-of mb q,
+      elements-joined width (map element-of mb ++ map element-of q) (map element-of ma),
+      elements-joined width (map element-of mb) (map element-of q),
+    )
 
 -- and how many bytes they take
-pub elements-sum : (mb q ma : List Run)
-    → length (elements-bytes format4 (map element-of (mb ++ q ++ ma))) ≡ length (elements-bytes format4 (map element-of mb)) + length (elements-bytes format4 (map element-of q)) + length (elements-bytes format4 (map element-of ma))
-elements-sum mb q ma =
-    let B : List ℕ = elements-bytes format4 (map element-of mb) in
-    let P : List ℕ = elements-bytes format4 (map element-of q) in
-    let A : List ℕ = elements-bytes format4 (map element-of ma) in
-    ap length (elements-parts mb q ma) ∙ length-append (B ++ P) A ∙ ap (λ (k : ℕ). k + length A) (length-append B P)
+pub elements-sum : (width : ℕ) (mb q ma : List Run)
+    → length (elements-bytes width (map element-of (mb ++ q ++ ma))) ≡ length (elements-bytes width (map element-of mb)) + length
+    (elements-bytes width (map element-of q)) + length (elements-bytes width (map element-of ma))
+elements-sum width mb q ma =
+    let B : List ℕ = elements-bytes width (map element-of mb) in
+    let P : List ℕ = elements-bytes width (map element-of q) in
+    let A : List ℕ = elements-bytes width (map element-of ma) in
+    ap length (elements-parts width mb q ma) ∙ length-append (B ++ P) A ∙ ap (λ (k : ℕ). k + length A) (length-append B P)
 
-module _ (s : List ℕ) (n g D : ℕ) (mb ma : List Run) (bs : List ℕ) (parts : List (List Entry)) where
+module _ (F : Format) (s : List ℕ) (n g D : ℕ) (mb ma : List Run) (bs : List ℕ) (parts : List (List Entry)) where
+  abbrev width : ℕ
+  width = F .number-width
+
+  abbrev header : ℕ
+  header = F .header-bytes
+
   abbrev q : List Run
   q = part-runs g bs parts
 
@@ -129,23 +143,23 @@ module _ (s : List ℕ) (n g D : ℕ) (mb ma : List Run) (bs : List ℕ) (parts 
   all = mb ++ q ++ ma
 
   abbrev B : List ℕ
-  B = elements-bytes format4 (map element-of mb)
+  B = elements-bytes width (map element-of mb)
 
   abbrev P : List ℕ
-  P = elements-bytes format4 (map element-of q)
+  P = elements-bytes width (map element-of q)
 
   abbrev A : List ℕ
-  A = elements-bytes format4 (map element-of ma)
+  A = elements-bytes width (map element-of ma)
 
   abbrev start : ℕ
-  start = 256 + 256 * n
+  start = header + 256 * n
 
   -- header and index take so many bytes
   abbrev front : ℕ
   front = start + 256 * g
 
   abbrev end : ℕ
-  end = 256 + length B + length P + length A
+  end = header + length B + length P + length A
 
   abbrev Z : List ℕ
   Z = zeros (front - end)
@@ -170,53 +184,56 @@ module _ (s : List ℕ) (n g D : ℕ) (mb ma : List Run) (bs : List ℕ) (parts 
     unfolding X
     x = omega (arith, length-append (B ++ P ++ A) Z, length-append (B ++ P) A, length-append B P, length-zeros (front - end))
 
-    index-is : index-bytes format4 (n + g) (map element-of all) ≡ X
+    index-is : index-bytes width (n + g) (map element-of all) ≡ X
     unfolding X index-bytes
     index-is =
         let l : length (B ++ P ++ A) ≡ length B + length P + length A = length-append (B ++ P) A ∙ ap (λ (k : ℕ). k + length A) (length-append B P) in
         let k : 256 * (n + g) - length (B ++ P ++ A) ≡ front - end = omega arith in
-        ap (λ (y : List ℕ). y ++ zeros (256 * (n + g) - length y)) (elements-parts mb q ma) ∙ ap (λ (k : ℕ). (B ++ P ++ A) ++ zeros k) k
+        ap (λ (y : List ℕ). y ++ zeros (256 * (n + g) - length y)) (elements-parts width mb q ma) ∙ ap (λ (k : ℕ). (B ++ P ++ A) ++ zeros k) k
 
     -- header and index are written apart from the blocks
     pub sides : (s₁ s₂ s₃ s₄ s₅ : List ℕ)
         → s₁ ≡ take front s ++ runs-written (mb ++ ma) (drop front s)
-        → s₂ ≡ write 256 B s₁
-        → s₃ ≡ parts-written start g (256 + length B) bs parts s₂
-        → s₄ ≡ write (256 + length B + length P) A s₃
+        → s₂ ≡ write header B s₁
+        → s₃ ≡ parts-written width start g (header + length B) bs parts s₂
+        → s₄ ≡ write (header + length B + length P) A s₃
         → s₅ ≡ write end Z s₄
-        → s₅ ≡ take 256 s ++ index-bytes format4 (n + g) (map element-of all) ++ blocks
+        → s₅ ≡ take header s ++ index-bytes width (n + g) (map element-of all) ++ blocks
     unfolding X H
     sides s₁ s₂ s₃ s₄ s₅ e₁ e₂ e₃ e₄ e₅ =
         let Y : List ℕ = runs-written (mb ++ ma) (drop front s) in
-        let l₁ : length (write 256 B H) ≡ length H = length-write 256 B H (omega (arith, h)) in
-        let l₂ : length (write (256 + length B) P (write 256 B H)) ≡ length H = length-write (256 + length B) P (write 256 B H) (omega (arith, h, l₁)) ∙ l₁ in
-        let l₃ : length (write (256 + length B + length P) A (write (256 + length B) P (write 256 B H))) ≡ length H
-        = length-write (256 + length B + length P) A (write (256 + length B) P (write 256 B H)) (omega (arith, h, l₂)) ∙ l₂ in
-        let d₂ : s₂ ≡ write 256 B H ++ Y = e₂ ∙ ap (write 256 B) e₁ ∙ write-left 256 B H Y (omega (arith, h)) in
-        let d₃ : s₃ ≡ write (256 + length B) P (write 256 B H) ++ runs-put q Y
-        = e₃ ∙ ap (parts-written start g (256 + length B) bs parts) d₂ ∙ parts-apart start g (256 + length B) bs parts (write 256 B H) Y (l₁ ∙ h) above (omega (arith, h, l₁)) in
-        let d₄ : s₄ ≡ write (256 + length B + length P) A (write (256 + length B) P (write 256 B H)) ++ runs-put q Y
-        = e₄ ∙ ap (write (256 + length B + length P) A) d₃ ∙ write-left (256 + length B + length P) A (write (256 + length B) P (write 256 B H)) (runs-put q Y) (omega (arith, h, l₂)) in
-        let w : take 256 H ≡ take 256 s = take-take 256 front s (omega arith) in
+        let l₁ : length (write header B H) ≡ length H = length-write header B H (omega (arith, h)) in
+        let l₂ : length (write (header + length B) P (write header B H)) ≡ length H = length-write (header + length B) P (write header B H) (omega (arith, h, l₁)) ∙ l₁ in
+        let l₃ : length (write (header + length B + length P) A (write (header + length B) P (write header B H))) ≡ length H
+        = length-write (header + length B + length P) A (write (header + length B) P (write header B H)) (omega (arith, h, l₂)) ∙ l₂ in
+        let d₂ : s₂ ≡ write header B H ++ Y = e₂ ∙ ap (write header B) e₁ ∙ write-left header B H Y (omega (arith, h)) in
+        let d₃ : s₃ ≡ write (header + length B) P (write header B H) ++ runs-put q Y
+        = e₃ ∙ ap (parts-written width start g (header + length B) bs parts) d₂ ∙ parts-apart width start g (header + length B) bs parts (write header B H) Y (l₁ ∙ h) above (omega (arith, h, l₁)) in
+        let d₄ : s₄ ≡ write (header + length B + length P) A (write (header + length B) P (write header B H)) ++ runs-put q Y
+        = e₄ ∙ ap (write (header + length B + length P) A) d₃ ∙ write-left (header + length B + length P) A (write (header + length B) P (write header B H)) (runs-put q Y) (omega (arith, h, l₂)) in
+        let w : take header H ≡ take header s = take-take header front s (omega arith) in
         e₅ ∙ ap (write end Z) d₄ ∙ write-left end Z _ (runs-put q Y) (omega (arith, h, l₃, length-zeros (front - end)))
-        ∙ ap₂ (λ (u v : List ℕ). u ++ v) (front-written H B P A Z 256 (omega (arith, h, length-zeros (front - end)))) (beside-written D mb q ma (drop front s) laid (omega (arith, length-drop front s)))
+        ∙ ap₂ (λ (u v : List ℕ). u ++ v) (front-written H B P A Z header (omega (arith, h, length-zeros (front - end))))
+        (beside-written D mb q ma (drop front s) laid (omega (arith, length-drop front s)))
         ∙ ap₂ (λ (u v : List ℕ). u ++ v ++ blocks) w (sym index-is)
 
 -- the free list and the header written last
-pub sealed : (s s₅ s₆ s₇ I blocks bs : List ℕ) (front : ℕ) (counts : Counts) → 256 ≤ length s → length I + 256 ≡ front
-    → s₅ ≡ take 256 s ++ I ++ blocks
+pub sealed : (F : Format) → Lawful F → (s s₅ s₆ s₇ I blocks bs : List ℕ) (front : ℕ) (counts : Counts) → F .header-bytes ≤ length s → length I + F .header-bytes ≡ front
+    → s₅ ≡ take (F .header-bytes) s ++ I ++ blocks
     → s₆ ≡ take front s₅ ++ free-list-written bs (drop front s₅)
-    → s₇ ≡ changed-header layout4 counts s₆
-    → s₇ ≡ changed-header layout4 counts (take 256 s) ++ I ++ free-list-written bs blocks
-sealed s s₅ s₆ s₇ I blocks bs front counts h l d e₆ e₇ =
-    let K : List ℕ = take 256 s in
-    let F : List ℕ = free-list-written bs blocks in
-    let k : length K ≡ 256 = length-take-le 256 s h in
+    → s₇ ≡ changed-header (F .layout) counts s₆
+    → s₇ ≡ changed-header (F .layout) counts (take (F .header-bytes) s) ++ I ++ free-list-written bs blocks
+sealed F law s s₅ s₆ s₇ I blocks bs front counts h l d e₆ e₇ =
+    let header : ℕ = F .header-bytes in
+    let o : Layout = F .layout in
+    let K : List ℕ = take header s in
+    let L : List ℕ = free-list-written bs blocks in
+    let k : length K ≡ header = length-take-le header s h in
     let c : length (K ++ I) ≡ front = omega (arith, length-append K I) in
     let t : take front s₅ ≡ K ++ I = ap (take front) d ∙ take-at (K ++ I) blocks front c in
     let u : drop front s₅ ≡ blocks = ap (drop front) d ∙ drop-at (K ++ I) blocks front c in
-    let v : s₆ ≡ K ++ (I ++ F) = e₆ ∙ ap₂ (λ (y z : List ℕ). y ++ free-list-written bs z) t u ∙ append-assoc K I F in
-    e₇ ∙ ap (changed-header layout4 counts) v
-    ∙ header-front counts (K ++ (I ++ F)) (omega (arith, length-append K (I ++ F)))
-    ∙ ap₂ (λ (y z : List ℕ). changed-header layout4 counts y ++ z) (take-at K (I ++ F) 256 k) (drop-at K (I ++ F) 256 k)
-    ∙ sym (append-assoc (changed-header layout4 counts K) I F)
+    let v : s₆ ≡ K ++ (I ++ L) = e₆ ∙ ap₂ (λ (y z : List ℕ). y ++ free-list-written bs z) t u ∙ append-assoc K I L in
+    e₇ ∙ ap (changed-header o counts) v
+    ∙ header-front o (law .layout-lawful) counts (K ++ (I ++ L)) header (law .header-inside) (omega (arith, length-append K (I ++ L)))
+    ∙ ap₂ (λ (y z : List ℕ). changed-header o counts y ++ z) (take-at K (I ++ L) header k) (drop-at K (I ++ L) header k)
+    ∙ sym (append-assoc (changed-header o counts K) I L)

@@ -15,7 +15,7 @@ use Rattle.spec.specs.Bytes as BytesSpec
 use Rattle.spec.specs.Bytes.{write, bytes-at, no-zero, bytes-equal}
 use Rattle.spec.specs.Order.{below-of}
 use Rattle.spec.specs.Header as Header
-use Rattle.spec.specs.Header.{layout4, format4, get}
+use Rattle.spec.specs.Header.{layout4, get}
 use Rattle.spec.specs.Entry.{Entry, headword-ok, text}
 use Rattle.spec.specs.Run.{Run}
 use Rattle.spec.specs.Check as Check
@@ -35,8 +35,7 @@ use Rattle.runs.proofs.Laws.{attribute-in, text-in}
 use Rattle.seek.specs.Spot as SpotSpec
 use Rattle.seek.specs.Spot.{spot-entry}
 use Rattle.seek.specs.declared.Spot.{Spot}
-use Rattle.inspect.specs.Overview.{AcceptedImage}
-use Rattle.inspect.proofs.Laws.{index-part, data-part}
+use Rattle.inspect.specs.Overview.{AcceptedImage, index-part, data-part}
 use Rattle.inspect.proofs.Accepted.{accepted-frame, accepted-sought, accepted-lookup}
 use Rattle.header.specs.Framed.{frame4}
 
@@ -49,7 +48,8 @@ module _ (area : List ℕ) (z e : ℕ) (p : z + 2 ≤ e) (q : e ≤ length area)
   text-length h = ap length (text-in area h z e p q) ∙ length-bytes-at area (z + 2) (e - (z + 2)) (omega arith)
 
   -- row 14
-  pub text-short : length out < e - (z + 2) → (h : List ℕ) → record { answer = look-up-answer (LookUpAnswer.Refused 14); text = out } ≡ look-up-result out (text-fitted out (some (entry-in area z e h)))
+  pub text-short : length out < e - (z + 2) → (h : List ℕ)
+      → record { answer = look-up-answer (LookUpAnswer.Refused 14); text = out } ≡ look-up-result out (text-fitted out (some (entry-in area z e h)))
   unfolding Calls.look-up-result Answers.look-up-answer Calls.text-fitted
   text-short l h =
       let k : ltb (length out) (length (text (entry-in area z e h))) ≡ true = lt-ltb (length out) (length (text (entry-in area z e h))) (rw (text-length h) l) in
@@ -70,7 +70,8 @@ module _ (s h out : List ℕ) (n d : ℕ) (a : AcceptedImage s n d) (t : Bool) (
   look-up-twelve q i o = rw (← rule, q)
 
   module _ (q : not t ≡ false) (e : ℕ) (number : e ≡ get (layout4 .nindex2) s) (word : List ℕ) (p : Spot)
-      (sought : (rs : List Run) → runs-from format4 d (data-part s n) (elements-at (index-part s n) 0 e) ≡ ok rs → spot-entry (data-part s n) word p ≡ successor (below-of 0) false h (all-entries rs))
+      (sought : (rs : List Run) → runs-from (below-of 0) d (data-part s n) (elements-at (index-part s n) 0 e) ≡ ok rs
+      → spot-entry (data-part s n) word p ≡ successor (below-of 0) false h (all-entries rs))
       (i : Image) (o : image-from s ≡ ok i) where
     found : lookup h (entries-of i) ≡ exactly h (spot-entry (data-part s n) word p)
     found = accepted-lookup s n d a e number (spot-entry (data-part s n) word p) h sought i o
@@ -97,7 +98,8 @@ module _ (s h out : List ℕ) (n d : ℕ) (a : AcceptedImage s n d) (t : Bool) (
           ap (look-up-result out) (sym (opened ∙ ap (text-fitted out) g))
 
       -- it is the entry
-      pub look-up-same : b ≡ true → (r : LookUpAnswer) (out′ : List ℕ) → ((g : List ℕ) → record { answer = look-up-answer r; text = out′ } ≡ look-up-result out (text-fitted out (some (entry-in (data-part s n) z x g))))
+      pub look-up-same : b ≡ true → (r : LookUpAnswer) (out′ : List ℕ)
+          → ((g : List ℕ) → record { answer = look-up-answer r; text = out′ } ≡ look-up-result out (text-fitted out (some (entry-in (data-part s n) z x g))))
           → record { answer = look-up-answer r; text = out′ } ≡ look-up-result out (look-up-in i h out)
       look-up-same f r out′ g =
           let v : exactly h (spot-entry (data-part s n) word p) ≡ some (entry-in (data-part s n) z x (take k word)) = spot ∙ rw f in
@@ -105,7 +107,8 @@ module _ (s h out : List ℕ) (n d : ℕ) (a : AcceptedImage s n d) (t : Bool) (
 
   -- no entry is there
   pub look-up-absent : not t ≡ false → (e : ℕ) → e ≡ get (layout4 .nindex2) s → (word : List ℕ) (p : Spot)
-      → ((rs : List Run) → runs-from format4 d (data-part s n) (elements-at (index-part s n) 0 e) ≡ ok rs → spot-entry (data-part s n) word p ≡ successor (below-of 0) false h (all-entries rs)) → p ≡ Spot.Absent
+      → ((rs : List Run) → runs-from (below-of 0) d (data-part s n) (elements-at (index-part s n) 0 e) ≡ ok rs
+      → spot-entry (data-part s n) word p ≡ successor (below-of 0) false h (all-entries rs)) → p ≡ Spot.Absent
       → (i : Image) → image-from s ≡ ok i → record { answer = look-up-answer LookUpAnswer.Absent; text = out } ≡ look-up-result out (look-up-in i h out)
   look-up-absent q e number word p sought x i o = look-up-none q e number word p sought i o x
 
@@ -141,7 +144,8 @@ module _ (area : List ℕ) (z e : ℕ) (p : z + 2 ≤ e) (q : e ≤ length area)
 
     -- both are copied
     pub entry-given : e - (z + 2) ≤ length text-out → (out′ text′ : List ℕ) → out′ ≡ write 0 (bytes-at 0 (length h) h) out → text′ ≡ write 0 (bytes-at (z + 2) (e - (z + 2)) area) text-out
-        → record { answer = walk-answer (WalkAnswer.Found (getD area (z + 1) 0) (length h) (e - (z + 2))); headword = out′; text = text′ } ≡ walk-result out text-out (entry-fitted out text-out (some (entry-in area z e h)))
+        → record { answer = walk-answer (WalkAnswer.Found (getD area (z + 1) 0) (length h) (e - (z + 2))); headword = out′; text = text′ }
+        ≡ walk-result out text-out (entry-fitted out text-out (some (entry-in area z e h)))
     unfolding Calls.walk-result Answers.walk-answer Calls.entry-fitted BytesSpec.bytes-at
     entry-given l out′ text′ u w =
         let k : ltb (length text-out) (length (text (entry-in area z e h))) ≡ false = le-ltb (length text-out) (length (text (entry-in area z e h))) (rw (text-length area z e p q out h) l) in
@@ -150,12 +154,14 @@ module _ (area : List ℕ) (z e : ℕ) (p : z + 2 ≤ e) (q : e ≤ length area)
 
 module _ (s h out text-out : List ℕ) (n d : ℕ) (a : AcceptedImage s n d) (above t : Bool) (rule : t ≡ start-ok h) where
   -- row 12
-  pub walk-twelve : not t ≡ true → (i : Image) → image-from s ≡ ok i → record { answer = walk-answer (WalkAnswer.Refused 12); headword = out; text = text-out } ≡ walk-result out text-out (walk-in i above h out text-out)
+  pub walk-twelve : not t ≡ true → (i : Image) → image-from s ≡ ok i
+      → record { answer = walk-answer (WalkAnswer.Refused 12); headword = out; text = text-out } ≡ walk-result out text-out (walk-in i above h out text-out)
   unfolding Calls.walk-result Answers.walk-answer Calls.walk-in
   walk-twelve q i o = rw (← rule, q)
 
   module _ (q : not t ≡ false) (e : ℕ) (number : e ≡ get (layout4 .nindex2) s) (word : List ℕ) (p : Spot)
-      (sought : (rs : List Run) → runs-from format4 d (data-part s n) (elements-at (index-part s n) 0 e) ≡ ok rs → spot-entry (data-part s n) word p ≡ successor (below-of 0) above h (all-entries rs)) where
+      (sought : (rs : List Run) → runs-from (below-of 0) d (data-part s n) (elements-at (index-part s n) 0 e) ≡ ok rs
+      → spot-entry (data-part s n) word p ≡ successor (below-of 0) above h (all-entries rs)) where
     walked : (i : Image) → image-from s ≡ ok i → walk-in i above h out text-out ≡ entry-fitted out text-out (spot-entry (data-part s n) word p)
     unfolding Check.entries-of Header.format4 Calls.walk-in
     walked i o =
@@ -165,7 +171,8 @@ module _ (s h out text-out : List ℕ) (n d : ℕ) (a : AcceptedImage s n d) (ab
         rw (← rule, q, f, ← x)
 
     -- past the last
-    pub walk-absent : p ≡ Spot.Absent → (i : Image) → image-from s ≡ ok i → record { answer = walk-answer WalkAnswer.Absent; headword = out; text = text-out } ≡ walk-result out text-out (walk-in i above h out text-out)
+    pub walk-absent : p ≡ Spot.Absent → (i : Image) → image-from s ≡ ok i
+        → record { answer = walk-answer WalkAnswer.Absent; headword = out; text = text-out } ≡ walk-result out text-out (walk-in i above h out text-out)
     unfolding Calls.walk-result Answers.walk-answer Calls.entry-fitted SpotSpec.spot-entry
     walk-absent x i o = sym (rw (walked i o, x))
 

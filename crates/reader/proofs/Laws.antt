@@ -71,7 +71,8 @@ module _ (s : List ℕ) (len : ℕ) (t : Bool) (slice : t ≡ accepted (slice-ok
       look-up-refused j e h out = sym (rw (image-refused j e))
 
       -- rows 3 to 10 of a walk
-      pub walk-refused : (j : ℕ) → r ≡ Inspected.Refused j → (above : Bool) (h out text : List ℕ) → record { answer = walk-answer (WalkAnswer.Refused j); headword = out; text = text } ≡ walk s len above h out text
+      pub walk-refused : (j : ℕ) → r ≡ Inspected.Refused j → (above : Bool) (h out text : List ℕ)
+          → record { answer = walk-answer (WalkAnswer.Refused j); headword = out; text = text } ≡ walk s len above h out text
       unfolding Calls.walk Calls.walk-entry Calls.walk-result Answers.walk-answer
       walk-refused j e above h out text = sym (rw (image-refused j e))
 
@@ -95,7 +96,8 @@ module _ (s : List ℕ) (len : ℕ) (t : Bool) (slice : t ≡ accepted (slice-ok
 
         -- a look up by the answer in the image
         pub look-up-answered : (g out : List ℕ) (x : LookUpAnswer) (out′ : List ℕ)
-            → ((i : Image) → image-from (take len s) ≡ ok i → record { answer = look-up-answer x; text = out′ } ≡ look-up-result out (look-up-in i g out)) → record { answer = look-up-answer x; text = out′ } ≡ look-up s len g out
+            → ((i : Image) → image-from (take len s) ≡ ok i → record { answer = look-up-answer x; text = out′ } ≡ look-up-result out (look-up-in i g out))
+            → record { answer = look-up-answer x; text = out′ } ≡ look-up s len g out
         unfolding Calls.look-up Calls.look-up-entry Calls.look-up-in Calls.text-fitted
         look-up-answered g out x out′ f = f (sound .image) (sound .is) ∙ ap (look-up-result out) (sym (rw (image-ok)))
 

@@ -8,6 +8,7 @@ use native.Mathlib.Omega.{arith}
 use lib.ListN.{length, getD, getElem?, drop, set}
 use lib.Dec.{T, leb, ltb, lt→ltb}
 use lib.Pow.{areBytes}
+use Rattle.spec.specs.Order.{HeadwordOrder}
 use Rattle.spec.specs.Lists.{all}
 use Rattle.spec.specs.Bytes.{bytes-at, zeros}
 use Rattle.spec.specs.Entry.{Entry}
@@ -20,7 +21,7 @@ use Rattle.editor.proofs.Rows.{all-bytes}
 use Rattle.script.specs.Script.{headword-size, text-size, call-size, kinds, call-of, front-call, calls-from, calls-of, Told, told, Played, played-from, played, fed, Claimed}
 
 -- after the last call the image is accepted and its entries are the sorted list's
-last-matches : (below : List ℕ → List ℕ → Bool) (n : ℕ) (cs : List Call) (s : List ℕ) (L : ℕ) (es : List Entry) (work codes : List ℕ) → History below s L es cs
+last-matches : (below : HeadwordOrder) (n : ℕ) (cs : List Call) (s : List ℕ) (L : ℕ) (es : List Entry) (work codes : List ℕ) → History below s L es cs
     → Matches below (played-from n cs s L work codes .image) (played-from n cs s L work codes .length-after) (fed below cs s L es)
 unfolding History played-from told fed
 last-matches below n [] s L es work codes h = h

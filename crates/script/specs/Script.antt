@@ -2,11 +2,12 @@
 -- A call: kind (1) | headword length (1) | text length (2, low byte first) | attribute (1) | headword | text.
 use Prim.Native.Nat.{ℕ, zero, suc, _+_, _<_, _≤_}
 use mathlib.Core.Path.{_≡_}
-use mathlib.Core.Bool.{Bool, true, false, _&&_}
+use mathlib.Core.Bool.{true, false, _&&_}
 use mathlib.Core.List.{List, [], _∷_}
 use mathlib.Core.Option.{Option, none, some}
 use lib.ListN.{length, getD, getElem?, drop, set}
 use lib.Dec.{leb}
+use Rattle.spec.specs.Order.{HeadwordOrder}
 use Rattle.spec.specs.Outcome.{Outcome, refused, ok}
 use Rattle.spec.specs.Bytes.{from-little-endian, bytes-at, zeros}
 use Rattle.spec.specs.Entry.{Entry}
@@ -108,7 +109,7 @@ unfoldable pub played : List Call → List ℕ → ℕ → List ℕ → List ℕ
 played cs s L work codes = played-from 0 cs s L work codes
 
 -- the sorted list fed with the same calls, and with whether each was refused
-unfoldable pub fed : (List ℕ → List ℕ → Bool) → List Call → List ℕ → ℕ → List Entry → List Entry
+unfoldable pub fed : HeadwordOrder → List Call → List ℕ → ℕ → List Entry → List Entry
 fed below [] s L es = es
 fed below (c ∷ cs) s L es = fed below cs (perform s L c .image) (perform s L c .length-after) (list-step below (is-refused (perform s L c .observed)) c es)
 

@@ -13,9 +13,7 @@ use mir.Facts.{fits-below}
 use Rattle.spec.specs.Outcome.{refused, ok}
 use Rattle.spec.specs.Lists as Lists
 use Rattle.spec.specs.Bytes.{from-little-endian, bytes-at, no-zero}
-use Rattle.spec.specs.Order.{below-of, IsOrder}
-use Rattle.spec.specs.Header as Header
-use Rattle.spec.specs.Header.{Format, format4}
+use Rattle.spec.specs.Order.{below-of, IsOrder, HeadwordOrder}
 use Rattle.spec.specs.Entry.{Entry}
 use Rattle.spec.specs.Run.{Run, read-entry, entries-from}
 use Rattle.spec.specs.Index.{Element}
@@ -43,10 +41,10 @@ use Rattle.seek.specs.declared.Spot.{Spot}
 
 -- ---- takes
 -- a test that tells whether a walk from h may answer an entry with the headword w
-abbrev pub TakesTold : (List ℕ → List ℕ → Bool) → Bool → List ℕ → List ℕ → Bool → Type 0
+abbrev pub TakesTold : HeadwordOrder → Bool → List ℕ → List ℕ → Bool → Type 0
 TakesTold below above h w r = (body : List ℕ) → r ≡ walk-takes below above h (record { headword = w; body = body })
 
-module _ (below : List ℕ → List ℕ → Bool) (above : Bool) (h w : List ℕ) where
+module _ (below : HeadwordOrder) (above : Bool) (h w : List ℕ) where
   -- from the empty headword every entry is taken
   pub takes-empty : length h ≡ 0 → TakesTold below above h w true
   unfolding SortedList.walk-takes
@@ -77,57 +75,57 @@ module _ (below : List ℕ → List ℕ → Bool) (above : Bool) (h w : List ℕ
 
 -- ---- find_in_run
 -- what entries that were read tell of the first step, whatever the bound
-module _ (F : Format) (prev s : List ℕ) (es : List Entry) where
+module _ (low : HeadwordOrder) (prev s : List ℕ) (es : List Entry) where
   -- no entry rule is broken
-  never-broken : (fuel : ℕ) → entries-from F fuel prev s ≡ ok es → read-entry F prev s ≡ refused 8 → ⊥
+  never-broken : (fuel : ℕ) → entries-from low fuel prev s ≡ ok es → read-entry low prev s ≡ refused 8 → ⊥
   unfolding entries-from
   never-broken zero h r = ok-not-refused es 8 (sym h)
-  never-broken (suc m) h r = entries-unbroken F m prev s es h r
+  never-broken (suc m) h r = entries-unbroken low m prev s es h r
 
   -- at the end there are none
-  ended : (fuel : ℕ) → entries-from F fuel prev s ≡ ok es → read-entry F prev s ≡ ok none → es ≡ []
+  ended : (fuel : ℕ) → entries-from low fuel prev s ≡ ok es → read-entry low prev s ≡ ok none → es ≡ []
   unfolding entries-from
   ended zero h r = absurd (ok-not-refused es 8 (sym h))
-  ended (suc m) h r = entries-ended F m prev s es h r
+  ended (suc m) h r = entries-ended low m prev s es h r
 
   -- an entry is the first of them, and the others are read behind it
-  went-on : (fuel : ℕ) → entries-from F fuel prev s ≡ ok es → (d : Entry) (rest : List ℕ) → read-entry F prev s ≡ ok (some (d, rest))
-      → (m : ℕ) × (ds : List Entry) × (entries-from F m (d .headword) rest ≡ ok ds) × (es ≡ d ∷ ds)
+  went-on : (fuel : ℕ) → entries-from low fuel prev s ≡ ok es → (d : Entry) (rest : List ℕ) → read-entry low prev s ≡ ok (some (d, rest))
+      → (m : ℕ) × (ds : List Entry) × (entries-from low m (d .headword) rest ≡ ok ds) × (es ≡ d ∷ ds)
   unfolding entries-from
   went-on zero h d rest r = absurd (ok-not-refused es 8 (sym h))
   went-on (suc m) h d rest r =
-      let (ds, u, v) = entries-more F m prev s es h d rest r in
+      let (ds, u, v) = entries-more low m prev s es h d rest r in
       (m, ds, u, v)
 
 -- nothing is found among no entries
-successor-none : (below : List ℕ → List ℕ → Bool) (above : Bool) (h : List ℕ) → successor below above h [] ≡ none
+successor-none : (below : HeadwordOrder) (above : Bool) (h : List ℕ) → successor below above h [] ≡ none
 unfolding SortedList.successor Lists.filter Lists.first
 successor-none below above h = refl
 
 -- what a search through a run finds, where its entries can be read
-abbrev pub FoundIn : Format → (List ℕ → List ℕ → Bool) → Bool → List ℕ → List ℕ → List ℕ → Step → Type 0
-FoundIn F below above h run word r = (fuel : ℕ) (es : List Entry) → entries-from F fuel [] (drop 2 run) ≡ ok es → step-found run word r ≡ successor below above h es
+abbrev pub FoundIn : HeadwordOrder → HeadwordOrder → Bool → List ℕ → List ℕ → List ℕ → Step → Type 0
+FoundIn low below above h run word r = (fuel : ℕ) (es : List Entry) → entries-from low fuel [] (drop 2 run) ≡ ok es → step-found run word r ≡ successor below above h es
 
 -- the entries from a position on, which answer as all do
-pub record Onward (F : Format) (below : List ℕ → List ℕ → Bool) (above : Bool) (h prev s : List ℕ) (all : List Entry) : Type 0 where
+pub record Onward (low : HeadwordOrder) (below : HeadwordOrder) (above : Bool) (h prev s : List ℕ) (all : List Entry) : Type 0 where
   pub fuel : ℕ
   pub entries : List Entry
-  pub read : entries-from F fuel prev s ≡ ok entries
+  pub read : entries-from low fuel prev s ≡ ok entries
   pub same : successor below above h all ≡ successor below above h entries
 
 -- all entries before a position are passed
-pub record Passing (F : Format) (below : List ℕ → List ℕ → Bool) (above : Bool) (h run word₀ word : List ℕ) (pos n : ℕ) : Type 0 where
+pub record Passing (low : HeadwordOrder) (below : HeadwordOrder) (above : Bool) (h run word₀ word : List ℕ) (pos n : ℕ) : Type 0 where
   pub start : 2 ≤ pos
   pub inside : pos ≤ length run
   pub room : 248 ≤ length word
   pub kept : length word ≡ length word₀
   pub short : n ≤ 248
   pub clean : no-zero (take n word) ≡ true
-  pub rest : (fuel : ℕ) (es : List Entry) → entries-from F fuel [] (drop 2 run) ≡ ok es → Onward F below above h (take n word) (drop pos run) es
+  pub rest : (fuel : ℕ) (es : List Entry) → entries-from low fuel [] (drop 2 run) ≡ ok es → Onward low below above h (take n word) (drop pos run) es
 
 -- at first none is passed
-pub passing-start : (F : Format) (below : List ℕ → List ℕ → Bool) (above : Bool) (h run word : List ℕ) → 2 ≤ length run → 248 ≤ length word → Passing F below above h run word word 2 0
-passing-start F below above h run word p q =
+pub passing-start : (low : HeadwordOrder) (below : HeadwordOrder) (above : Bool) (h run word : List ℕ) → 2 ≤ length run → 248 ≤ length word → Passing low below above h run word word 2 0
+passing-start low below above h run word p q =
     record {
       start = omega arith;
       inside = p;
@@ -138,20 +136,20 @@ passing-start F below above h run word p q =
       rest = λ fuel es r. record { fuel = fuel; entries = es; read = r; same = refl };
     }
 
-module _ (F : Format) (above : Bool) (h run word₀ word : List ℕ) (pos n : ℕ) (v : Passing F (below-of 0) above h run word₀ word pos n) (st : Step) (word′ : List ℕ)
-    (step : step-entry run word′ st ≡ read-entry F (take n word) (drop pos run)) where
+module _ (low : HeadwordOrder) (above : Bool) (h run word₀ word : List ℕ) (pos n : ℕ) (v : Passing low (below-of 0) above h run word₀ word pos n) (st : Step) (word′ : List ℕ)
+    (step : step-entry run word′ st ≡ read-entry low (take n word) (drop pos run)) where
   -- an entry rule is broken: the entries cannot be read
-  pub find-broken : st ≡ Step.Broken → FoundIn F (below-of 0) above h run word′ Step.End
+  pub find-broken : st ≡ Step.Broken → FoundIn low (below-of 0) above h run word′ Step.End
   find-broken q fuel es r =
       let o = v .rest fuel es r in
-      absurd (never-broken F (take n word) (drop pos run) (o .entries) (o .fuel) (o .read) (told-broken F (take n word) (drop pos run) run word′ st step q))
+      absurd (never-broken low (take n word) (drop pos run) (o .entries) (o .fuel) (o .read) (told-broken low (take n word) (drop pos run) run word′ st step q))
 
   -- the entries end
-  pub find-end : st ≡ Step.End → FoundIn F (below-of 0) above h run word′ Step.End
+  pub find-end : st ≡ Step.End → FoundIn low (below-of 0) above h run word′ Step.End
   unfolding step-found
   find-end q fuel es r =
       let o = v .rest fuel es r in
-      let e : o .entries ≡ [] = ended F (take n word) (drop pos run) (o .entries) (o .fuel) (o .read) (told-end F (take n word) (drop pos run) run word′ st step q) in
+      let e : o .entries ≡ [] = ended low (take n word) (drop pos run) (o .entries) (o .fuel) (o .read) (told-end low (take n word) (drop pos run) run word′ st step q) in
       sym (o .same ∙ ap (successor (below-of 0) above h) e ∙ successor-none (below-of 0) above h)
 
   module _ (k z x : ℕ) (q : st ≡ Step.Entry k z x) (b : Bool) (t : TakesTold (below-of 0) above h (take k word′) b) where
@@ -160,22 +158,22 @@ module _ (F : Format) (above : Bool) (h run word₀ word : List ℕ) (pos n : �
     found = record { headword = take k word′; body = bytes-at (z + 1) (x - (z + 1)) run }
 
     -- it is the next of the entries
-    onward : (fuel : ℕ) (es : List Entry) → entries-from F fuel [] (drop 2 run) ≡ ok es
-        → (m : ℕ) × (ds : List Entry) × (entries-from F m (take k word′) (drop x run) ≡ ok ds) × (successor (below-of 0) above h es ≡ successor (below-of 0) above h (found ∷ ds))
+    onward : (fuel : ℕ) (es : List Entry) → entries-from low fuel [] (drop 2 run) ≡ ok es
+        → (m : ℕ) × (ds : List Entry) × (entries-from low m (take k word′) (drop x run) ≡ ok ds) × (successor (below-of 0) above h es ≡ successor (below-of 0) above h (found ∷ ds))
     onward fuel es r =
         let o = v .rest fuel es r in
-        let (m, ds, u, e) = went-on F (take n word) (drop pos run) (o .entries) (o .fuel) (o .read) found (drop x run) (told-entry F (take n word) (drop pos run) run word′ st step k z x q) in
+        let (m, ds, u, e) = went-on low (take n word) (drop pos run) (o .entries) (o .fuel) (o .read) found (drop x run) (told-entry low (take n word) (drop pos run) run word′ st step k z x q) in
         (m, ds, u, o .same ∙ ap (successor (below-of 0) above h) e)
 
     -- the entry is taken
-    pub find-entry : b ≡ true → FoundIn F (below-of 0) above h run word′ (Step.Entry k z x)
+    pub find-entry : b ≡ true → FoundIn low (below-of 0) above h run word′ (Step.Entry k z x)
     unfolding step-found
     find-entry y fuel es r =
         let (m, ds, u, e) = onward fuel es r in
         sym (e ∙ successor-here (below-of 0) (order-of 0) above h found ds (sym (t (found .body)) ∙ y))
 
     -- it is passed
-    pub find-turn : b ≡ false → pos + 3 ≤ z → z + 2 ≤ x → x ≤ length run → k ≤ 248 → length word′ ≡ length word → Passing F (below-of 0) above h run word₀ word′ x k
+    pub find-turn : b ≡ false → pos + 3 ≤ z → z + 2 ≤ x → x ≤ length run → k ≤ 248 → length word′ ≡ length word → Passing low (below-of 0) above h run word₀ word′ x k
     find-turn y p₁ p₂ p₃ p₄ l =
         record {
           start = omega (arith, v .start);
@@ -183,7 +181,7 @@ module _ (F : Format) (above : Bool) (h run word₀ word : List ℕ) (pos n : �
           room = omega (arith, v .room);
           kept = l ∙ v .kept;
           short = p₄;
-          clean = told-no-zero F (take n word) (drop pos run) run word′ st step k z x q;
+          clean = told-no-zero low (take n word) (drop pos run) run word′ st step k z x q;
           rest = λ fuel es r.
               let (m, ds, u, e) = onward fuel es r in
               record { fuel = m; entries = ds; read = u; same = e ∙ successor-later (below-of 0) (order-of 0) above h found ds (sym (t (found .body)) ∙ y) };
@@ -198,12 +196,13 @@ module _ (at : ℕ) (run : List ℕ) (st : Step) (h : StepSpec.Inside at run st)
 
 -- ---- find_at
 -- what a search in the run of an element finds, where that can be read
-abbrev pub FoundAt : Format → (List ℕ → List ℕ → Bool) → Bool → List ℕ → ℕ → List ℕ → Element → List ℕ → Spot → Type 0
-FoundAt F below above h D area e word r = (next : Option (List ℕ)) (q : Run) → run-from F D area e next ≡ ok q → spot-entry area word r ≡ successor below above h (q .entries)
+abbrev pub FoundAt : HeadwordOrder → HeadwordOrder → Bool → List ℕ → ℕ → List ℕ → Element → List ℕ → Spot → Type 0
+FoundAt low below above h D area e word r = (next : Option (List ℕ)) (q : Run) → run-from low D area e next ≡ ok q → spot-entry area word r ≡ successor below above h (q .entries)
 
-module _ (F : Format) (below : List ℕ → List ℕ → Bool) (above : Bool) (h index : List ℕ) (at D : ℕ) (area : List ℕ) (b n : ℕ) (num : b ≡ from-little-endian (bytes-at at 2 index)) (sized : Sized F D area b n) where
+module _ (low : HeadwordOrder) (below : HeadwordOrder) (above : Bool) (h index : List ℕ) (at D : ℕ) (area : List ℕ) (b n : ℕ)
+    (num : b ≡ from-little-endian (bytes-at at 2 index)) (sized : Sized low D area b n) where
   -- row 7: there is no run
-  pub at-unplaced : (word : List ℕ) → n ≡ 0 → FoundAt F below above h D area (element-at index at) word Spot.Absent
+  pub at-unplaced : (word : List ℕ) → n ≡ 0 → FoundAt low below above h D area (element-at index at) word Spot.Absent
   unfolding element-at
   at-unplaced word z next q r = absurd (ok-not-refused q 7 (sym r ∙ sized .0 (element-at index at) next (sym num) z))
 
@@ -217,10 +216,11 @@ module _ (F : Format) (below : List ℕ → List ℕ → Bool) (above : Bool) (h
     inside-area = placed .3
 
     -- the bytes searched are the run's
-    same-run : (next : Option (List ℕ)) (q : Run) → run-from F D area (element-at index at) next ≡ ok q → entries-from F (suc (length (q .bytes))) [] (drop 2 (run-slice area b n)) ≡ ok (q .entries)
+    same-run : (next : Option (List ℕ)) (q : Run) → run-from low D area (element-at index at) next ≡ ok q
+        → entries-from low (suc (length (q .bytes))) [] (drop 2 (run-slice area b n)) ≡ ok (q .entries)
     unfolding element-at
     same-run next q r =
-        let t = run-told F D area (element-at index at) next q r in
+        let t = run-told low D area (element-at index at) next q r in
         let p : q .block ≡ b = t .block ∙ sym num in
         let s : q .size ≡ n = t .size ∙ rw (← num) (sym (placed .1)) in
         let e : q .bytes ≡ run-slice area b n = t .bytes ∙ rw (p, s) (sym (slice-same area b n)) in
@@ -239,19 +239,20 @@ module _ (F : Format) (below : List ℕ → List ℕ → Bool) (above : Bool) (h
       pub at-count : 2 ≤ length (run-slice area b n)
       at-count = omega (arith, slice-bytes)
 
-      module _ (word : List ℕ) (st : Step) (f : FoundIn F below above h (run-slice area b n) word st) where
+      module _ (word : List ℕ) (st : Step) (f : FoundIn low below above h (run-slice area b n) word st) where
         -- nothing is found up to a broken rule
-        pub at-broken : st ≡ Step.Broken → FoundAt F below above h D area (element-at index at) word Spot.Absent
+        pub at-broken : st ≡ Step.Broken → FoundAt low below above h D area (element-at index at) word Spot.Absent
         unfolding step-found spot-entry
         at-broken y next q r = sym (ap (step-found (run-slice area b n) word) y) ∙ f (suc (length (q .bytes))) (q .entries) (same-run next q r)
 
         -- or up to the end of the run
-        pub at-end : st ≡ Step.End → FoundAt F below above h D area (element-at index at) word Spot.Absent
+        pub at-end : st ≡ Step.End → FoundAt low below above h D area (element-at index at) word Spot.Absent
         unfolding step-found spot-entry
         at-end y next q r = sym (ap (step-found (run-slice area b n) word) y) ∙ f (suc (length (q .bytes))) (q .entries) (same-run next q r)
 
         -- an entry is found
-        pub at-entry : StepSpec.Inside 2 (run-slice area b n) st → (k z e : ℕ) → st ≡ Step.Entry k z e → FoundAt F below above h D area (element-at index at) word (Spot.At k (256 * b + z) (256 * b + e))
+        pub at-entry : StepSpec.Inside 2 (run-slice area b n) st → (k z e : ℕ) → st ≡ Step.Entry k z e
+            → FoundAt low below above h D area (element-at index at) word (Spot.At k (256 * b + z) (256 * b + e))
         unfolding step-found spot-entry
         at-entry i k z e y next q r =
             let (a₀, a₁, a₂, a₃, a₄, a₅) = i k z e y in
@@ -299,23 +300,23 @@ module _ (F : Format) (below : List ℕ → List ℕ → Bool) (above : Bool) (h
 
 -- ---- find_next
 -- what a search in the first run of elements finds, where their runs can be read
-abbrev pub FoundFirst : Format → (List ℕ → List ℕ → Bool) → Bool → List ℕ → ℕ → List ℕ → List Element → List ℕ → Spot → Type 0
-FoundFirst F below above h D area es word r = (rs : List Run) → runs-from F D area es ≡ ok rs → spot-entry area word r ≡ successor below above h (first-entries rs)
+abbrev pub FoundFirst : HeadwordOrder → HeadwordOrder → Bool → List ℕ → ℕ → List ℕ → List Element → List ℕ → Spot → Type 0
+FoundFirst low below above h D area es word r = (rs : List Run) → runs-from low D area es ≡ ok rs → spot-entry area word r ≡ successor below above h (first-entries rs)
 
-module _ (F : Format) (below : List ℕ → List ℕ → Bool) (above : Bool) (h : List ℕ) (D : ℕ) (area index : List ℕ) (at left : ℕ) (word : List ℕ) where
+module _ (low : HeadwordOrder) (below : HeadwordOrder) (above : Bool) (h : List ℕ) (D : ℕ) (area index : List ℕ) (at left : ℕ) (word : List ℕ) where
   -- there is no other run
-  pub next-none : left ≡ 1 → FoundFirst F below above h D area (elements-at index (element-end index at + 1) (left - 1)) word Spot.Absent
+  pub next-none : left ≡ 1 → FoundFirst low below above h D area (elements-at index (element-end index at + 1) (left - 1)) word Spot.Absent
   unfolding Elements.elements-at first-entries spot-entry
-  next-none z rs r = rw (no-runs F D area rs (rw z at r)) (sym (successor-none below above h))
+  next-none z rs r = rw (no-runs low D area rs (rw z at r)) (sym (successor-none below above h))
 
   -- the run of the next element
-  pub next-found : 1 ≤ left → (left ≡ 1 → ⊥) → (a : Spot) (end : ℕ) → end ≡ element-end index at → FoundAt F below above h D area (element-at index (end + 1)) word a
-      → FoundFirst F below above h D area (elements-at index (element-end index at + 1) (left - 1)) word a
+  pub next-found : 1 ≤ left → (left ≡ 1 → ⊥) → (a : Spot) (end : ℕ) → end ≡ element-end index at → FoundAt low below above h D area (element-at index (end + 1)) word a
+      → FoundFirst low below above h D area (elements-at index (element-end index at + 1) (left - 1)) word a
   unfolding first-entries
   next-found p z a end e f rs r =
       let others : List Element = elements-at index (element-end index (element-end index at + 1) + 1) (left - 1 - 1) in
-      let (q, qs, y, u, k) = runs-first F D area (element-at index (element-end index at + 1)) others rs (rw (elements-next index (element-end index at + 1) (left - 1) (omega arith)) at r) in
-      let g : FoundAt F below above h D area (element-at index (element-end index at + 1)) word a = rw e at f in
+      let (q, qs, y, u, k) = runs-first low D area (element-at index (element-end index at + 1)) others rs (rw (elements-next index (element-end index at + 1) (left - 1) (omega arith)) at r) in
+      let g : FoundAt low below above h D area (element-at index (element-end index at + 1)) word a = rw e at f in
       rw y (g (next-headword others) q u)
 
 module _ (index : List ℕ) (at left : ℕ) (i : Inside index at left) (p : 1 ≤ left) where
@@ -325,18 +326,19 @@ module _ (index : List ℕ) (at left : ℕ) (i : Inside index at left) (p : 1 �
 
 -- ---- seek
 -- what a search through the runs of elements finds, where they can be read
-abbrev pub Sought : Format → (List ℕ → List ℕ → Bool) → Bool → List ℕ → ℕ → List ℕ → List Element → List ℕ → Spot → Type 0
-Sought F below above h D area es word r = (rs : List Run) → runs-from F D area es ≡ ok rs → spot-entry area word r ≡ successor below above h (all-entries rs)
+abbrev pub Sought : HeadwordOrder → HeadwordOrder → Bool → List ℕ → ℕ → List ℕ → List Element → List ℕ → Spot → Type 0
+Sought low below above h D area es word r = (rs : List Run) → runs-from low D area es ≡ ok rs → spot-entry area word r ≡ successor below above h (all-entries rs)
 
 -- no elements, no runs
-pub seek-none : (F : Format) (below : List ℕ → List ℕ → Bool) (above : Bool) (h : List ℕ) (D : ℕ) (area index word : List ℕ) (n : ℕ) → n ≡ 0 → Sought F below above h D area (elements-at index 0 n) word Spot.Absent
+pub seek-none : (low : HeadwordOrder) (below : HeadwordOrder) (above : Bool) (h : List ℕ) (D : ℕ) (area index word : List ℕ) (n : ℕ) → n ≡ 0
+    → Sought low below above h D area (elements-at index 0 n) word Spot.Absent
 unfolding Elements.elements-at Check.all-entries spot-entry
-seek-none F below above h D area index word n z rs r = rw (no-runs F D area rs (rw z at r)) (sym (successor-none below above h))
+seek-none low below above h D area index word n z rs r = rw (no-runs low D area rs (rw z at r)) (sym (successor-none below above h))
 
-module _ (F : Format) (order : IsOrder (F .below)) (above : Bool) (h : List ℕ) (D : ℕ) (area index : List ℕ) where
+module _ (low : HeadwordOrder) (order : IsOrder low) (above : Bool) (h : List ℕ) (D : ℕ) (area index : List ℕ) where
   -- the answer among entries
   abbrev answer : List Entry → Option Entry
-  answer = successor (F .below) above h
+  answer = successor low above h
 
   -- and among those of runs
   abbrev answers : List Run → Option Entry
@@ -345,21 +347,21 @@ module _ (F : Format) (order : IsOrder (F .below)) (above : Bool) (h : List ℕ)
   -- the runs from an element on, which answer as all do
   record Reached (all : List Run) (at left : ℕ) : Type 0 where
     runs : List Run
-    read : runs-from F D area (elements-at index at left) ≡ ok runs
+    read : runs-from low D area (elements-at index at left) ≡ ok runs
     same : answers all ≡ answers runs
 
   -- a run is passed where the next headword is not above the given one
-  reached-next : (all : List Run) (at n : ℕ) → Reached all at (suc (suc n)) → F .below h (element-headword index (element-end index at + 1)) ≡ false → Reached all (element-end index at + 1) (suc n)
+  reached-next : (all : List Run) (at n : ℕ) → Reached all at (suc (suc n)) → low h (element-headword index (element-end index at + 1)) ≡ false → Reached all (element-end index at + 1) (suc n)
   unfolding Elements.elements-at Elements.element-at
-  reached-next all at n v low =
+  reached-next all at n v not-above =
       let next : ℕ = element-end index at + 1 in
       let others : List Element = elements-at index (element-end index next + 1) n in
-      let (r, rs, p, u, k) = runs-first F D area (element-at index at) (elements-at index next (suc n)) (v .runs) (v .read) in
-      let (q, qs, p′, u′, k′) = runs-first F D area (element-at index next) others rs k in
-      let t = run-told F D area (element-at index next) (next-headword others) q u′ in
+      let (r, rs, p, u, k) = runs-first low D area (element-at index at) (elements-at index next (suc n)) (v .runs) (v .read) in
+      let (q, qs, p′, u′, k′) = runs-first low D area (element-at index next) others rs k in
+      let t = run-told low D area (element-at index next) (next-headword others) q u′ in
       let e : v .runs ≡ r ∷ q ∷ qs = p ∙ ap (λ (l : List Run). r ∷ l) p′ in
-      let a : RunsAscend F (r ∷ q ∷ qs) = rw e at (runs-ascend F D area (elements-at index at (suc (suc n))) (v .runs) (v .read)) in
-      let s : answers (r ∷ q ∷ qs) ≡ answers (q ∷ qs) = run-passed F order above h r q qs a (rw (t .headword) low) in
+      let a : RunsAscend low (r ∷ q ∷ qs) = rw e at (runs-ascend low D area (elements-at index at (suc (suc n))) (v .runs) (v .read)) in
+      let s : answers (r ∷ q ∷ qs) ≡ answers (q ∷ qs) = run-passed low order above h r q qs a (rw (t .headword) not-above) in
       record { runs = rs; read = k; same = v .same ∙ ap answers e ∙ s ∙ ap answers (sym p′) }
 
   -- the first of the runs from an element on, and the others, of which the next may have the answer
@@ -367,8 +369,8 @@ module _ (F : Format) (order : IsOrder (F .below)) (above : Bool) (h : List ℕ)
     run : Run
     others : List Run
     behind : Option (List ℕ)
-    read : run-from F D area (element-at index at) behind ≡ ok run
-    read-others : runs-from F D area (elements-at index (element-end index at + 1) (left - 1)) ≡ ok others
+    read : run-from low D area (element-at index at) behind ≡ ok run
+    read-others : runs-from low D area (elements-at index (element-end index at + 1) (left - 1)) ≡ ok others
     same : answers rs ≡ or-else (answer (run .entries)) (answer (first-entries others))
 
   -- an answer, or else none
@@ -377,33 +379,34 @@ module _ (F : Format) (order : IsOrder (F .below)) (above : Bool) (h : List ℕ)
   or-none (some e) = refl
 
   -- so they are where no headword follows, or one above the given one
-  divided : (at left : ℕ) (rs : List Run) → 1 ≤ left → (left ≡ 1) ⊎ (F .below h (element-headword index (element-end index at + 1)) ≡ true) → runs-from F D area (elements-at index at left) ≡ ok rs → Divided rs at left
+  divided : (at left : ℕ) (rs : List Run) → 1 ≤ left → (left ≡ 1) ⊎ (low h (element-headword index (element-end index at + 1)) ≡ true)
+      → runs-from low D area (elements-at index at left) ≡ ok rs → Divided rs at left
   unfolding Elements.elements-at Elements.element-at first-entries Lists.first
   divided at zero rs p s k = absurd (omega arith)
   divided at (suc zero) rs p s k =
-      let (r, rs′, e, u, k′) = runs-first F D area (element-at index at) [] rs k in
-      let z : rs′ ≡ [] = no-runs F D area rs′ k′ in
+      let (r, rs′, e, u, k′) = runs-first low D area (element-at index at) [] rs k in
+      let z : rs′ ≡ [] = no-runs low D area rs′ k′ in
       record {
         run = r;
         others = [];
         behind = next-headword [];
         read = u;
         read-others = rw z at k′;
-        same = ap answers (e ∙ ap (λ (l : List Run). r ∷ l) z) ∙ run-last F order above h r ∙ or-none (answer (r .entries)) ∙ ap (or-else (answer (r .entries))) (sym (successor-none (F .below) above h));
+        same = ap answers (e ∙ ap (λ (l : List Run). r ∷ l) z) ∙ run-last low order above h r ∙ or-none (answer (r .entries)) ∙ ap (or-else (answer (r .entries))) (sym (successor-none low above h));
       }
   divided at (suc (suc n)) rs p (inl s) k = absurd (omega arith)
   divided at (suc (suc n)) rs p (inr up) k =
       let next : ℕ = element-end index at + 1 in
       let others : List Element = elements-at index (element-end index next + 1) n in
-      let (r, rs₁, e₁, u₁, k₁) = runs-first F D area (element-at index at) (elements-at index next (suc n)) rs k in
-      let (q, rs₂, e₂, u₂, k₂) = runs-first F D area (element-at index next) others rs₁ k₁ in
-      let t = run-told F D area (element-at index next) (next-headword others) q u₂ in
-      let a : RunsAscend F (q ∷ rs₂) = rw e₂ at (runs-ascend F D area (elements-at index next (suc n)) rs₁ k₁) in
-      let b : F .below h (q .headword) ≡ true = rw (t .headword) up in
-      let f : answer (t .first ∷ t .others) ≡ some (t .first) = successor-here (F .below) order above h (t .first) (t .others) (walk-stops (F .below) order above h (t .first) (rw (t .first-headword) b)) in
+      let (r, rs₁, e₁, u₁, k₁) = runs-first low D area (element-at index at) (elements-at index next (suc n)) rs k in
+      let (q, rs₂, e₂, u₂, k₂) = runs-first low D area (element-at index next) others rs₁ k₁ in
+      let t = run-told low D area (element-at index next) (next-headword others) q u₂ in
+      let a : RunsAscend low (q ∷ rs₂) = rw e₂ at (runs-ascend low D area (elements-at index next (suc n)) rs₁ k₁) in
+      let b : low h (q .headword) ≡ true = rw (t .headword) up in
+      let f : answer (t .first ∷ t .others) ≡ some (t .first) = successor-here low order above h (t .first) (t .others) (walk-stops low order above h (t .first) (rw (t .first-headword) b)) in
       let g : answer (q .entries) ≡ Lists.first (q .entries) = rw (t .entries) f in
       let j : suc (suc n) - 1 ≡ suc n = omega arith in
-      let s : answers (r ∷ q ∷ rs₂) ≡ or-else (answer (r .entries)) (answer (q .entries)) = rw g (run-next F order above h r q rs₂ a b) in
+      let s : answers (r ∷ q ∷ rs₂) ≡ or-else (answer (r .entries)) (answer (q .entries)) = rw g (run-next low order above h r q rs₂ a b) in
       record {
         run = r;
         others = q ∷ rs₂;
@@ -413,27 +416,27 @@ module _ (F : Format) (order : IsOrder (F .below)) (above : Bool) (h : List ℕ)
         same = ap answers (e₁ ∙ ap (λ (l : List Run). r ∷ l) e₂) ∙ s;
       }
 
-  module _ (n : ℕ) (some-elements : n ≡ 0 → ⊥) (c : Place) (concerned : c ≡ concerned-from (F .below) index h 0 (n - 1)) (some-left : 1 ≤ c .left) where
+  module _ (n : ℕ) (some-elements : n ≡ 0 → ⊥) (c : Place) (concerned : c ≡ concerned-from low index h 0 (n - 1)) (some-left : 1 ≤ c .left) where
     -- the run concerned and those behind it have the answer
-    reached : (rs : List Run) → runs-from F D area (elements-at index 0 n) ≡ ok rs → Reached rs (c .at) (c .left)
+    reached : (rs : List Run) → runs-from low D area (elements-at index 0 n) ≡ ok rs → Reached rs (c .at) (c .left)
     reached rs r =
         let e : suc (n - 1) ≡ n = omega arith in
-        rw concerned (concerned-rule (F .below) index h 0 (n - 1) (λ at left. Reached rs at left) (rw e (record { runs = rs; read = r; same = refl })) (λ at k v low. reached-next rs at k v low))
+        rw concerned (concerned-rule low index h 0 (n - 1) (λ at left. Reached rs at left) (rw e (record { runs = rs; read = r; same = refl })) (λ at k v low. reached-next rs at k v low))
 
     -- behind it stands none, or one whose headword is above the given one
-    stops : (c .left ≡ 1) ⊎ (F .below h (element-headword index (element-end index (c .at) + 1)) ≡ true)
-    stops = rw concerned (concerned-stops (F .below) index h 0 (n - 1))
+    stops : (c .left ≡ 1) ⊎ (low h (element-headword index (element-end index (c .at) + 1)) ≡ true)
+    stops = rw concerned (concerned-stops low index h 0 (n - 1))
 
     -- so that all are divided there
-    concerned-divided : (rs : List Run) → runs-from F D area (elements-at index 0 n) ≡ ok rs → Divided rs (c .at) (c .left)
+    concerned-divided : (rs : List Run) → runs-from low D area (elements-at index 0 n) ≡ ok rs → Divided rs (c .at) (c .left)
     concerned-divided rs r =
         let v = reached rs r in
         let d = divided (c .at) (c .left) (v .runs) some-left stops (v .read) in
         record { run = d .run; others = d .others; behind = d .behind; read = d .read; read-others = d .read-others; same = v .same ∙ d .same }
 
-    module _ (word : List ℕ) (found : Spot) (f : FoundAt F (F .below) above h D area (element-at index (c .at)) word found) where
+    module _ (word : List ℕ) (found : Spot) (f : FoundAt low low above h D area (element-at index (c .at)) word found) where
       -- the run concerned has the answer
-      sought-here : (k z e : ℕ) → found ≡ Spot.At k z e → Sought F (F .below) above h D area (elements-at index 0 n) word (Spot.At k z e)
+      sought-here : (k z e : ℕ) → found ≡ Spot.At k z e → Sought low low above h D area (elements-at index 0 n) word (Spot.At k z e)
       unfolding spot-entry
       sought-here k z e y rs r =
           let d = concerned-divided rs r in
@@ -441,24 +444,23 @@ module _ (F : Format) (order : IsOrder (F .below)) (above : Bool) (h : List ℕ)
           sym (d .same ∙ rw (← s))
 
       -- the next one has it
-      sought-next : found ≡ Spot.Absent → (word′ : List ℕ) (a : Spot) → FoundFirst F (F .below) above h D area (elements-at index (element-end index (c .at) + 1) (c .left - 1)) word′ a
-          → Sought F (F .below) above h D area (elements-at index 0 n) word′ a
+      sought-next : found ≡ Spot.Absent → (word′ : List ℕ) (a : Spot) → FoundFirst low low above h D area (elements-at index (element-end index (c .at) + 1) (c .left - 1)) word′ a
+          → Sought low low above h D area (elements-at index 0 n) word′ a
       unfolding spot-entry
       sought-next y word′ a g rs r =
           let d = concerned-divided rs r in
           let s : spot-entry area word Spot.Absent ≡ answer (d .run .entries) = rw y at (f (d .behind) (d .run) (d .read)) in
           g (d .others) (d .read-others) ∙ sym (d .same ∙ rw (← s))
 
-module _ (above : Bool) (h : List ℕ) (D : ℕ) (area index : List ℕ) (n : ℕ) (some-elements : n ≡ 0 → ⊥) (c : Place) (concerned : c ≡ concerned-from (below-of 0) index h 0 (n - 1)) (some-left : 1 ≤ c .left) where
+module _ (above : Bool) (h : List ℕ) (D : ℕ) (area index : List ℕ) (n : ℕ) (some-elements : n ≡ 0 → ⊥) (c : Place)
+    (concerned : c ≡ concerned-from (below-of 0) index h 0 (n - 1)) (some-left : 1 ≤ c .left) where
   -- the run concerned has the answer, in this format
-  pub seek-here : (word : List ℕ) (found : Spot) (k z e : ℕ) → found ≡ Spot.At k z e → FoundAt format4 (below-of 0) above h D area (element-at index (c .at)) word found
-      → Sought format4 (below-of 0) above h D area (elements-at index 0 n) word (Spot.At k z e)
-  unfolding Header.format4
-  seek-here word found k z e y f = sought-here format4 (order-of 0) above h D area index n some-elements c concerned some-left word found f k z e y
+  pub seek-here : (word : List ℕ) (found : Spot) (k z e : ℕ) → found ≡ Spot.At k z e → FoundAt (below-of 0) (below-of 0) above h D area (element-at index (c .at)) word found
+      → Sought (below-of 0) (below-of 0) above h D area (elements-at index 0 n) word (Spot.At k z e)
+  seek-here word found k z e y f = sought-here (below-of 0) (order-of 0) above h D area index n some-elements c concerned some-left word found f k z e y
 
   -- the next one has it
-  pub seek-next : (word′ : List ℕ) (a : Spot) → FoundFirst format4 (below-of 0) above h D area (elements-at index (element-end index (c .at) + 1) (c .left - 1)) word′ a
-      → (word : List ℕ) (found : Spot) → FoundAt format4 (below-of 0) above h D area (element-at index (c .at)) word found → found ≡ Spot.Absent
-      → Sought format4 (below-of 0) above h D area (elements-at index 0 n) word′ a
-  unfolding Header.format4
-  seek-next word′ a g word found f y = sought-next format4 (order-of 0) above h D area index n some-elements c concerned some-left word found f y word′ a g
+  pub seek-next : (word′ : List ℕ) (a : Spot) → FoundFirst (below-of 0) (below-of 0) above h D area (elements-at index (element-end index (c .at) + 1) (c .left - 1)) word′ a
+      → (word : List ℕ) (found : Spot) → FoundAt (below-of 0) (below-of 0) above h D area (element-at index (c .at)) word found → found ≡ Spot.Absent
+      → Sought (below-of 0) (below-of 0) above h D area (elements-at index 0 n) word′ a
+  seek-next word′ a g word found f y = sought-next (below-of 0) (order-of 0) above h D area index n some-elements c concerned some-left word found f y word′ a g

@@ -6,7 +6,6 @@ ghost use Prim.Native.Nat.{ℕ, _+_, _-_, _*_, _≤_};
 ghost use lib.ListN.{length, drop};
 ghost use Rattle.spec.specs.Outcome.{ok};
 ghost use Rattle.spec.specs.Order.{below-of};
-ghost use Rattle.spec.specs.Header.{format4};
 ghost use Rattle.spec.specs.Entry.{Entry};
 ghost use Rattle.spec.specs.Run.{Run, entries-from};
 ghost use Rattle.spec.specs.Check.{run-from, runs-from, all-entries};
@@ -45,7 +44,8 @@ fn takes(above: bool, h: &[u8], w: &[u8]) -> bool
 // The first entry of a run that a walk from `h` may answer.
 fn find_in_run(run: &[u8], above: bool, h: &[u8], word: &mut [u8]) -> Step
     requires { ⌜ (2 ≤ length (now run)) × (248 ≤ length (now word)) ⌝ }
-    ensures { λ r. ⌜ ((fuel : ℕ) (es : List Entry) → entries-from format4 fuel [] (drop 2 (now (run .entry))) ≡ ok es → step-found (now (run .entry)) (now (word .exit)) r ≡ successor (below-of 0) above (now (h .entry)) es) ⌝ }
+    ensures { λ r. ⌜ ((fuel : ℕ) (es : List Entry) → entries-from (below-of 0) fuel [] (drop 2 (now (run .entry))) ≡ ok es
+        → step-found (now (run .entry)) (now (word .exit)) r ≡ successor (below-of 0) above (now (h .entry)) es) ⌝ }
     ensures { λ r. ⌜ step.Inside 2 (now (run .entry)) r ⌝ }
     ensures { λ r. ⌜ length (now (word .exit)) ≡ length (now (word .entry)) ⌝ }
 {
@@ -86,7 +86,8 @@ fn find_at(
     word: &mut [u8],
 ) -> Spot
     requires { ⌜ (at + 2 ≤ length (now index)) × (256 * d ≡ length (now area)) × (d ≤ 65536) × (248 ≤ length (now word)) ⌝ }
-    ensures { λ r. ⌜ ((next : Option (List ℕ)) (q : Run) → run-from format4 d (now (area .entry)) (element-at (now (index .entry)) at) next ≡ ok q → spot-entry (now (area .entry)) (now (word .exit)) r ≡ successor (below-of 0) above (now (h .entry)) (q .entries)) ⌝ }
+    ensures { λ r. ⌜ ((next : Option (List ℕ)) (q : Run) → run-from (below-of 0) d (now (area .entry)) (element-at (now (index .entry)) at) next ≡ ok q
+        → spot-entry (now (area .entry)) (now (word .exit)) r ≡ successor (below-of 0) above (now (h .entry)) (q .entries)) ⌝ }
     ensures { λ r. ⌜ SpotInside (now (area .entry)) r ⌝ }
     ensures { λ r. ⌜ length (now (word .exit)) ≡ length (now (word .entry)) ⌝ }
 {
@@ -121,7 +122,8 @@ fn find_next(
 ) -> Spot
     requires { ⌜ (1 ≤ left) × Inside (now index) at left ⌝ }
     requires { ⌜ (256 * d ≡ length (now area)) × (d ≤ 65536) × (248 ≤ length (now word)) ⌝ }
-    ensures { λ r. ⌜ ((rs : List Run) → runs-from format4 d (now (area .entry)) (elements-at (now (index .entry)) (element-end (now (index .entry)) at + 1) (left - 1)) ≡ ok rs → spot-entry (now (area .entry)) (now (word .exit)) r ≡ successor (below-of 0) above (now (h .entry)) (first-entries rs)) ⌝ }
+    ensures { λ r. ⌜ ((rs : List Run) → runs-from (below-of 0) d (now (area .entry)) (elements-at (now (index .entry)) (element-end (now (index .entry)) at + 1) (left - 1)) ≡ ok rs
+        → spot-entry (now (area .entry)) (now (word .exit)) r ≡ successor (below-of 0) above (now (h .entry)) (first-entries rs)) ⌝ }
     ensures { λ r. ⌜ SpotInside (now (area .entry)) r ⌝ }
     ensures { λ r. ⌜ length (now (word .exit)) ≡ length (now (word .entry)) ⌝ }
 {
@@ -151,7 +153,8 @@ pub fn seek(
 ) -> Spot
     requires { ⌜ Inside (now index) 0 n ⌝ }
     requires { ⌜ (256 * d ≡ length (now area)) × (d ≤ 65536) × (248 ≤ length (now word)) ⌝ }
-    ensures { λ r. ⌜ ((rs : List Run) → runs-from format4 d (now (area .entry)) (elements-at (now (index .entry)) 0 n) ≡ ok rs → spot-entry (now (area .entry)) (now (word .exit)) r ≡ successor (below-of 0) above (now (h .entry)) (all-entries rs)) ⌝ }
+    ensures { λ r. ⌜ ((rs : List Run) → runs-from (below-of 0) d (now (area .entry)) (elements-at (now (index .entry)) 0 n) ≡ ok rs
+        → spot-entry (now (area .entry)) (now (word .exit)) r ≡ successor (below-of 0) above (now (h .entry)) (all-entries rs)) ⌝ }
     ensures { λ r. ⌜ SpotInside (now (area .entry)) r ⌝ }
     ensures { λ r. ⌜ length (now (word .exit)) ≡ length (now (word .entry)) ⌝ }
 {

@@ -90,7 +90,8 @@ module _ (s : List ℕ) (L : ℕ) (i : Image) (got : image-in s L ≡ ok i) wher
       go (some n) o = refl
       go none none = refl
       go none (some e) =
-          ap₂ (λ (x y : List ℕ). ok (entry-found x y (attribute e) (length (e .headword)) (length (text e)))) (written-front (e .headword) out-headword (length (e .headword)) refl) (written-front (text e) out-text (length (text e)) refl)
+          ap₂ (λ (x y : List ℕ). ok (entry-found x y (attribute e) (length (e .headword)) (length (text e))))
+          (written-front (e .headword) out-headword (length (e .headword)) refl) (written-front (text e) out-text (length (text e)) refl)
 
   -- rows 2 and 11 of a changing call, then what follows
   changes : {A : Type 0} (work : List ℕ) (k : Image → Outcome A)
@@ -121,7 +122,11 @@ module _ (s : List ℕ) (L : ℕ) (i : Image) (got : image-in s L ≡ ok i) wher
   insert-performed work h a t = rw (insert-verdict work h a t) (go (first-row (rows s i (entries-of i) (insert-call work h a t))))
     where
       go : (n : Option ℕ)
-          → record { observed = observed-done (insert-result s work (verdict n (insert-placing i h a t)) .answer); image = insert-result s work (verdict n (insert-placing i h a t)) .image; length-after = new-length L (insert-result s work (verdict n (insert-placing i h a t)) .answer) }
+          → record {
+            observed = observed-done (insert-result s work (verdict n (insert-placing i h a t)) .answer);
+            image = insert-result s work (verdict n (insert-placing i h a t)) .image;
+            length-after = new-length L (insert-result s work (verdict n (insert-placing i h a t)) .answer);
+          }
           ≡ left done n (plan-written (insert-placing i h a t) s) (plan-length (insert-placing i h a t))
       go (some n) = refl
       go none = refl
@@ -138,7 +143,11 @@ module _ (s : List ℕ) (L : ℕ) (i : Image) (got : image-in s L ≡ ok i) wher
   optimise-performed work = rw (optimise-verdict work) (go (first-row (rows s i (entries-of i) (optimise-call work))))
     where
       go : (n : Option ℕ)
-          → record { observed = observed-done (optimise-result s L work (verdict n (optimise-placing i)) .answer); image = optimise-result s L work (verdict n (optimise-placing i)) .image; length-after = new-length L (optimise-result s L work (verdict n (optimise-placing i)) .answer) }
+          → record {
+            observed = observed-done (optimise-result s L work (verdict n (optimise-placing i)) .answer);
+            image = optimise-result s L work (verdict n (optimise-placing i)) .image;
+            length-after = new-length L (optimise-result s L work (verdict n (optimise-placing i)) .answer);
+          }
           ≡ left done n (given-up-zeroed L (optimise-placing i) (plan-written (optimise-placing i) s)) (plan-length (optimise-placing i))
       go (some n) = refl
       go none = refl
@@ -151,7 +160,8 @@ module _ (s : List ℕ) (L : ℕ) (i : Image) (got : image-in s L ≡ ok i) wher
   -- rows 2, 11 and 12 of a deletion, then what is looked up
   removes : (work h : List ℕ) (o : Option Entry) → Outcome (Option Plan)
   removes work h o =
-      refuse 2 when too-short work s >> (refuse 11 when not (writable (i .frame .format .layout) s) >> (refuse 12 when not (headword-ok h) >> elim o [ none ↦ ok none | some e ↦ (fitting s (delete-placing i h) >>= λ p. ok (some p)) ]))
+      refuse 2 when too-short work s >> (refuse 11 when not (writable (i .frame .format .layout) s)
+      >> (refuse 12 when not (headword-ok h) >> elim o [ none ↦ ok none | some e ↦ (fitting s (delete-placing i h) >>= λ p. ok (some p)) ]))
 
   -- and its rows by what is looked up
   removal-rows : (work h : List ℕ) (o : Option Entry) → List Row
@@ -166,7 +176,8 @@ module _ (s : List ℕ) (L : ℕ) (i : Image) (got : image-in s L ≡ ok i) wher
   unfolding removes removal-rows _if_ is-there fitting
   removes-verdict work h none = rows-verdict (removal-rows work h none) none
   removes-verdict work h (some e) =
-      ap (λ (o : Outcome (Option Plan)). refuse 2 when too-short work s >> (refuse 11 when not (writable (i .frame .format .layout) s) >> (refuse 12 when not (headword-ok h) >> o))) (go (plan-full s (delete-placing i h)))
+      ap (λ (o : Outcome (Option Plan)). refuse 2 when too-short work s >> (refuse 11 when not (writable (i .frame .format .layout) s) >> (refuse 12 when not (headword-ok h) >> o)))
+      (go (plan-full s (delete-placing i h)))
       ∙ rows-verdict (removal-rows work h (some e)) (some (delete-placing i h))
     where
       go : (t : Bool) → ((refuse 15 when t >> ok (delete-placing i h)) >>= λ p. ok (some p)) ≡ (refuse 15 when t >> ok (some (delete-placing i h)))
@@ -190,12 +201,17 @@ module _ (s : List ℕ) (L : ℕ) (i : Image) (got : image-in s L ≡ ok i) wher
   -- a deletion
   pub delete-performed : (work h : List ℕ)
       → perform s L (delete-call work h)
-      ≡ left (tell-removed (lookup h (entries-of i))) (first-row (rows s i (entries-of i) (delete-call work h))) (slice-without h (lookup h (entries-of i))) (length-without h (lookup h (entries-of i)))
+      ≡ left (tell-removed (lookup h (entries-of i))) (first-row (rows s i (entries-of i) (delete-call work h))) (slice-without h (lookup h (entries-of i)))
+      (length-without h (lookup h (entries-of i)))
   unfolding perform delete delete-result changed observed-removed new-length-or tell-removed
   delete-performed work h = rw (delete-verdict work h) (go (first-row (rows s i (entries-of i) (delete-call work h))) (lookup h (entries-of i)))
     where
       go : (n : Option ℕ) (o : Option Entry)
-          → record { observed = observed-removed (delete-result s work (verdict n (removal h o)) .answer); image = delete-result s work (verdict n (removal h o)) .image; length-after = new-length-or L (delete-result s work (verdict n (removal h o)) .answer) }
+          → record {
+            observed = observed-removed (delete-result s work (verdict n (removal h o)) .answer);
+            image = delete-result s work (verdict n (removal h o)) .image;
+            length-after = new-length-or L (delete-result s work (verdict n (removal h o)) .answer);
+          }
           ≡ left (tell-removed o) n (slice-without h o) (length-without h o)
       go (some n) o = refl
       go none none = refl

@@ -98,7 +98,8 @@ module _ (s : List ℕ) (L : ℕ) (bad : Bool) (found : Image → Option Entry) 
         go (by-output i e got b l t m) = inr (inr m)
 
 -- a look up's answer is refused where the outcome is
-look-up-answered : (s : List ℕ) (L : ℕ) (h out : List ℕ) (n : ℕ) → (look-up s L h out .answer ≡ refused n) ↔ (reads s L (not (headword-ok h)) (λ i. lookup h (entries-of i)) (λ e. ltb (length out) (length (text e))) ≡ refused n)
+look-up-answered : (s : List ℕ) (L : ℕ) (h out : List ℕ) (n : ℕ) → (look-up s L h out .answer ≡ refused n)
+    ↔ (reads s L (not (headword-ok h)) (λ i. lookup h (entries-of i)) (λ e. ltb (length out) (length (text e))) ≡ refused n)
 unfolding look-up look-up-entry look-up-in text-fitted look-up-result reads fitted
 look-up-answered s L h out n = (go (look-up-entry s L h out), λ e. rw e)
   where
@@ -119,8 +120,10 @@ look-up-rows s L h out small =
       row-12 = Iff·trans (a 12) (Iff·trans (reads-twelve s L bad found short small) (λ (i, got, b). (i, got, not-true (headword-ok h) b), λ (i, got, b). (i, got, ap not b)));
       row-14 =
           Iff·trans (a 14)
-          (Iff·trans (reads-fourteen s L bad found short small)
-          (λ (i, e, got, b, l, t). (i, e, got, not-false (headword-ok h) b, l, ltb-true (length out) (length (text e)) t), λ (i, e, got, b, l, t). (i, e, got, ap not b, l, lt-ltb (length out) (length (text e)) t)));
+          (Iff·trans (reads-fourteen s L bad found short small) (
+            λ (i, e, got, b, l, t). (i, e, got, not-false (headword-ok h) b, l, ltb-true (length out) (length (text e)) t),
+            λ (i, e, got, b, l, t). (i, e, got, ap not b, l, lt-ltb (length out) (length (text e)) t),
+          ));
       no-other = λ n p. reads-others s L bad found short small n (a n .0 p);
     }
 
@@ -190,7 +193,9 @@ module _ (s : List ℕ) (L : ℕ) (work : List ℕ) where
     unfolding changeable work-ok
     change-told n p = ⊎-elim (λ e. by-slice (slice-one s L .0 (e ∙ ap refused (slice-refused s L n e))) (slice-refused s L n e)) (λ (u, a, q). behind a q) (next-refused (slice-ok s L) _ n p)
       where
-        behind : slice-ok s L ≡ ok tt → (refuse 2 when ltb (length work) (length s) >> (image-from (take L s) >>= λ i. refuse 11 when not (writable (i .frame .format .layout) s) >> ok i)) ≡ refused n → ChangeCase n
+        behind : slice-ok s L ≡ ok tt →
+            (refuse 2 when ltb (length work) (length s) >> (image-from (take L s) >>= λ i. refuse 11 when not (writable (i .frame .format .layout) s) >> ok i))
+            ≡ refused n → ChangeCase n
         behind a q =
             ⊎-elim (λ (t, m). by-work (slice-stored s L .0 a) (ltb-true (length work) (length s) t) m)
             (λ (f, r).
@@ -231,7 +236,8 @@ module _ (s : List ℕ) (L : ℕ) (work : List ℕ) where
   may-back i m = let (q, e) = in-told s L i (m .image) in rw (q, le-ltb (length work) (length s) (m .working-slice), e, m .version)
 
   -- A call that goes on behind row 11, and is then refused by no number below 12.
-  module _ {A B : Type 0} (small : T (areBytes s)) (o : Outcome A) (k : Image → Outcome B) (same : (n : ℕ) → (o ≡ refused n) ↔ ((changeable s L work >>= k) ≡ refused n)) (high : (i : Image) (n : ℕ) → k i ≡ refused n → 12 ≤ n) where
+  module _ {A B : Type 0} (small : T (areBytes s)) (o : Outcome A) (k : Image → Outcome B)
+      (same : (n : ℕ) → (o ≡ refused n) ↔ ((changeable s L work >>= k) ≡ refused n)) (high : (i : Image) (n : ℕ) → k i ≡ refused n → 12 ≤ n) where
     low : (n : ℕ) → n ≤ 11 → (o ≡ refused n) ↔ ChangeCase n
     low n few = Iff·trans (same n) (λ p. ⊎-elim (λ e. change-told small n e) (λ (i, a, q). absurd (omega (arith, high i n q))) (bind-refused (changeable s L work) k n p), λ c. rw (change-back n c))
 
@@ -311,7 +317,8 @@ module _ (s : List ℕ) (L : ℕ) (work h : List ℕ) (a : ℕ) (t : List ℕ) w
   -- the rows behind row 11
   insert-behind : T (areBytes s) → (n : ℕ) → 12 ≤ n → (insert s L work h a t .answer ≡ refused n) ↔ ((i : Image) × MayChange s L work i × InsertCase s h a t i n)
   insert-behind small n many = (
-    λ p. ⊎-elim (λ e. absurd (low-number s L work n (change-told s L work small n e) many)) (λ (i, q, r). (i, may-told s L work i q, inserts-told i n r)) (bind-refused (changeable s L work) (inserts s h a t) n (insert-answered n .0 p)),
+    λ p. ⊎-elim (λ e. absurd (low-number s L work n (change-told s L work small n e) many)) (λ (i, q, r). (i, may-told s L work i q, inserts-told i n r))
+        (bind-refused (changeable s L work) (inserts s h a t) n (insert-answered n .0 p)),
     λ (i, m, c). insert-answered n .1 (rw (may-back s L work i m) (inserts-back i n c)),
   )
 
@@ -393,7 +400,8 @@ module _ (s : List ℕ) (L : ℕ) (work h : List ℕ) where
   -- the rows behind row 11
   delete-behind : T (areBytes s) → (n : ℕ) → 12 ≤ n → (delete s L work h .answer ≡ refused n) ↔ ((i : Image) × MayChange s L work i × DeleteCase s h i n)
   delete-behind small n many = (
-    λ p. ⊎-elim (λ e. absurd (low-number s L work n (change-told s L work small n e) many)) (λ (i, q, r). (i, may-told s L work i q, deletes-told i n r)) (bind-refused (changeable s L work) (deletes s h) n (delete-answered n .0 p)),
+    λ p. ⊎-elim (λ e. absurd (low-number s L work n (change-told s L work small n e) many)) (λ (i, q, r). (i, may-told s L work i q, deletes-told i n r))
+        (bind-refused (changeable s L work) (deletes s h) n (delete-answered n .0 p)),
     λ (i, m, c). delete-answered n .1 (rw (may-back s L work i m) (deletes-back i n c)),
   )
 
@@ -439,8 +447,11 @@ module _ (s : List ℕ) (L : ℕ) (work : List ℕ) where
   optimise-rows : T (areBytes s) → OptimiseRows s L work
   optimise-rows small =
       record {
-        change-rows = change-rows s L work small (optimise s L work .answer) (λ i. fitting s (optimise-placing i)) optimise-answered (λ i n p. omega (arith, fitting-number (optimise-placing i) n p .0));
-        no-other = λ n p. ⊎-elim (λ e. low (change-told s L work small n e)) (λ (i, q, r). absurd (false≢true (sym (packed-room s L i (may-told s L work i q .image) small) ∙ fitting-number (optimise-placing i) n r .1))) (bind-refused (changeable s L work) _ n (optimise-answered n .0 p));
+        change-rows = change-rows s L work small (optimise s L work .answer) (λ i. fitting s (optimise-placing i)) optimise-answered
+            (λ i n p. omega (arith, fitting-number (optimise-placing i) n p .0));
+        no-other = λ n p. ⊎-elim (λ e. low (change-told s L work small n e))
+            (λ (i, q, r). absurd (false≢true (sym (packed-room s L i (may-told s L work i q .image) small) ∙ fitting-number (optimise-placing i) n r .1)))
+            (bind-refused (changeable s L work) _ n (optimise-answered n .0 p));
       }
     where
       low : {n : ℕ} → ChangeCase s L work n → n ≤ 11
@@ -465,4 +476,13 @@ check-rows s L n = (then-refused (image-in s L) figures n, λ e. rw e)
 
 -- THE LAW: each call gives the first number in the order of testing
 pub first-numbers : FirstNumbers
-first-numbers = record { create-rows = create-rows; check-rows = check-rows; look-up-rows = look-up-rows; walk-rows = walk-rows; insert-rows = insert-rows; delete-rows = delete-rows; optimise-rows = optimise-rows }
+first-numbers =
+    record {
+      create-rows = create-rows;
+      check-rows = check-rows;
+      look-up-rows = look-up-rows;
+      walk-rows = walk-rows;
+      insert-rows = insert-rows;
+      delete-rows = delete-rows;
+      optimise-rows = optimise-rows;
+    }

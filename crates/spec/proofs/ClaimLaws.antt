@@ -10,8 +10,9 @@ use lib.Seq.{length-take-le}
 use lib.Dec.{T, leb, ltb, eqb, leb→le}
 use lib.Pow.{areBytes}
 use borrow.Author.Tests.{le-ltb, not-false}
+use Rattle.spec.specs.Order.{HeadwordOrder}
 use Rattle.spec.specs.Outcome.{Outcome, refused, ok}
-use Rattle.spec.specs.Lists.{all, count}
+use Rattle.spec.specs.Lists.{all, count, All}
 use Rattle.spec.specs.Bytes.{from-little-endian, bytes-at, zeros}
 use Rattle.spec.specs.Header.{Format, Lawful, format4, format-of, get, writable, tested-fields, written-fields, lies-in}
 use Rattle.spec.specs.Entry.{Entry, headword-ok, text-ok, attribute-ok, body-ok, entry-of}
@@ -25,9 +26,9 @@ use Rattle.spec.specs.Calls.{figures, check, plan-length, given-up-zeroe
 use Rattle.spec.specs.ImageForm.{IsImage, Accepted}
 use Rattle.spec.specs.Rows.{SliceRule}
 use Rattle.spec.specs.Claim.{Call, look-up-call, walk-call, insert-call, delete-call, optimise-call, Observed, done, removed, absent, too-short, tell-removed, is-there, Row, _if_, Performed, perform, is-refused, first-row, rows, expected, insert-placing, delete-placing, optimise-placing, slice-after, slice-kept, list-answer, list-after, list-step, is-change, next-count, Zeroed, Matches, AnswersAs, History, call-bytes, SortedListClaim, good-change, InsertRefused, DeleteRefused, OptimiseDone}
-use Rattle.spec.proofs.ListsLaws.{All, and-left, and-right, both-hold, hold-both, holds-true}
+use Rattle.spec.proofs.ListsLaws.{and-left, and-right, both-hold, hold-both, holds-true}
 use Rattle.spec.proofs.HeaderLaws.{get-take, fields-inside, fields-same, kind-same, options-same, lawful4}
-use Rattle.spec.proofs.RunLaws.{EntriesOk}
+use Rattle.spec.specs.Sound.{EntriesOk, frame-of, plan-of, PlanSound}
 use Rattle.spec.proofs.CountLaws.{block-once, blocks-once, marks-once}
 use Rattle.spec.proofs.ReadLaws.{frame-fits, ImageTold, image-told, runs-inside, free-list-below}
 use Rattle.spec.proofs.SortedLaws.{ok-sorted, absent-stays}
@@ -35,7 +36,7 @@ use Rattle.spec.proofs.StoredHeaderLaws.{slice-stored}
 use Rattle.spec.proofs.StoredIndexLaws.{empty-below, index-enough}
 use Rattle.spec.proofs.AcceptedLaws.{accepted}
 use Rattle.spec.proofs.ChangeLaws.{Sound, image-sound, image-ascends, insert-entries, insert-sound, delete-entries, delete-sound, optimise-entries, optimise-sound}
-use Rattle.spec.proofs.PlanLaws.{frame-of, plan-of, PlanSound, written-inside, plan-back, written-length, written-past, written-header, written-count}
+use Rattle.spec.proofs.PlanLaws.{written-inside, plan-back, written-length, written-past, written-header, written-count}
 use Rattle.spec.proofs.WrittenLaws.{zeroed-length, zeroed-image, zeroed-past, zeroed-given-up, zeroed-front}
 use Rattle.spec.proofs.StillBytesLaws.{EntryBytes, written-bytes, zeroed-bytes}
 use Rattle.spec.proofs.ChangeBytesLaws.{insert-bytes, delete-bytes, optimise-bytes}
@@ -88,7 +89,7 @@ module _ (s : List ℕ) (L : ℕ) (i : Image) (got : image-in s L ≡ ok i) (sma
   below-D = free-list-below _ (i .frame .data-blocks) _ _ (i .free-list) (told .free-list)
 
   blocks : run-blocks (i .runs) + length (i .free-list) ≡ i .frame .data-blocks
-  blocks = blocks-once (i .frame .data-blocks) (i .runs) (i .free-list) (told .once) (runs-inside (i .frame .format) (i .frame .data-blocks) _ (told .elements) (i .runs) (told .runs)) below-D
+  blocks = blocks-once (i .frame .data-blocks) (i .runs) (i .free-list) (told .once) (runs-inside (i .frame .format .below) (i .frame .data-blocks) _ (told .elements) (i .runs) (told .runs)) below-D
 
   -- check answers as many headwords as there are entries, and data blocks = blocks in runs + free blocks
   checked : check s L
@@ -114,7 +115,7 @@ module _ (s : List ℕ) (L : ℕ) (i : Image) (got : image-in s L ≡ ok i) (sma
         made-up = described;
         same-order = refl;
         entries = refl;
-        sorted = ok-sorted (i .frame .format) (law .ordered) [] (entries-of i) (image-ascends (i .frame .format) law (take L s) i sound);
+        sorted = ok-sorted (i .frame .format .below) (law .ordered) [] (entries-of i) (image-ascends (i .frame .format) law (take L s) i sound);
         checked = checked;
         each-once = once;
       }
@@ -170,7 +171,9 @@ module _ (s : List ℕ) (L : ℕ) (i : Image) (got : image-in s L ≡ ok i) (sma
   -- a look up
   look-up-next : (h out : List ℕ) → Next (look-up-call h out) (perform s L (look-up-call h out))
   unfolding perform list-answer slice-after list-step list-after is-change
-  look-up-next h out = idle (look-up-call h out) _ (look-up-observed s L i got h out) (slice-same (is-refused (perform s L (look-up-call h out) .observed))) (go (is-refused (perform s L (look-up-call h out) .observed))) (never (is-refused (perform s L (look-up-call h out) .observed)))
+  look-up-next h out =
+      idle (look-up-call h out) _ (look-up-observed s L i got h out) (slice-same (is-refused (perform s L (look-up-call h out) .observed)))
+      (go (is-refused (perform s L (look-up-call h out) .observed))) (never (is-refused (perform s L (look-up-call h out) .observed)))
     where
       go : (t : Bool) → entries-of i ≡ list-step (i .frame .format .below) t (look-up-call h out) (entries-of i)
       go true = refl
@@ -179,7 +182,9 @@ module _ (s : List ℕ) (L : ℕ) (i : Image) (got : image-in s L ≡ ok i) (sma
   -- a walk
   walk-next : (above : Bool) (h out-headword out-text : List ℕ) → Next (walk-call above h out-headword out-text) (perform s L (walk-call above h out-headword out-text))
   unfolding perform list-answer slice-after list-step list-after is-change
-  walk-next above h x y = idle (walk-call above h x y) _ (walk-observed s L i got above h x y) (slice-same (is-refused (perform s L (walk-call above h x y) .observed))) (go (is-refused (perform s L (walk-call above h x y) .observed))) (never (is-refused (perform s L (walk-call above h x y) .observed)))
+  walk-next above h x y =
+      idle (walk-call above h x y) _ (walk-observed s L i got above h x y) (slice-same (is-refused (perform s L (walk-call above h x y) .observed)))
+      (go (is-refused (perform s L (walk-call above h x y) .observed))) (never (is-refused (perform s L (walk-call above h x y) .observed)))
     where
       go : (t : Bool) → entries-of i ≡ list-step (i .frame .format .below) t (walk-call above h x y) (entries-of i)
       go true = refl
@@ -208,7 +213,9 @@ module _ (s : List ℕ) (L : ℕ) (i : Image) (got : image-in s L ≡ ok i) (sma
 
       new-read : image-in t new ≡ ok new-image
       unfolding image-in image-from format-of
-      new-read = rw (new-slice, front) (subst (λ (F : Format). image-by F (take new (plan-written plan s)) ≡ ok new-image) format-is (plan-back (i .frame .format) law n D rs s plan-sound kind options room))
+      new-read =
+          rw (new-slice, front) (subst (λ (F : Format). image-by F (take new (plan-written plan s)) ≡ ok new-image) format-is
+          (plan-back (i .frame .format) law n D rs s plan-sound kind options room))
 
       -- a change that is done
       placed : (c : Call) (x : Observed) → first-row (rows s i (entries-of i) c) ≡ none → list-answer (i .frame .format .below) c (entries-of i) ≡ x → slice-after s L i c ≡ t
@@ -236,7 +243,7 @@ module _ (s : List ℕ) (L : ℕ) (i : Image) (got : image-in s L ≡ ok i) (sma
       go false e = (e, rw (e, first-row) at h)
 
   -- arguments by their rules make an entry that may stand alone
-  entry-good : (h : List ℕ) (a : ℕ) (t : List ℕ) → headword-ok h ≡ true → text-ok t && attribute-ok a ≡ true → EntriesOk (i .frame .format) [] (entry-of h a t ∷ [])
+  entry-good : (h : List ℕ) (a : ℕ) (t : List ℕ) → headword-ok h ≡ true → text-ok t && attribute-ok a ≡ true → EntriesOk (i .frame .format .below) [] (entry-of h a t ∷ [])
   unfolding entry-of body-ok
   entry-good h a t p q = (p, rw (and-right (text-ok t) (attribute-ok a) q, and-left (text-ok t) (attribute-ok a) q), empty-below (i .frame .format .below) (law .ordered) h p, tt)
 
@@ -267,10 +274,11 @@ module _ (s : List ℕ) (L : ℕ) (i : Image) (got : image-in s L ≡ ok i) (sma
     insert-placed e =
         let (p, q, room) = insert-rows-none e in
         let F : Format = i .frame .format in
-        let good : EntriesOk F [] (entry-of h a t ∷ []) = entry-good h a t p q in
+        let good : EntriesOk (F .below) [] (entry-of h a t ∷ []) = entry-good h a t p q in
         let plan : Plan = insert-placing i h a t in
         let k = insert-sound F law (take L s) i sound (entry-of h a t) good in
-        placed (plan .frame .index-blocks) (plan .frame .data-blocks) (plan .runs) k room (plan-written plan s) (written-length F law _ _ _ s k kind options room) refl (insert-call work h a t) done e refl refl
+        placed (plan .frame .index-blocks) (plan .frame .data-blocks) (plan .runs) k room (plan-written plan s)
+        (written-length F law _ _ _ s k kind options room) refl (insert-call work h a t) done e refl refl
         (insert-entries F law (take L s) i sound (entry-of h a t) good)
         (written-past F law _ _ _ s k kind options room (max L (plan-length plan)) (omega arith))
         (written-header F law _ _ _ s k kind options room)
@@ -312,7 +320,8 @@ module _ (s : List ℕ) (L : ℕ) (i : Image) (got : image-in s L ≡ ok i) (sma
         let F : Format = i .frame .format in
         let plan : Plan = delete-placing i h in
         let k = delete-sound F law (take L s) i sound h in
-        placed (plan .frame .index-blocks) (plan .frame .data-blocks) (plan .runs) k room (plan-written plan s) (written-length F law _ _ _ s k kind options room) refl (delete-call work h) removed e (rw l) (rw (l, slice-after))
+        placed (plan .frame .index-blocks) (plan .frame .data-blocks) (plan .runs) k room (plan-written plan s)
+        (written-length F law _ _ _ s k kind options room) refl (delete-call work h) removed e (rw l) (rw (l, slice-after))
         (delete-entries F law (take L s) i sound h)
         (written-past F law _ _ _ s k kind options room (max L (plan-length plan)) (omega arith))
         (written-header F law _ _ _ s k kind options room)
@@ -336,8 +345,8 @@ module _ (s : List ℕ) (L : ℕ) (i : Image) (got : image-in s L ≡ ok i) (sma
   count-inside = fields-inside (written-fields (i .frame .format .layout)) (law .layout-lawful .written-inside) .1 .1 .1 .1 .1 .0
 
   -- the index has the blocks that its elements need
-  index-room : index-need (i .frame .format) (map element-of (i .runs)) ≤ i .frame .index-blocks
-  index-room = index-enough (i .frame .format) _ (described .index) _ (described .index-length) (described .index-stored)
+  index-room : index-need (i .frame .format .number-width) (map element-of (i .runs)) ≤ i .frame .index-blocks
+  index-room = index-enough (i .frame .format .number-width) _ (described .index) _ (described .index-length) (described .index-stored)
 
   -- an optimising needs no more than there is
   packed-shorter : plan-length (optimise-placing i) ≤ L
@@ -350,12 +359,21 @@ module _ (s : List ℕ) (L : ℕ) (i : Image) (got : image-in s L ≡ ok i) (sma
   packed-room =
       let p : frame-length (optimise-placing i .frame) ≤ length s = omega (arith, packed-shorter, slice .in-slice) in
       let q : run-blocks (i .runs) ≤ i .frame .format .most-blocks = omega (arith, blocks, sound .fits .data-few) in
-      let r : index-need (i .frame .format) (map element-of (i .runs)) ≤ 32_767 = omega (arith, index-room, sound .fits .index-few) in
-      rw (le-ltb (length s) (frame-length (optimise-placing i .frame)) p, le-ltb (i .frame .format .most-blocks) (run-blocks (i .runs)) q, le-ltb 32_767 (index-need (i .frame .format) (map element-of (i .runs))) r)
+      let r : index-need (i .frame .format .number-width) (map element-of (i .runs)) ≤ 32_767 = omega (arith, index-room, sound .fits .index-few) in
+      rw (
+        le-ltb (length s) (frame-length (optimise-placing i .frame)) p,
+        le-ltb (i .frame .format .most-blocks) (run-blocks (i .runs)) q,
+        le-ltb 32_767 (index-need (i .frame .format .number-width) (map element-of (i .runs))) r,
+      )
 
   module _ (work : List ℕ) where
     optimise-placed : first-row (rows s i (entries-of i) (optimise-call work)) ≡ none
-        → Next (optimise-call work) (record { observed = ok done; image = given-up-zeroed L (optimise-placing i) (plan-written (optimise-placing i) s); length-after = plan-length (optimise-placing i) })
+        → Next (optimise-call work) (record {
+          observed = ok done;
+          image = given-up-zeroed L (optimise-placing i) (plan-written (optimise-placing i) s);
+          length-after = plan-length
+              (optimise-placing i);
+        })
     unfolding optimise-placing plan-packed plan-length frame-length data-start list-answer slice-after list-after Zeroed given-up-zeroed is-change get
     optimise-placed e =
         let F : Format = i .frame .format in
@@ -364,12 +382,16 @@ module _ (s : List ℕ) (L : ℕ) (i : Image) (got : image-in s L ≡ ok i) (sma
         let t : List ℕ = plan-written plan s in
         let size : length t ≡ length s = written-length F law _ _ _ s k kind options packed-room in
         let inside : L ≤ length t = omega (arith, slice .in-slice) in
-        placed (plan .frame .index-blocks) (plan .frame .data-blocks) (plan .runs) k packed-room (given-up-zeroed L plan t) (zeroed-length (plan-length plan) L t packed-shorter inside ∙ size) (zeroed-image (plan-length plan) L t packed-shorter inside) (optimise-call work) done e refl refl
+        placed (plan .frame .index-blocks) (plan .frame .data-blocks) (plan .runs) k packed-room (given-up-zeroed L plan t)
+        (zeroed-length (plan-length plan) L t packed-shorter inside ∙ size) (zeroed-image (plan-length plan) L t packed-shorter inside) (optimise-call work)
+        done e refl refl
         (optimise-entries F law (take L s) i sound)
-        (zeroed-past (plan-length plan) L t packed-shorter inside (max L (plan-length plan)) (omega arith) ∙ written-past F law _ _ _ s k kind options packed-room (max L (plan-length plan)) (omega arith))
+        (zeroed-past (plan-length plan) L t packed-shorter inside (max L (plan-length plan)) (omega arith)
+        ∙ written-past F law _ _ _ s k kind options packed-room (max L (plan-length plan)) (omega arith))
         (λ j h a. zeroed-front (plan-length plan) L t packed-shorter inside j 1 (omega arith) ∙ written-header F law _ _ _ s k kind options packed-room j h a)
         (packed-shorter, zeroed-given-up (plan-length plan) L t packed-shorter inside)
-        (ap from-little-endian (zeroed-front (plan-length plan) L t packed-shorter inside (F .layout .update-count .offset) (F .layout .update-count .bytes) (omega (arith, count-inside, law .header-inside))) ∙ written-count F law _ _ _ s k kind options packed-room)
+        (ap from-little-endian (zeroed-front (plan-length plan) L t packed-shorter inside (F .layout .update-count .offset) (F .layout .update-count .bytes)
+        (omega (arith, count-inside, law .header-inside))) ∙ written-count F law _ _ _ s k kind options packed-room)
         refl
         (λ c. zeroed-bytes L plan t (written-bytes plan s small (optimise-bytes F law L s i read sound small)))
 
@@ -398,8 +420,13 @@ history (c ∷ cs) s L i got small k =
     let r : Performed = perform s L c in
     let (a, b) = both-hold (call-bytes c) (all call-bytes cs) k in
     let after = history cs (r .image) (r .length-after) (n .image) (n .accepted) (n .bytes a) b in
-    let same : n .image .frame .format .below ≡ i .frame .format .below = ap (λ (F : Format). F .below) (format-is (r .image) (r .length-after) (n .image) (n .accepted) (n .bytes a) ∙ sym (format-is s L i got small)) in
-    (matches s L i got small, n .answers, subst (λ (es : List Entry). History (i .frame .format .below) (r .image) (r .length-after) es cs) (n .entries) (subst (λ (below : List ℕ → List ℕ → Bool). History below (r .image) (r .length-after) (entries-of (n .image)) cs) same after))
+    let same : n .image .frame .format .below ≡ i .frame .format .below
+    = ap (λ (F : Format). F .below) (format-is (r .image) (r .length-after) (n .image) (n .accepted) (n .bytes a) ∙ sym (format-is s L i got small)) in (
+      matches s L i got small,
+      n .answers,
+      subst (λ (es : List Entry). History (i .frame .format .below) (r .image) (r .length-after) es cs)
+          (n .entries) (subst (λ (below : HeadwordOrder). History below (r .image) (r .length-after) (entries-of (n .image)) cs) same after),
+    )
 
 -- THE CLAIM
 pub sorted-list-claim : SortedListClaim
@@ -446,7 +473,8 @@ pub insert-refused : InsertRefused
 unfolding InsertRefused rows
 insert-refused s L i small got work h a t good arguments =
     let (x, y, z) = good-rows s i work h good in
-    refused-by s L i got small (insert-call work h a t) ∙ row-passed 2 _ _ x ∙ row-passed 11 _ _ y ∙ row-passed 12 _ _ z ∙ row-passed 13 _ _ (ap not (holds-true (text-ok t && attribute-ok a) arguments)) ∙ row-last 15 _
+    refused-by s L i got small (insert-call work h a t) ∙ row-passed 2 _ _ x ∙ row-passed 11 _ _ y ∙ row-passed 12 _ _ z
+    ∙ row-passed 13 _ _ (ap not (holds-true (text-ok t && attribute-ok a) arguments)) ∙ row-last 15 _
 
 -- the same of a deletion of a stored headword
 pub delete-refused : DeleteRefused
@@ -460,4 +488,5 @@ pub optimise-done : OptimiseDone
 unfolding OptimiseDone rows too-short
 optimise-done s L i small got work good =
     let (y, z) = both-hold (leb (length s) (length work)) (writable (i .frame .format .layout) s) good in
-    refused-by s L i got small (optimise-call work) ∙ row-passed 2 _ _ (le-ltb (length work) (length s) (leb→le (length s) (length work) y)) ∙ row-passed 11 _ _ (ap not (holds-true (writable (i .frame .format .layout) s) z)) ∙ row-last 15 _ ∙ packed-room s L i got small
+    refused-by s L i got small (optimise-call work) ∙ row-passed 2 _ _ (le-ltb (length work) (length s) (leb→le (length s) (length work) y))
+    ∙ row-passed 11 _ _ (ap not (holds-true (writable (i .frame .format .layout) s) z)) ∙ row-last 15 _ ∙ packed-room s L i got small

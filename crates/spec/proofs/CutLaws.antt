@@ -139,7 +139,8 @@ too-long limit p q X Y next some full part e h =
     let size : length (p ++ next ∷ []) ≡ length p + 1 = length-append p (next ∷ []) in
     let inside : length (p ++ next ∷ []) ≤ length q = omega arith in
     let front : take (length (p ++ next ∷ [])) q ≡ p ++ next ∷ [] =
-    sym (take-append-le (length (p ++ next ∷ [])) q Y inside) ∙ ap (take (length (p ++ next ∷ []))) (sym e ∙ sym (append-assoc p (next ∷ []) X)) ∙ take-at (p ++ next ∷ []) X (length (p ++ next ∷ [])) refl in
+    sym (take-append-le (length (p ++ next ∷ [])) q Y inside) ∙ ap (take (length (p ++ next ∷ []))) (sym e ∙ sym (append-assoc p (next ∷ []) X))
+    ∙ take-at (p ++ next ∷ []) X (length (p ++ next ∷ [])) refl in
     let begins : q ≡ (p ++ next ∷ []) ++ drop (length (p ++ next ∷ [])) q = sym (take-append-drop (length (p ++ next ∷ [])) q) ∙ ap (λ (l : List Entry). l ++ drop (length (p ++ next ∷ [])) q) front in
     ⊎-elim (λ (f : encoded-size q ≤ limit). omega (arith, ap encoded-size begins, size-grows (p ++ next ∷ []) (drop (length (p ++ next ∷ [])) q))) (λ (f : length q ≡ 1). omega arith) (part .fits)
 

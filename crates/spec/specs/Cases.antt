@@ -104,7 +104,8 @@ xq = ascii "x" ++ replicate 247 113
 unfoldable pub xr : List ℕ
 xr = ascii "x" ++ replicate 247 114
 
--- runs m at 1 (2 blocks), p at 0 (1 block) and x at 3 (3 blocks), then x's run is cut in three and the index grows by 2: index order and number order of the moved runs differ; p's run has bytes after its end marks
+-- runs m at 1 (2 blocks), p at 0 (1 block) and x at 3 (3 blocks), then x's run is cut in three and the index grows by 2: index order and
+-- number order of the moved runs differ; p's run has bytes after its end marks
 unfoldable pub two-moved : List Step
 two-moved =
     ins (ascii "p") (t 500)
@@ -134,7 +135,9 @@ long-run =
 
 -- runs of 3 blocks, of which two are deleted: three free extents of 3 blocks once the last run is freed
 unfoldable pub equal-extents : List Step
-equal-extents = ins (ascii "a") (t 600) ∷ ins (ascii "b") (t 600) ∷ ins (ascii "c") (t 600) ∷ ins (ascii "d") (t 600) ∷ ins (ascii "e") (t 600) ∷ del (ascii "a") ∷ del (ascii "c") ∷ ins (ascii "e") (t 600) ∷ []
+equal-extents =
+    ins (ascii "a") (t 600) ∷ ins (ascii "b") (t 600) ∷ ins (ascii "c") (t 600) ∷ ins (ascii "d") (t 600) ∷ ins (ascii "e") (t 600) ∷ del (ascii "a")
+    ∷ del (ascii "c") ∷ ins (ascii "e") (t 600) ∷ []
 
 -- a run of one block
 unfoldable pub one-block : ℕ → Run
@@ -338,7 +341,8 @@ refusal-probes =
 unfoldable pub bytes-probes : List Probe
 bytes-probes =
     -- the whole header: create's fields, and those that two insertions wrote
-    stores 0 (zeros 141 ++ (4 ∷ 248 ∷ 0 ∷ 0xB8 ∷ 0x0B ∷ 0 ∷ 1 ∷ 1 ∷ 0 ∷ 0 ∷ 1 ∷ 0 ∷ 0 ∷ 0xFF ∷ 0xFF ∷ []) ++ zeros 4 ++ (2 ∷ []) ++ zeros 5 ++ (1 ∷ []) ++ zeros 19 ++ (0xFF ∷ 0xFF ∷ 0xFF ∷ 0xFF ∷ 1 ∷ 0 ∷ 0 ∷ 0 ∷ 1 ∷ []) ++ zeros 13 ++ (2 ∷ []) ++ zeros 47)
+    stores 0 (zeros 141 ++ (4 ∷ 248 ∷ 0 ∷ 0xB8 ∷ 0x0B ∷ 0 ∷ 1 ∷ 1 ∷ 0 ∷ 0 ∷ 1 ∷ 0 ∷ 0 ∷ 0xFF ∷ 0xFF ∷ []) ++ zeros 4 ++ (2 ∷ []) ++ zeros 5 ++ (1 ∷ [])
+    ++ zeros 19 ++ (0xFF ∷ 0xFF ∷ 0xFF ∷ 0xFF ∷ 1 ∷ 0 ∷ 0 ∷ 0 ∷ 1 ∷ []) ++ zeros 13 ++ (2 ∷ []) ++ zeros 47)
     ∷ stores 256 (0 ∷ 0 ∷ ascii "ABC" ++ zeros 251)
     ∷ stores 512 (1 ∷ 0 ∷ 8 ∷ 0 ∷ 0 ∷ ascii "ABC" ++ 0 ∷ 128 ∷ ascii "one" ++ 8 ∷ 0 ∷ 2 ∷ ascii "DEF" ++ 0 ∷ 0xE5 ∷ ascii "two" ++ zeros 232)
     ∷ patched 514 (0 ∷ []) (prints (ascii "refused   8\n"))
@@ -369,7 +373,8 @@ unfoldable pub cases : List Case
 cases =
     -- a slice too small, and one of 258 bytes: what stands past 256 is kept
     creates (lent 255) (refusal 1) (lent 255)
-    ∷ creates (lent 258) (256 ∷ []) (zeros 141 ++ (4 ∷ 248 ∷ 0 ∷ 0xB8 ∷ 0x0B ∷ 0 ∷ 1 ∷ 0 ∷ 0 ∷ 0 ∷ 1 ∷ 0 ∷ 0 ∷ 0xFF ∷ 0xFF ∷ []) ++ zeros 10 ++ (1 ∷ []) ++ zeros 19 ++ (0xFF ∷ 0xFF ∷ 0xFF ∷ 0xFF ∷ []) ++ zeros 66 ++ lent 2)
+    ∷ creates (lent 258) (256 ∷ []) (zeros 141 ++ (4 ∷ 248 ∷ 0 ∷ 0xB8 ∷ 0x0B ∷ 0 ∷ 1 ∷ 0 ∷ 0 ∷ 0 ∷ 1 ∷ 0 ∷ 0 ∷ 0xFF ∷ 0xFF ∷ []) ++ zeros 10 ++ (1 ∷ [])
+    ++ zeros 19 ++ (0xFF ∷ 0xFF ∷ 0xFF ∷ 0xFF ∷ []) ++ zeros 66 ++ lent 2)
     ∷ after 256 [] (checks 256 (0 ∷ 0 ∷ 0 ∷ 0 ∷ []) ∷ looks-up (ascii "ABC") (lent 3) [] (lent 3) ∷ prints (ascii "     0     0     0     0\n") ∷ [])
     ∷ after 768 two-entries (check-probes ++ look-up-probes ++ walk-probes ++ refusal-probes ++ bytes-probes)
     ∷ after 768 (two-entries ++ store 208 (0xFF ∷ 0xFF ∷ 0xFF ∷ 0xFF ∷ []) ∷ del (ascii "ABC") ∷ []) deleted-probes
@@ -408,7 +413,8 @@ cases =
     ∷ gives (told-entry (walk-answer (WalkAnswer.Found 1 2 3)) ++ told-entry (walk-answer WalkAnswer.Absent) ++ told-entry (walk-answer (WalkAnswer.Refused 12))) (1 ∷ 2 ∷ 3 ∷ 0 ∷ 12 ∷ [])
     ∷ gives (told-removed (delete-answer (DeleteAnswer.Removed 512)) ++ told-removed (delete-answer DeleteAnswer.Absent) ++ told-removed (delete-answer (DeleteAnswer.Refused 2))) (512 ∷ 0 ∷ 2 ∷ [])
     ∷ gives (code (check-answer (CheckAnswer.Counted 1 2 3 4)) ∷ code (check-answer (CheckAnswer.Refused 9)) ∷ []) (0 ∷ 9 ∷ [])
-    ∷ gives (code-or-absent (look-up-answer (LookUpAnswer.Found 1 2)) ∷ code-or-absent (look-up-answer LookUpAnswer.Absent) ∷ code-or-absent (look-up-answer (LookUpAnswer.Refused 14)) ∷ []) (0 ∷ 100 ∷ 14 ∷ [])
+    ∷ gives (code-or-absent (look-up-answer (LookUpAnswer.Found 1 2)) ∷ code-or-absent (look-up-answer LookUpAnswer.Absent)
+    ∷ code-or-absent (look-up-answer (LookUpAnswer.Refused 14)) ∷ []) (0 ∷ 100 ∷ 14 ∷ [])
     ∷ gives (lent-number (λ c. c .headwords) 77 (check-answer (CheckAnswer.Counted 1 2 3 4)) ∷ lent-number (λ c. c .headwords) 77 (check-answer (CheckAnswer.Refused 9)) ∷ []) (1 ∷ 77 ∷ [])
     ∷ gives
     (lent-number-or-absent (λ f. f .text-length) 77 (look-up-answer (LookUpAnswer.Found 1 2))
@@ -428,7 +434,8 @@ cases =
     -- the lowest of three free extents of one length
     ∷ after 4_352 equal-extents (lays-out (4_352 ∷ []) 1 (3 ∷ 9 ∷ 0 ∷ []) (6 ∷ 7 ∷ 8 ∷ 12 ∷ 13 ∷ 14 ∷ []) ∷ [])
     -- a growth by two with two moved runs: the runs, empty_block2 to nblock2, the last bytes of a moved run, and a link of the free list
-    ∷ after 4_352 two-moved (lays-out (4_352 ∷ []) 3 (1 ∷ 0 ∷ 3 ∷ 8 ∷ 4 ∷ []) (6 ∷ 7 ∷ []) ∷ stores 186 (6 ∷ 0 ∷ 0 ∷ 0 ∷ 5 ∷ 0 ∷ 0 ∷ 0 ∷ 11 ∷ 0 ∷ 0 ∷ 0 ∷ []) ∷ stores 1_278 (9 ∷ 9 ∷ []) ∷ stores 2_560 (0 ∷ 0 ∷ 7 ∷ 0 ∷ 0 ∷ 0 ∷ []) ∷ [])
+    ∷ after 4_352 two-moved (lays-out (4_352 ∷ []) 3 (1 ∷ 0 ∷ 3 ∷ 8 ∷ 4 ∷ []) (6 ∷ 7 ∷ []) ∷ stores 186 (6 ∷ 0 ∷ 0 ∷ 0 ∷ 5 ∷ 0 ∷ 0 ∷ 0 ∷ 11 ∷ 0 ∷ 0 ∷ 0 ∷ [])
+    ∷ stores 1_278 (9 ∷ 9 ∷ []) ∷ stores 2_560 (0 ∷ 0 ∷ 7 ∷ 0 ∷ 0 ∷ 0 ∷ []) ∷ [])
     ∷ []
 
 -- THE THEOREM: every row holds
@@ -437,5 +444,7 @@ CasesHold = T (all case-holds cases)
 
 -- names all definitions of this module: who unfolds it unfolds them
 unfoldable pub open-cases : Unit {0}
-unfolding open-answers probe-holds case-holds strange-header strange-bytes strange-entry two-entries two-free xq xr two-moved long-run equal-extents one-block told-grown check-probes run-probes long-headword-probes long-text-probes look-up-probes walk-probes refusal-probes bytes-probes deleted-probes free-probes cases CasesHold
+unfolding open-answers probe-holds case-holds strange-header strange-bytes strange-entry two-entries two-free xq xr two-moved long-run equal-extents one-block
+    told-grown check-probes run-probes long-headword-probes long-text-probes look-up-probes walk-probes refusal-probes bytes-probes deleted-probes free-probes
+    cases CasesHold
 open-cases = tt

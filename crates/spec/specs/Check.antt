@@ -5,6 +5,7 @@ use mathlib.Core.List.{List, [], _∷_, _++_}
 use mathlib.Core.Option.{Option, none, some}
 use lib.ListN.{length, take, drop}
 use lib.Dec.{ltb, eqb}
+use Rattle.spec.specs.Order.{HeadwordOrder}
 use Rattle.spec.specs.Outcome.{Outcome, refused, ok, _>>=_, _>>_, refuse_when_}
 use Rattle.spec.specs.Bytes.{from-little-endian, bytes-at, bytes-equal}
 use Rattle.spec.specs.Header.{Layout, Format, format-of, get, high-version-of}
@@ -78,9 +79,9 @@ frame-from F s = do
   ok (record { format = F; index-blocks = n; data-blocks = D })
 
 -- a run's first entry and the bytes behind it: "A run has at least one entry"; "the first is its element's"
-unfoldable pub first-entry : Format → List ℕ → List ℕ → Outcome (Entry × List ℕ)
-first-entry F h s = do
-  r ← read-entry F [] s
+unfoldable pub first-entry : HeadwordOrder → List ℕ → List ℕ → Outcome (Entry × List ℕ)
+first-entry below h s = do
+  r ← read-entry below [] s
   elim r [
     | none ↦ refused 8
     | some p ↦ do
@@ -89,25 +90,25 @@ first-entry F h s = do
   ]
 
 -- "the last is below the next element's"
-unfoldable pub ends-below : Format → Option (List ℕ) → List Entry → Bool
-ends-below F next [] = true
-ends-below F none (e ∷ []) = true
-ends-below F (some h) (e ∷ []) = F .below (e .headword) h
-ends-below F next (e ∷ d ∷ es) = ends-below F next (d ∷ es)
+unfoldable pub ends-below : HeadwordOrder → Option (List ℕ) → List Entry → Bool
+ends-below below next [] = true
+ends-below below none (e ∷ []) = true
+ends-below below (some h) (e ∷ []) = below (e .headword) h
+ends-below below next (e ∷ d ∷ es) = ends-below below next (d ∷ es)
 
 -- the run of an index element, in the bytes of D data blocks, before a run with the headword next.
 -- Row 7: "number not below D, size 0, top bit set, or run past the data area". Row 8: "an entry rule or run rule broken".
-unfoldable pub run-from : Format → ℕ → List ℕ → Element → Option (List ℕ) → Outcome Run
-run-from F D area e next = do
+unfoldable pub run-from : HeadwordOrder → ℕ → List ℕ → Element → Option (List ℕ) → Outcome Run
+run-from below D area e next = do
   refuse 7 when not (ltb (e .block) D)
   let size = from-little-endian (bytes-at (256 * e .block) 2 area)
   refuse 7 when eqb size 0
   refuse 7 when ltb 32_767 size
   refuse 7 when ltb D (e .block + size)
   let bytes = bytes-at (256 * e .block) (256 * size) area
-  p ← first-entry F (e .headword) (drop 2 bytes)
-  es ← entries-from F (length bytes) (p .0 .headword) (p .1)
-  refuse 8 when not (ends-below F next (p .0 ∷ es))
+  p ← first-entry below (e .headword) (drop 2 bytes)
+  es ← entries-from below (length bytes) (p .0 .headword) (p .1)
+  refuse 8 when not (ends-below below next (p .0 ∷ es))
   ok (record { headword = e .headword; block = e .block; size = size; bytes = bytes; entries = p .0 ∷ es })
 
 -- the headword of the next element, if there is one
@@ -116,11 +117,11 @@ next-headword [] = none
 next-headword (e ∷ es) = some (e .headword)
 
 -- "rows 7 and 8 are taken run by run in index order: both for one run, then both for the next"
-unfoldable pub runs-from : Format → ℕ → List ℕ → List Element → Outcome (List Run)
-runs-from F D area [] = ok []
-runs-from F D area (e ∷ es) = do
-  r ← run-from F D area e (next-headword es)
-  rs ← runs-from F D area es
+unfoldable pub runs-from : HeadwordOrder → ℕ → List ℕ → List Element → Outcome (List Run)
+runs-from below D area [] = ok []
+runs-from below D area (e ∷ es) = do
+  r ← run-from below D area e (next-headword es)
+  rs ← runs-from below D area es
   ok (r ∷ rs)
 
 -- row 10: "nword or nblock2 wrong"
@@ -132,8 +133,8 @@ unfoldable pub image-by : Format → List ℕ → Outcome Image
 image-by F s = do
   f ← frame-from F s
   let D = f .data-blocks
-  es ← index-from F (f .index-blocks) (get (F .layout .nindex2) s) (index-area f s)
-  rs ← runs-from F D (data-area f s) es
+  es ← index-from (F .number-width) (F .below) (f .index-blocks) (get (F .layout .nindex2) s) (index-area f s)
+  rs ← runs-from (F .below) D (data-area f s) es
   fl ← free-list-from D D (get (F .layout .empty-block2) s) (data-area f s)
   refuse 9 when not (each-once D rs fl)
   refuse 10 when not (counts-ok (F .layout) s rs)
@@ -151,5 +152,6 @@ image-in s L = do
 
 -- names all definitions of this module: who unfolds it unfolds them
 unfoldable pub open-check : Unit {0}
-unfolding data-start index-area data-area frame-length all-entries entries-of slice-ok work-ok kind-ok options-ok frame-from first-entry ends-below run-from next-headword runs-from counts-ok image-by image-from image-in
+unfolding data-start index-area data-area frame-length all-entries entries-of slice-ok work-ok kind-ok options-ok frame-from first-entry ends-below run-from
+    next-headword runs-from counts-ok image-by image-from image-in
 open-check = tt

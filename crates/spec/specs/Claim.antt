@@ -7,6 +7,7 @@ use mathlib.Core.Option.{Option, none, some}
 use lib.ListN.{length, take, drop}
 use lib.Dec.{T, leb, ltb, eqb}
 use lib.Pow.{areBytes}
+use Rattle.spec.specs.Order.{HeadwordOrder}
 use Rattle.spec.specs.Outcome.{Outcome, refused, ok}
 use Rattle.spec.specs.Lists.{all, count}
 use Rattle.spec.specs.Bytes.{bytes-at, zeros, no-zero}
@@ -62,7 +63,7 @@ tell-removed none = absent
 tell-removed (some e) = removed
 
 -- the sorted list's answer to a call that is not refused
-unfoldable pub list-answer : (List ℕ → List ℕ → Bool) → Call → List Entry → Observed
+unfoldable pub list-answer : HeadwordOrder → Call → List Entry → Observed
 list-answer below (look-up-call h out) es = tell-text (lookup h es)
 list-answer below (walk-call above h out-headword out-text) es = tell-entry (successor below above h es)
 list-answer below (insert-call work h a t) es = done
@@ -70,7 +71,7 @@ list-answer below (delete-call work h) es = tell-removed (lookup h es)
 list-answer below (optimise-call work) es = done
 
 -- the sorted list after a call that is not refused
-unfoldable pub list-after : (List ℕ → List ℕ → Bool) → Call → List Entry → List Entry
+unfoldable pub list-after : HeadwordOrder → Call → List Entry → List Entry
 list-after below (look-up-call h out) es = es
 list-after below (walk-call above h out-headword out-text) es = es
 list-after below (insert-call work h a t) es = replace below (entry-of h a t) es
@@ -78,7 +79,7 @@ list-after below (delete-call work h) es = remove h es
 list-after below (optimise-call work) es = es
 
 -- the sorted list's step. "Refused: nothing changes."
-unfoldable pub list-step : (List ℕ → List ℕ → Bool) → Bool → Call → List Entry → List Entry
+unfoldable pub list-step : HeadwordOrder → Bool → Call → List Entry → List Entry
 list-step below true c es = es
 list-step below false c es = list-after below c es
 
@@ -270,7 +271,7 @@ Zeroed (optimise-call work) image new old = (new ≤ old) × (bytes-at new (old 
 -- Between two calls, before the first and after the last: the image is accepted and its entries are the sorted list's;
 -- check answers as many headwords as the sorted list has entries, and data blocks = blocks in runs + free blocks, each block once.
 -- "Blocks in runs are the sum of the runs' numbers of blocks, free blocks the chain's length, data blocks D."
-pub record Matches (below : List ℕ → List ℕ → Bool) (s : List ℕ) (L : ℕ) (es : List Entry) : Type 0 where
+pub record Matches (below : HeadwordOrder) (s : List ℕ) (L : ℕ) (es : List Entry) : Type 0 where
   pub image : Image
   pub accepted : image-in s L ≡ ok image
   -- demand 2: its bytes are made up as the format says
@@ -279,11 +280,17 @@ pub record Matches (below : List ℕ → List ℕ → Bool) (s : List ℕ) (L : 
   pub same-order : image .frame .format .below ≡ below
   pub entries : entries-of image ≡ es
   pub sorted : Sorted below es
-  pub checked : check s L ≡ ok (record { headwords = length es; index-blocks = image .frame .index-blocks; data-blocks = run-blocks (image .runs) + length (image .free-list); free-blocks = length (image .free-list) })
+  pub checked : check s L ≡ ok (record {
+    headwords = length es;
+    index-blocks = image .frame .index-blocks;
+    data-blocks = run-blocks (image .runs) + length (image .free-list);
+    free-blocks = length (image .free-list);
+  })
   pub each-once : (b : ℕ) → b < run-blocks (image .runs) + length (image .free-list) → count (covers b) (image .runs) + count (eqb b) (image .free-list) ≡ 1
 
--- One call on a slice with the accepted image i, beside the sorted list es: refused exactly as the rows say, else answered as the list answers; the slice has the bytes that the papers give, and its size.
-pub record AnswersAs (below : List ℕ → List ℕ → Bool) (s : List ℕ) (L : ℕ) (i : Image) (es : List Entry) (c : Call) (r : Performed) : Type 0 where
+-- One call on a slice with the accepted image i, beside the sorted list es: refused exactly as the rows say, else answered as the list
+-- answers; the slice has the bytes that the papers give, and its size.
+pub record AnswersAs (below : HeadwordOrder) (s : List ℕ) (L : ℕ) (i : Image) (es : List Entry) (c : Call) (r : Performed) : Type 0 where
   pub observed : r .observed ≡ expected (first-row (rows s i es c)) (list-answer below c es)
   pub bytes : r .image ≡ slice-kept (is-refused (r .observed)) s (slice-after s L i c)
   pub size-stays : length (r .image) ≡ length s
@@ -295,7 +302,7 @@ pub record AnswersAs (below : List ℕ → List ℕ → Bool) (s : List ℕ) (L 
   pub header-kept : (n : ℕ) → n < i .frame .format .header-bytes → all (λ f. not (lies-in n f)) (written-fields (i .frame .format .layout)) ≡ true → bytes-at n 1 (r .image) ≡ bytes-at n 1 s
 
 -- all calls of a list, each given the length last returned
-unfoldable pub History : (List ℕ → List ℕ → Bool) → List ℕ → ℕ → List Entry → List Call → Type 0
+unfoldable pub History : HeadwordOrder → List ℕ → ℕ → List Entry → List Call → Type 0
 History below s L es [] = Matches below s L es
 History below s L es (c ∷ cs) =
     (m : Matches below s L es)
@@ -342,5 +349,7 @@ OptimiseDone =
 
 -- names all definitions of this module: who unfolds it unfolds them
 unfoldable pub open-claim : Unit {0}
-unfolding tell-text tell-entry tell-removed list-answer list-after list-step new-length new-length-or observed-text observed-entry observed-done observed-removed perform is-refused _if_ first-row too-short short-for-text short-for-entry is-there insert-placing delete-placing optimise-placing rows expected slice-after slice-kept is-change next-count Zeroed History call-bytes SortedListClaim good-change InsertRefused DeleteRefused OptimiseDone
+unfolding tell-text tell-entry tell-removed list-answer list-after list-step new-length new-length-or observed-text observed-entry observed-done
+    observed-removed perform is-refused _if_ first-row too-short short-for-text short-for-entry is-there insert-placing delete-placing optimise-placing rows
+    expected slice-after slice-kept is-change next-count Zeroed History call-bytes SortedListClaim good-change InsertRefused DeleteRefused OptimiseDone
 open-claim = tt

@@ -5,6 +5,7 @@ use mathlib.Core.List.{List, [], _∷_, _++_, map}
 use mathlib.Core.Option.{Option, none, some}
 use lib.ListN.{length, take}
 use lib.Dec.{leb, ltb, eqb}
+use Rattle.spec.specs.Order.{HeadwordOrder}
 use Rattle.spec.specs.Lists.{any, filter, range-from, Split, split-first, split-last}
 use Rattle.spec.specs.Bytes.{write}
 use Rattle.spec.specs.Header.{Format, Counts, changed-header}
@@ -38,8 +39,8 @@ target-of none = record { before = []; entries = []; after = [] }
 target-of (some p) = record { before = p .before; entries = p .element .entries; after = p .after }
 
 -- "The run concerned is the last whose index headword is not above the headword, else the first."
-unfoldable pub target-run : Format → List ℕ → List Run → Target
-target-run F h rs = target-of (target-split (split-last (λ r. not (F .below h (r .headword))) rs) rs)
+unfoldable pub target-run : HeadwordOrder → List ℕ → List Run → Target
+target-run below h rs = target-of (target-split (split-last (λ r. not (below h (r .headword))) rs) rs)
 
 -- Step 2.
 
@@ -138,7 +139,8 @@ pub record Grown : Type 0 where
   pub after : List Run
   pub data-blocks : ℕ
 
--- "If it must grow by g and D is below g, D becomes g. Runs touching blocks 0 to g − 1 are all freed, then placed with their bytes in order of old number among blocks from g up. Then all numbers and D fall by g."
+-- "If it must grow by g and D is below g, D becomes g. Runs touching blocks 0 to g − 1 are all freed, then placed with their bytes in order
+-- of old number among blocks from g up. Then all numbers and D fall by g."
 unfoldable pub grown : ℕ → ℕ → List Run → List Run → Grown
 grown g D before after =
     let moving : List Run = in-number-order (filter (touches g) (before ++ after)) in
@@ -154,9 +156,9 @@ grown g D before after =
 -- Steps 1 to 6 for a headword and a change of the entries of the run concerned; F is the next image's format.
 unfoldable pub plan-change : Format → Image → List ℕ → (List Entry → List Entry) → Plan
 plan-change F i h change =
-    let c : Target = target-run F h (i .runs) in
+    let c : Target = target-run (F .below) h (i .runs) in
     let parts : List Run = map new-run (cut (F .run-limit) (change (c .entries))) in
-    let need : ℕ = index-need F (map element-of (c .before ++ parts ++ c .after)) in
+    let need : ℕ = index-need (F .number-width) (map element-of (c .before ++ parts ++ c .after)) in
     -- "It never shrinks here."
     let g : ℕ = need - i .frame .index-blocks in
     let m : Grown = grown g (i .frame .data-blocks) (c .before) (c .after) in
@@ -176,7 +178,7 @@ packed b (r ∷ rs) = at-block b r ∷ packed (b + r .size) rs
 unfoldable pub plan-packed : Format → List Run → Plan
 plan-packed F rs =
     record {
-      frame = record { format = F; index-blocks = index-need F (map element-of rs); data-blocks = run-blocks rs };
+      frame = record { format = F; index-blocks = index-need (F .number-width) (map element-of rs); data-blocks = run-blocks rs };
       runs = packed 0 rs;
     }
 
@@ -207,10 +209,11 @@ plan-written p s =
     let f : Frame = p .frame in
     let F : Format = f .format in
     changed-header (F .layout) (plan-counts p) (take (F .header-bytes) s)
-    ++ index-bytes F (f .index-blocks) (map element-of (p .runs))
+    ++ index-bytes (F .number-width) (f .index-blocks) (map element-of (p .runs))
     ++ free-list-written (free-blocks (p .runs) (f .data-blocks)) (runs-written (p .runs) (data-area f s))
 
 -- names all definitions of this module: who unfolds it unfolds them
 unfoldable pub open-place : Unit {0}
-unfolding target-split target-of target-run into-first cut-after cut first-headword new-run at-block with-run place element-of by-number in-number-order touches moves new-number renumbered grown plan-change packed plan-packed plan-full runs-written plan-counts plan-written
+unfolding target-split target-of target-run into-first cut-after cut first-headword new-run at-block with-run place element-of by-number in-number-order touches
+    moves new-number renumbered grown plan-change packed plan-packed plan-full runs-written plan-counts plan-written
 open-place = tt

@@ -14,9 +14,7 @@ use Rattle.spec.specs.Outcome.{Outcome, refused, ok, _>>=_, _>>_, refuse_when_}
 use Rattle.spec.specs.Lists as Lists
 use Rattle.spec.specs.Bytes as BytesSpec
 use Rattle.spec.specs.Bytes.{from-little-endian, bytes-at, no-zero, bytes-equal}
-use Rattle.spec.specs.Order.{below-of}
-use Rattle.spec.specs.Header as Header
-use Rattle.spec.specs.Header.{Format, format4}
+use Rattle.spec.specs.Order.{below-of, HeadwordOrder}
 use Rattle.spec.specs.Entry.{Entry}
 use Rattle.spec.proofs.PartLaws.{length-bytes-at}
 use Rattle.spec.proofs.IndexLaws.{headword-no-zero}
@@ -42,53 +40,53 @@ use Rattle.tally.specs.Tally.{covered, tally, runs-answer, last-below, S
 use Rattle.tally.specs.declared.Runs.{Runs}
 
 -- a run of n blocks by the entries read so far and those that follow
-abbrev finished : Format → Element → Option (List ℕ) → ℕ → List ℕ → List Entry → Outcome (List Entry) → Outcome Run
-finished F e next n bytes before o = do
+abbrev finished : HeadwordOrder → Element → Option (List ℕ) → ℕ → List ℕ → List Entry → Outcome (List Entry) → Outcome Run
+finished below e next n bytes before o = do
   es ← o
-  refuse 8 when not (ends-below F next (before ++ es))
+  refuse 8 when not (ends-below below next (before ++ es))
   ok (record { headword = e .headword; block = e .block; size = n; bytes = bytes; entries = before ++ es })
 
-module _ (F : Format) where
+module _ (below : HeadwordOrder) where
   -- whether entries end below the next headword is told by the last
-  ends-by-last : (next : Option (List ℕ)) (es : List Entry) (e : Entry) → ends-below F next (es ++ e ∷ []) ≡ last-below F (e .headword) next
+  ends-by-last : (next : Option (List ℕ)) (es : List Entry) (e : Entry) → ends-below below next (es ++ e ∷ []) ≡ last-below below (e .headword) next
   unfolding last-below
-  ends-by-last none es e = Read.ends-none F (es ++ e ∷ [])
-  ends-by-last (some k) es e = ends-last F k es e
+  ends-by-last none es e = Read.ends-none below (es ++ e ∷ [])
+  ends-by-last (some k) es e = ends-last below k es e
 
   module _ (D : ℕ) (area : List ℕ) (e : Element) (next : Option (List ℕ)) where
     -- row 7: number not below D
-    unplaced-number : D ≤ e .block → run-from F D area e next ≡ refused 7
+    unplaced-number : D ≤ e .block → run-from below D area e next ≡ refused 7
     unfolding CheckSpec.run-from
     unplaced-number p = rw (le-ltb (e .block) D p)
 
     module _ (p : e .block < D) (n : ℕ) (count : n ≡ from-little-endian (bytes-at (256 * e .block) 2 area)) where
       -- size 0
-      unplaced-none : n ≡ 0 → run-from F D area e next ≡ refused 7
+      unplaced-none : n ≡ 0 → run-from below D area e next ≡ refused 7
       unfolding CheckSpec.run-from
       unplaced-none q = rw (lt-ltb (e .block) D p, ← count, eq-eqb n 0 q)
 
       module _ (some-blocks : n ≡ 0 → ⊥) where
         -- top bit set
-        unplaced-top : 32_767 < n → run-from F D area e next ≡ refused 7
+        unplaced-top : 32_767 < n → run-from below D area e next ≡ refused 7
         unfolding CheckSpec.run-from
         unplaced-top q = rw (lt-ltb (e .block) D p, ← count, ne-eqb n 0 some-blocks, lt-ltb 32_767 n q)
 
         module _ (few : n ≤ 32_767) where
           -- run past the data area
-          unplaced-past : D < e .block + n → run-from F D area e next ≡ refused 7
+          unplaced-past : D < e .block + n → run-from below D area e next ≡ refused 7
           unfolding CheckSpec.run-from
           unplaced-past q = rw (lt-ltb (e .block) D p, ← count, ne-eqb n 0 some-blocks, le-ltb 32_767 n few, lt-ltb D (e .block + n) q)
 
           -- a run that row 7 lets pass
           placed : e .block + n ≤ D → (bytes : List ℕ) → bytes ≡ bytes-at (256 * e .block) (256 * n) area
-              → run-from F D area e next
-              ≡ first-entry F (e .headword) (drop 2 bytes)
-              >>= λ p. finished F e next n bytes (p .0 ∷ []) (entries-from F (length bytes) (p .0 .headword) (p .1))
+              → run-from below D area e next
+              ≡ first-entry below (e .headword) (drop 2 bytes)
+              >>= λ p. finished below e next n bytes (p .0 ∷ []) (entries-from below (length bytes) (p .0 .headword) (p .1))
           unfolding CheckSpec.run-from
           placed q bytes b = rw (lt-ltb (e .block) D p, ← count, ne-eqb n 0 some-blocks, le-ltb 32_767 n few, le-ltb D (e .block + n) q, b)
 
 -- a run of n blocks of which the first entries are read, so many; the last one's headword is in the buffer
-pub record Reading (F : Format) (D : ℕ) (area : List ℕ) (e : Element) (next : Option (List ℕ)) (n : ℕ) (run word : List ℕ) (len pos count : ℕ) : Type 0 where
+pub record Reading (below : HeadwordOrder) (D : ℕ) (area : List ℕ) (e : Element) (next : Option (List ℕ)) (n : ℕ) (run word : List ℕ) (len pos count : ℕ) : Type 0 where
   pub fuel : ℕ
   pub room : length run ≤ pos + fuel
   pub inside : pos ≤ length run
@@ -100,42 +98,44 @@ pub record Reading (F : Format) (D : ℕ) (area : List ℕ) (e : Element) (next 
   pub last : Entry
   pub last-word : last .headword ≡ take len word
   pub counted : count ≡ suc (length earlier)
-  pub rest : run-from F D area e next ≡ finished F e next n run (earlier ++ last ∷ []) (entries-from F (suc fuel) (take len word) (drop pos run))
+  pub rest : run-from below D area e next ≡ finished below e next n run (earlier ++ last ∷ []) (entries-from below (suc fuel) (take len word) (drop pos run))
 
 -- entries that are read by one step and the steps behind it
-entries-next : (F : Format) (m : ℕ) (prev s rest : List ℕ) (d : Entry) → read-entry F prev s ≡ ok (some (d, rest)) → entries-from F (suc m) prev s ≡ entries-from F m (d .headword) rest >>= λ ds. ok (d ∷ ds)
+entries-next : (below : HeadwordOrder) (m : ℕ) (prev s rest : List ℕ) (d : Entry) → read-entry below prev s ≡ ok (some (d, rest))
+    → entries-from below (suc m) prev s ≡ entries-from below m (d .headword) rest >>= λ ds. ok (d ∷ ds)
 unfolding RunSpec.entries-from
-entries-next F m prev s rest d h = rw h
+entries-next below m prev s rest d h = rw h
 
-module _ (F : Format) (D : ℕ) (area : List ℕ) (e : Element) (next : Option (List ℕ)) (n : ℕ) (run word : List ℕ) (len pos count : ℕ) (v : Reading F D area e next n run word len pos count) (st : Step)
-    (word′ : List ℕ) (step : step-entry run word′ st ≡ read-entry F (take len word) (drop pos run)) where
+module _ (below : HeadwordOrder) (D : ℕ) (area : List ℕ) (e : Element) (next : Option (List ℕ)) (n : ℕ) (run word : List ℕ) (len pos count : ℕ)
+    (v : Reading below D area e next n run word len pos count) (st : Step)
+    (word′ : List ℕ) (step : step-entry run word′ st ≡ read-entry below (take len word) (drop pos run)) where
   -- an entry rule is broken
-  pub reading-broken : st ≡ Step.Broken → run-from F D area e next ≡ refused 8
+  pub reading-broken : st ≡ Step.Broken → run-from below D area e next ≡ refused 8
   unfolding step-entry RunSpec.entries-from
   reading-broken h =
-      let k : read-entry F (take len word) (drop pos run) ≡ refused 8 = told-broken F (take len word) (drop pos run) run word′ st step h in
+      let k : read-entry below (take len word) (drop pos run) ≡ refused 8 = told-broken below (take len word) (drop pos run) run word′ st step h in
       v .rest ∙ rw k
 
   -- the entries end
-  ended : st ≡ Step.End → run-from F D area e next ≡ finished F e next n run (v .earlier ++ v .last ∷ []) (ok [])
+  ended : st ≡ Step.End → run-from below D area e next ≡ finished below e next n run (v .earlier ++ v .last ∷ []) (ok [])
   unfolding step-entry RunSpec.entries-from
   ended h =
-      let k : read-entry F (take len word) (drop pos run) ≡ ok none = told-end F (take len word) (drop pos run) run word′ st step h in
+      let k : read-entry below (take len word) (drop pos run) ≡ ok none = told-end below (take len word) (drop pos run) run word′ st step h in
       v .rest ∙ rw k
 
-  module _ (h : st ≡ Step.End) (b : Bool) (ends : b ≡ last-below F (take len word) next) where
-    end-told : ends-below F next (v .earlier ++ v .last ∷ []) ≡ b
-    end-told = ends-by-last F next (v .earlier) (v .last) ∙ ap (λ (k : List ℕ). last-below F k next) (v .last-word) ∙ sym ends
+  module _ (h : st ≡ Step.End) (b : Bool) (ends : b ≡ last-below below (take len word) next) where
+    end-told : ends-below below next (v .earlier ++ v .last ∷ []) ≡ b
+    end-told = ends-by-last below next (v .earlier) (v .last) ∙ ap (λ (k : List ℕ). last-below below k next) (v .last-word) ∙ sym ends
 
     all-read : (v .earlier ++ v .last ∷ []) ++ [] ≡ v .earlier ++ v .last ∷ []
     all-read = append-nil (v .earlier ++ v .last ∷ [])
 
     -- the last headword is not below the next element's
-    pub reading-high : b ≡ false → run-from F D area e next ≡ refused 8
+    pub reading-high : b ≡ false → run-from below D area e next ≡ refused 8
     reading-high f = ended h ∙ rw (all-read, end-told, f)
 
     -- a run that keeps all rules, with as many entries as were counted
-    pub reading-good : b ≡ true → (r : Run) × (run-from F D area e next ≡ ok r) × (length (r .entries) ≡ count) × (r .block ≡ e .block) × (r .size ≡ n)
+    pub reading-good : b ≡ true → (r : Run) × (run-from below D area e next ≡ ok r) × (length (r .entries) ≡ count) × (r .block ≡ e .block) × (r .size ≡ n)
     reading-good t = (
       record { headword = e .headword; block = e .block; size = n; bytes = run; entries = v .earlier ++ v .last ∷ [] },
       ended h ∙ rw (all-read, end-told, t),
@@ -145,13 +145,13 @@ module _ (F : Format) (D : ℕ) (area : List ℕ) (e : Element) (next : Option (
     )
 
   -- one entry more
-  pub reading-turn : StepSpec.Inside pos run st → (k z x : ℕ) → st ≡ Step.Entry k z x → length word′ ≡ length word → Reading F D area e next n run word′ k x (count + 1)
+  pub reading-turn : StepSpec.Inside pos run st → (k z x : ℕ) → st ≡ Step.Entry k z x → length word′ ≡ length word → Reading below D area e next n run word′ k x (count + 1)
   unfolding step-entry
   reading-turn place k z x h l =
       let i = place k z x h in
       let d : Entry = record { headword = take k word′; body = bytes-at (z + 1) (x - (z + 1)) run } in
-      let t : read-entry F (take len word) (drop pos run) ≡ ok (some (d, drop x run)) = told-entry F (take len word) (drop pos run) run word′ st step k z x h in
-      let (good, less) = entry-told F (take len word) (drop pos run) d (drop x run) t in
+      let t : read-entry below (take len word) (drop pos run) ≡ ok (some (d, drop x run)) = told-entry below (take len word) (drop pos run) run word′ st step k z x h in
+      let (good, less) = entry-told below (take len word) (drop pos run) d (drop x run) t in
       let j : suc (v .fuel - 1) ≡ v .fuel = omega (arith, v .room) in
       record {
         fuel = v .fuel - 1;
@@ -165,32 +165,35 @@ module _ (F : Format) (D : ℕ) (area : List ℕ) (e : Element) (next : Option (
         last = d;
         last-word = refl;
         counted = rw length-append (omega (arith, v .counted));
-        rest = rw j (v .rest ∙ rw (entries-next F (v .fuel) (take len word) (drop pos run) (drop x run) d t) (joined (v .earlier ++ v .last ∷ []) d (entries-from F (v .fuel) (take k word′) (drop x run))));
+        rest =
+            rw j (v .rest
+            ∙ rw (entries-next below (v .fuel) (take len word) (drop pos run) (drop x run) d t)
+            (joined (v .earlier ++ v .last ∷ []) d (entries-from below (v .fuel) (take k word′) (drop x run))));
       }
     where
-      joined : (es : List Entry) (d : Entry) (o : Outcome (List Entry)) → finished F e next n run es (o >>= λ ds. ok (d ∷ ds)) ≡ finished F e next n run (es ++ d ∷ []) o
+      joined : (es : List Entry) (d : Entry) (o : Outcome (List Entry)) → finished below e next n run es (o >>= λ ds. ok (d ∷ ds)) ≡ finished below e next n run (es ++ d ∷ []) o
       joined es d (refused c) = refl
       joined es d (ok ds) = rw (append-assoc es (d ∷ []) ds)
 
-module _ (F : Format) (D : ℕ) (area : List ℕ) (b : ℕ) where
+module _ (below : HeadwordOrder) (D : ℕ) (area : List ℕ) (b : ℕ) where
   -- row 7: number not below D
-  pub sized-number : D ≤ b → Sized F D area b 0
-  sized-number p = ((λ e next q z. unplaced-number F D area e next (rw q p)), λ z. absurd (omega arith))
+  pub sized-number : D ≤ b → Sized below D area b 0
+  sized-number p = ((λ e next q z. unplaced-number below D area e next (rw q p)), λ z. absurd (omega arith))
 
   module _ (p : b < D) (n : ℕ) (count : n ≡ from-little-endian (bytes-at (256 * b) 2 area)) where
-    no-blocks : n ≡ 0 → (e : Element) (next : Option (List ℕ)) → e .block ≡ b → run-from F D area e next ≡ refused 7
-    no-blocks z e next q = unplaced-none F D area e next (rw q p) n (rw q count) z
+    no-blocks : n ≡ 0 → (e : Element) (next : Option (List ℕ)) → e .block ≡ b → run-from below D area e next ≡ refused 7
+    no-blocks z e next q = unplaced-none below D area e next (rw q p) n (rw q count) z
 
     -- top bit set
-    pub sized-top : 32_767 < n → Sized F D area b 0
-    sized-top t = ((λ e next q z. unplaced-top F D area e next (rw q p) n (rw q count) (λ y. omega arith) t), λ z. absurd (omega arith))
+    pub sized-top : 32_767 < n → Sized below D area b 0
+    sized-top t = ((λ e next q z. unplaced-top below D area e next (rw q p) n (rw q count) (λ y. omega arith) t), λ z. absurd (omega arith))
 
     -- run past the data area
-    pub sized-past : n ≤ 32_767 → D - b < n → Sized F D area b 0
-    sized-past t u = ((λ e next q z. unplaced-past F D area e next (rw q p) n (rw q count) (λ y. omega arith) t (rw q (omega arith))), λ z. absurd (omega arith))
+    pub sized-past : n ≤ 32_767 → D - b < n → Sized below D area b 0
+    sized-past t u = ((λ e next q z. unplaced-past below D area e next (rw q p) n (rw q count) (λ y. omega arith) t (rw q (omega arith))), λ z. absurd (omega arith))
 
     -- size 0, or a good one
-    pub sized-good : n ≤ 32_767 → n ≤ D - b → Sized F D area b n
+    pub sized-good : n ≤ 32_767 → n ≤ D - b → Sized below D area b n
     sized-good t u = ((λ e next q z. no-blocks z e next q), λ z. (p, count, t, omega arith))
 
 -- no headword has no zero byte
@@ -209,35 +212,35 @@ module _ (at : ℕ) (run : List ℕ) (st : Step) (inside : StepSpec.Inside at ru
     entry-front = sym (length-take-le n word′ entry-room)
 
 -- the first step through a run: where its first entry ends
-module _ (F : Format) (h run word′ : List ℕ) (st : Step) (step : step-entry run word′ st ≡ read-entry F [] (drop 2 run)) where
-  refused-first : first-entry F h (drop 2 run) ≡ refused 8 → Started F h run word′ 0
+module _ (below : HeadwordOrder) (h run word′ : List ℕ) (st : Step) (step : step-entry run word′ st ≡ read-entry below [] (drop 2 run)) where
+  refused-first : first-entry below h (drop 2 run) ≡ refused 8 → Started below h run word′ 0
   refused-first q = (λ z. q, λ z. absurd (omega arith))
 
   -- an entry rule is broken
-  pub started-broken : st ≡ Step.Broken → Started F h run word′ 0
+  pub started-broken : st ≡ Step.Broken → Started below h run word′ 0
   unfolding CheckSpec.first-entry
   started-broken e =
-      let k : read-entry F [] (drop 2 run) ≡ refused 8 = told-broken F [] (drop 2 run) run word′ st step e in
+      let k : read-entry below [] (drop 2 run) ≡ refused 8 = told-broken below [] (drop 2 run) run word′ st step e in
       refused-first (rw k)
 
   -- a run without entries
-  pub started-none : st ≡ Step.End → Started F h run word′ 0
+  pub started-none : st ≡ Step.End → Started below h run word′ 0
   unfolding CheckSpec.first-entry
   started-none e =
-      let k : read-entry F [] (drop 2 run) ≡ ok none = told-end F [] (drop 2 run) run word′ st step e in
+      let k : read-entry below [] (drop 2 run) ≡ ok none = told-end below [] (drop 2 run) run word′ st step e in
       refused-first (rw k)
 
   module _ (k z x : ℕ) (e : st ≡ Step.Entry k z x) (b : Bool) (same : b ≡ bytes-equal (take k word′) h) where
-    found : read-entry F [] (drop 2 run) ≡ ok (some (record { headword = take k word′; body = bytes-at (z + 1) (x - (z + 1)) run }, drop x run))
-    found = told-entry F [] (drop 2 run) run word′ st step k z x e
+    found : read-entry below [] (drop 2 run) ≡ ok (some (record { headword = take k word′; body = bytes-at (z + 1) (x - (z + 1)) run }, drop x run))
+    found = told-entry below [] (drop 2 run) run word′ st step k z x e
 
     -- it is not the element's
-    pub started-other : b ≡ false → Started F h run word′ 0
+    pub started-other : b ≡ false → Started below h run word′ 0
     unfolding CheckSpec.first-entry
     started-other f = refused-first (rw (found, ← same, f))
 
     -- it is the element's
-    pub started-same : b ≡ true → StepSpec.Inside 2 run st → k ≤ length word′ → Started F h run word′ x
+    pub started-same : b ≡ true → StepSpec.Inside 2 run st → k ≤ length word′ → Started below h run word′ x
     unfolding CheckSpec.first-entry
     started-same t inside room =
         let w : take k word′ ≡ h = same-bytes (take k word′) h (sym same ∙ t) in
@@ -260,32 +263,33 @@ slice-same area b n =
 pub slice-long : (area : List ℕ) (b n D : ℕ) → 256 * D ≡ length area → b + n ≤ D → length (run-slice area b n) ≡ 256 * n
 slice-long area b n D l p = rw (slice-same area b n) (length-bytes-at area (256 * b) (256 * n) (omega arith))
 
-module _ (F : Format) (D : ℕ) (area : List ℕ) (e : Element) (next : Option (List ℕ)) (n b : ℕ) (num : e .block ≡ b) (sized : Sized F D area b n) where
+module _ (below : HeadwordOrder) (D : ℕ) (area : List ℕ) (e : Element) (next : Option (List ℕ)) (n b : ℕ) (num : e .block ≡ b) (sized : Sized below D area b n) where
   -- row 7
-  pub walk-unplaced : n ≡ 0 → run-from F D area e next ≡ refused 7
+  pub walk-unplaced : n ≡ 0 → run-from below D area e next ≡ refused 7
   walk-unplaced z = sized .0 e next num z
 
   module _ (some-blocks : n ≡ 0 → ⊥) (long : 256 * D ≡ length area) (h : List ℕ) (head : e .headword ≡ h) where
     told : (b < D) × (n ≡ from-little-endian (bytes-at (256 * b) 2 area)) × (n ≤ 32_767) × (b + n ≤ D)
     told = sized .1 (omega arith)
 
-    opened : run-from F D area e next ≡ first-entry F h (drop 2 (run-slice area b n)) >>= λ p. finished F e next n (run-slice area b n) (p .0 ∷ []) (entries-from F (length (run-slice area b n)) (p .0 .headword) (p .1))
+    opened : run-from below D area e next ≡ first-entry below h (drop 2 (run-slice area b n))
+        >>= λ p. finished below e next n (run-slice area b n) (p .0 ∷ []) (entries-from below (length (run-slice area b n)) (p .0 .headword) (p .1))
     opened =
         let (p, c, f, q) = told in
-        rw (← head) (placed F D area e next (rw num p) n (rw num c) some-blocks f (rw num q) (run-slice area b n) (rw num (slice-same area b n)))
+        rw (← head) (placed below D area e next (rw num p) n (rw num c) some-blocks f (rw num q) (run-slice area b n) (rw num (slice-same area b n)))
 
-    module _ (x : ℕ) (word′ : List ℕ) (start : Started F h (run-slice area b n) word′ x) where
+    module _ (x : ℕ) (word′ : List ℕ) (start : Started below h (run-slice area b n) word′ x) where
       -- the first entry is broken or not the element's
-      pub walk-no-first : x ≡ 0 → run-from F D area e next ≡ refused 8
+      pub walk-no-first : x ≡ 0 → run-from below D area e next ≡ refused 8
       walk-no-first q = opened ∙ rw (start .0 q)
 
       -- the first entry is read
-      pub reading-start : (x ≡ 0 → ⊥) → x ≤ length (run-slice area b n) → (k : ℕ) → k ≡ length h → length word′ ≡ 256 → Reading F D area e next n (run-slice area b n) word′ k x 1
+      pub reading-start : (x ≡ 0 → ⊥) → x ≤ length (run-slice area b n) → (k : ℕ) → k ≡ length h → length word′ ≡ 256 → Reading below D area e next n (run-slice area b n) word′ k x 1
       reading-start there w k s l =
           let (two, whole, body, g) = start .1 (omega arith) in
           let d : Entry = record { headword = h; body = body } in
-          let (r, same) = first-told F h (drop 2 (run-slice area b n)) (d, drop x (run-slice area b n)) g in
-          let (good, less) = entry-told F [] (drop 2 (run-slice area b n)) d (drop x (run-slice area b n)) r in
+          let (r, same) = first-told below h (drop 2 (run-slice area b n)) (d, drop x (run-slice area b n)) g in
+          let (good, less) = entry-told below [] (drop 2 (run-slice area b n)) d (drop x (run-slice area b n)) r in
           let j : suc (length (run-slice area b n) - 1) ≡ length (run-slice area b n) = omega arith in
           let y : take k word′ ≡ h = rw s whole in
           record {
@@ -310,7 +314,8 @@ inside-few index at zero p = omega (arith, p)
 inside-few index at (suc n) (p, q, r) = omega (arith, inside-few index (element-end index at + 1) n r)
 
 -- a run in front of others, counted
-tally-cons : (w b : ℕ) (ms : List Bool) (r : Run) (o : Outcome (List Run)) → tally w b ms (o >>= λ rs. ok (r ∷ rs)) ≡ tally (w + length (r .entries)) (b + r .size) (with-range (r .block) (r .size) true ms) o
+tally-cons : (w b : ℕ) (ms : List Bool) (r : Run) (o : Outcome (List Run))
+    → tally w b ms (o >>= λ rs. ok (r ∷ rs)) ≡ tally (w + length (r .entries)) (b + r .size) (with-range (r .block) (r .size) true ms) o
 unfolding tally covered CheckSpec.all-entries BlocksSpec.run-blocks
 tally-cons w b ms r (refused n) = refl
 tally-cons w b ms r (ok rs) =
@@ -319,25 +324,25 @@ tally-cons w b ms r (ok rs) =
     rw (p, q)
 
 -- so many entries and blocks and these marks so far, and the answer is that of the elements from `at` on
-pub record Walking (F : Format) (index area : List ℕ) (n D : ℕ) (ms₀ : List Bool) (words blocks at left : ℕ) (ms : List Bool) : Type 0 where
+pub record Walking (below : HeadwordOrder) (index area : List ℕ) (n D : ℕ) (ms₀ : List Bool) (words blocks at left : ℕ) (ms : List Bool) : Type 0 where
   pub standing : Inside index at left
   pub fewer : left ≤ n
   pub few : n ≤ length index
   pub few-words : words ≤ (n - left) * 8_388_608
   pub few-blocks : blocks ≤ (n - left) * 32_768
-  pub rest : tally 0 0 ms₀ (runs-from F D area (elements-at index 0 n)) ≡ tally words blocks ms (runs-from F D area (elements-at index at left))
+  pub rest : tally 0 0 ms₀ (runs-from below D area (elements-at index 0 n)) ≡ tally words blocks ms (runs-from below D area (elements-at index at left))
 
 -- at first nothing is counted
-pub walk-start : (F : Format) (index area : List ℕ) (n D : ℕ) (ms : List Bool) → Inside index 0 n → Walking F index area n D ms 0 0 0 n ms
-walk-start F index area n D ms p = record { standing = p; fewer = omega arith; few = omega (arith, inside-few index 0 n p); few-words = omega arith; few-blocks = omega arith; rest = refl }
+pub walk-start : (below : HeadwordOrder) (index area : List ℕ) (n D : ℕ) (ms : List Bool) → Inside index 0 n → Walking below index area n D ms 0 0 0 n ms
+walk-start below index area n D ms p = record { standing = p; fewer = omega arith; few = omega (arith, inside-few index 0 n p); few-words = omega arith; few-blocks = omega arith; rest = refl }
 
 -- the headword behind an element, if there is one
 abbrev pub following : List ℕ → ℕ → ℕ → Option (List ℕ)
 following index at left = next-headword (elements-at index (element-end index at + 1) (left - 1))
 
-module _ (F : Format) (index area : List ℕ) (n D : ℕ) (ms₀ : List Bool) (words blocks at left : ℕ) (ms : List Bool) (v : Walking F index area n D ms₀ words blocks at left ms) where
+module _ (below : HeadwordOrder) (index area : List ℕ) (n D : ℕ) (ms₀ : List Bool) (words blocks at left : ℕ) (ms : List Bool) (v : Walking below index area n D ms₀ words blocks at left ms) where
   -- all runs are read
-  pub walk-done : left ≡ 0 → runs-answer (Runs.Read words blocks) ms ≡ tally 0 0 ms₀ (runs-from F D area (elements-at index 0 n))
+  pub walk-done : left ≡ 0 → runs-answer (Runs.Read words blocks) ms ≡ tally 0 0 ms₀ (runs-from below D area (elements-at index 0 n))
   unfolding runs-answer tally covered Elements.elements-at CheckSpec.runs-from CheckSpec.all-entries BlocksSpec.run-blocks
   walk-done z = sym (v .rest ∙ rw (z, add-zero, add-zero))
 
@@ -349,15 +354,15 @@ module _ (F : Format) (index area : List ℕ) (n D : ℕ) (ms₀ : List Bool) (w
         ap (elements-at index at) j
 
     -- "The walk stops at the first fault it meets."
-    pub walk-refused : (k : ℕ) (ms′ : List Bool) → run-from F D area (element-at index at) (following index at left) ≡ refused k
-        → runs-answer (Runs.Refused k) ms′ ≡ tally 0 0 ms₀ (runs-from F D area (elements-at index 0 n))
+    pub walk-refused : (k : ℕ) (ms′ : List Bool) → run-from below D area (element-at index at) (following index at left) ≡ refused k
+        → runs-answer (Runs.Refused k) ms′ ≡ tally 0 0 ms₀ (runs-from below D area (elements-at index 0 n))
     unfolding runs-answer tally CheckSpec.runs-from
     walk-refused k ms′ h = sym (v .rest ∙ rw (here, h))
 
     -- one run more
-    pub walk-next : (r : Run) (count b size : ℕ) (ms′ : List Bool) → run-from F D area (element-at index at) (following index at left) ≡ ok r
+    pub walk-next : (r : Run) (count b size : ℕ) (ms′ : List Bool) → run-from below D area (element-at index at) (following index at left) ≡ ok r
         → length (r .entries) ≡ count → r .block ≡ b → r .size ≡ size → count ≤ 8_388_608 → size ≤ 32_767 → ms′ ≡ with-range b size true ms
-        → Walking F index area n D ms₀ (words + count) (blocks + size) (element-end index at + 1) (left - 1) ms′
+        → Walking below index area n D ms₀ (words + count) (blocks + size) (element-end index at + 1) (left - 1) ms′
     unfolding CheckSpec.runs-from
     walk-next r count b size ms′ h c num z few′ small m =
         record {
@@ -370,34 +375,29 @@ module _ (F : Format) (index area : List ℕ) (n D : ℕ) (ms₀ : List Bool) (w
         }
       where
         others : Outcome (List Run)
-        others = runs-from F D area (elements-at index (element-end index at + 1) (left - 1))
+        others = runs-from below D area (elements-at index (element-end index at + 1) (left - 1))
 
-        opened : runs-from F D area (element-at index at ∷ elements-at index (element-end index at + 1) (left - 1)) ≡ others >>= λ rs. ok (r ∷ rs)
+        opened : runs-from below D area (element-at index at ∷ elements-at index (element-end index at + 1) (left - 1)) ≡ others >>= λ rs. ok (r ∷ rs)
         opened = rw h
 
 -- no element is left
 pub carried-none : (index : List ℕ) (at left : ℕ) → left ≡ 0 → Carried index at left at
 carried-none index at left z = record { told = λ p. absurd (omega arith) }
 
--- it is inside the index
-pub none-inside : (index : List ℕ) (at left : ℕ) → Inside index at left → left ≡ 0 → at ≤ length index
-none-inside index at zero i z = i
-none-inside index at (suc n) i z = absurd (omega arith)
-
 -- one is
 pub carried-some : (index : List ℕ) (at left end : ℕ) → end ≡ element-end index at → Carried index at left end
 carried-some index at left end e = record { told = λ p. e }
 
 -- there is no next element
-pub ends-none : (F : Format) (index last : List ℕ) (at left : ℕ) → left ≡ 0 → true ≡ last-below F last (next-headword (elements-at index at left))
+pub ends-none : (below : HeadwordOrder) (index last : List ℕ) (at left : ℕ) → left ≡ 0 → true ≡ last-below below last (next-headword (elements-at index at left))
 unfolding last-below CheckSpec.next-headword Elements.elements-at
-ends-none F index last at left z = rw z
+ends-none below index last at left z = rw z
 
 module _ (index : List ℕ) (at left : ℕ) (some-left : left ≡ 0 → ⊥) where
   -- the next element's headword decides
   pub ends-next : (last : List ℕ) (end : ℕ) (b : Bool) → Carried index at left end → b ≡ below-of 0 last (take (end - (at + 2)) (drop (at + 2) index))
-      → b ≡ last-below format4 last (next-headword (elements-at index at left))
-  unfolding last-below CheckSpec.next-headword Elements.element-at Elements.element-headword BytesSpec.bytes-at Header.format4
+      → b ≡ last-below (below-of 0) last (next-headword (elements-at index at left))
+  unfolding last-below CheckSpec.next-headword Elements.element-at Elements.element-headword BytesSpec.bytes-at
   ends-next last end b k h = let e : end ≡ element-end index at = k .told (omega arith) in rw (elements-next index at left (omega arith), ← e) h
 
 module _ (index : List ℕ) (at left : ℕ) (standing : Inside index at left) (some-left : left ≡ 0 → ⊥) where
@@ -424,22 +424,25 @@ pub record Underway (index area : List ℕ) (D words blocks at left b size : ℕ
   pub end-low : end < 8_388_608
   pub small : size ≤ 32_767
   pub long : length run ≡ 256 * size
-  pub reading : Reading format4 D area (element-at index at) (following index at left) size run word len pos count
+  pub reading : Reading (below-of 0) D area (element-at index at) (following index at left) size run word len pos count
 
 -- the walk at an element, in the terms of the code
-module _ (index area : List ℕ) (n D : ℕ) (ms₀ : List Bool) (words blocks at left : ℕ) (ms : List Bool) (v : Walking format4 index area n D ms₀ words blocks at left ms) (some-left : left ≡ 0 → ⊥) where
+module _ (index area : List ℕ) (n D : ℕ) (ms₀ : List Bool) (words blocks at left : ℕ) (ms : List Bool)
+    (v : Walking (below-of 0) index area n D ms₀ words blocks at left ms) (some-left : left ≡ 0 → ⊥) where
   -- its number stands inside the index
   pub walk-number : at + 2 ≤ length index
   walk-number = number-inside index at left (v .standing) some-left
 
-  module _ (b : ℕ) (num : b ≡ from-little-endian (bytes-at at 2 index)) (size : ℕ) (sized : Sized format4 D area b size) where
+  module _ (b : ℕ) (num : b ≡ from-little-endian (bytes-at at 2 index)) (size : ℕ) (sized : Sized (below-of 0) D area b size) where
     number : element-at index at .block ≡ b
     unfolding Elements.element-at
     number = sym num
 
     -- row 7
-    pub walk-seven : (ms′ : List Bool) → size ≡ 0 → runs-answer (Runs.Refused 7) ms′ ≡ tally 0 0 ms₀ (runs-from format4 D area (elements-at index 0 n))
-    walk-seven ms′ z = walk-refused format4 index area n D ms₀ words blocks at left ms v some-left 7 ms′ (walk-unplaced format4 D area (element-at index at) (following index at left) size b number sized z)
+    pub walk-seven : (ms′ : List Bool) → size ≡ 0 → runs-answer (Runs.Refused 7) ms′ ≡ tally 0 0 ms₀ (runs-from (below-of 0) D area (elements-at index 0 n))
+    walk-seven ms′ z =
+        walk-refused (below-of 0) index area n D ms₀ words blocks at left ms v some-left 7 ms′
+        (walk-unplaced (below-of 0) D area (element-at index at) (following index at left) size b number sized z)
 
     module _ (some-blocks : size ≡ 0 → ⊥) (long : 256 * D ≡ length area) (end : ℕ) (carried : Carried index at left end) where
       e : end ≡ element-end index at
@@ -453,11 +456,12 @@ module _ (index area : List ℕ) (n D : ℕ) (ms₀ : List Bool) (words blocks a
       unfolding Elements.element-at
       headword-long = rw e (sym (element-headword-length index at walk-number)) ∙ ap length headword
 
-      module _ (x : ℕ) (word′ : List ℕ) (start : Started format4 (take (end - (at + 2)) (drop (at + 2) index)) (run-slice area b size) word′ x) where
+      module _ (x : ℕ) (word′ : List ℕ) (start : Started (below-of 0) (take (end - (at + 2)) (drop (at + 2) index)) (run-slice area b size) word′ x) where
         -- row 8: the first entry
-        pub walk-eight : (ms′ : List Bool) → x ≡ 0 → runs-answer (Runs.Refused 8) ms′ ≡ tally 0 0 ms₀ (runs-from format4 D area (elements-at index 0 n))
-        walk-eight ms′ z = walk-refused format4 index area n D ms₀ words blocks at left ms v some-left 8 ms′
-            (walk-no-first format4 D area (element-at index at) (following index at left) size b number sized some-blocks long (take (end - (at + 2)) (drop (at + 2) index)) headword x word′ start z)
+        pub walk-eight : (ms′ : List Bool) → x ≡ 0 → runs-answer (Runs.Refused 8) ms′ ≡ tally 0 0 ms₀ (runs-from (below-of 0) D area (elements-at index 0 n))
+        walk-eight ms′ z = walk-refused (below-of 0) index area n D ms₀ words blocks at left ms v some-left 8 ms′
+            (walk-no-first (below-of 0) D area (element-at index at) (following index at left) size b number sized some-blocks long
+            (take (end - (at + 2)) (drop (at + 2) index)) headword x word′ start z)
 
         -- the first entry is read
         pub walk-reading : (x ≡ 0 → ⊥) → x ≤ length (run-slice area b size) → length word′ ≡ 256 → length index ≤ 8_388_608
@@ -476,18 +480,21 @@ module _ (index area : List ℕ) (n D : ℕ) (ms₀ : List Bool) (words blocks a
               small = told .2;
               long = slice-long area b size D long (told .3);
               reading =
-                  reading-start format4 D area (element-at index at) (following index at left) size b number sized some-blocks long (take (end - (at + 2)) (drop (at + 2) index)) headword x word′ start there w (end - (at + 2))
+                  reading-start (below-of 0) D area (element-at index at) (following index at left) size b number sized some-blocks long
+                  (take (end - (at + 2)) (drop (at + 2) index)) headword x word′ start there w (end - (at + 2))
                   headword-long l;
             }
 
 -- a step inside the run
 module _ (index area : List ℕ) (D words blocks at left b size : ℕ) (run : List ℕ) (end : ℕ) (word : List ℕ) (len pos count : ℕ)
-    (u : Underway index area D words blocks at left b size run end word len pos count) (st : Step) (word′ : List ℕ) (step : step-entry run word′ st ≡ read-entry format4 (take len word) (drop pos run)) where
+    (u : Underway index area D words blocks at left b size run end word len pos count) (st : Step) (word′ : List ℕ)
+    (step : step-entry run word′ st ≡ read-entry (below-of 0) (take len word) (drop pos run)) where
   -- row 8: an entry rule
-  pub walk-broken : (n : ℕ) (ms₀ ms : List Bool) → Walking format4 index area n D ms₀ words blocks at left ms → (ms′ : List Bool) → st ≡ Step.Broken → runs-answer (Runs.Refused 8) ms′ ≡ tally 0 0 ms₀ (runs-from format4 D area (elements-at index 0 n))
+  pub walk-broken : (n : ℕ) (ms₀ ms : List Bool) → Walking (below-of 0) index area n D ms₀ words blocks at left ms → (ms′ : List Bool) → st ≡ Step.Broken
+      → runs-answer (Runs.Refused 8) ms′ ≡ tally 0 0 ms₀ (runs-from (below-of 0) D area (elements-at index 0 n))
   walk-broken n ms₀ ms v ms′ h =
-      walk-refused format4 index area n D ms₀ words blocks at left ms v (u .some-left) 8 ms′
-      (reading-broken format4 D area (element-at index at) (following index at left) size run word len pos count (u .reading) st word′ step h)
+      walk-refused (below-of 0) index area n D ms₀ words blocks at left ms v (u .some-left) 8 ms′
+      (reading-broken (below-of 0) D area (element-at index at) (following index at left) size run word len pos count (u .reading) st word′ step h)
 
   -- one entry more
   pub walk-turn : StepSpec.Inside pos run st → (k z x : ℕ) → st ≡ Step.Entry k z x → length word′ ≡ length word → Underway index area D words blocks at left b size run end word′ k x (count + 1)
@@ -502,27 +509,30 @@ module _ (index area : List ℕ) (D words blocks at left b size : ℕ) (run : Li
         end-low = u .end-low;
         small = u .small;
         long = u .long;
-        reading = reading-turn format4 D area (element-at index at) (following index at left) size run word len pos count (u .reading) st word′ step place k z x h l;
+        reading = reading-turn (below-of 0) D area (element-at index at) (following index at left) size run word len pos count (u .reading) st word′ step place k z x h l;
       }
 
-  module _ (h : st ≡ Step.End) (kept : Kept word word′ st) (t : Bool) (ends : t ≡ last-below format4 (take len word′) (next-headword (elements-at index (end + 1) (left - 1)))) where
-    ends-here : t ≡ last-below format4 (take len word) (following index at left)
+  module _ (h : st ≡ Step.End) (kept : Kept word word′ st) (t : Bool) (ends : t ≡ last-below (below-of 0) (take len word′) (next-headword (elements-at index (end + 1) (left - 1)))) where
+    ends-here : t ≡ last-below (below-of 0) (take len word) (following index at left)
     ends-here =
         let k : word′ ≡ word = kept h in
         rw (← k, ← u .ended) ends
 
     -- row 8: the last headword
-    pub walk-high : (n : ℕ) (ms₀ ms : List Bool) → Walking format4 index area n D ms₀ words blocks at left ms → (ms′ : List Bool) → not t ≡ true → runs-answer (Runs.Refused 8) ms′ ≡ tally 0 0 ms₀ (runs-from format4 D area (elements-at index 0 n))
+    pub walk-high : (n : ℕ) (ms₀ ms : List Bool) → Walking (below-of 0) index area n D ms₀ words blocks at left ms → (ms′ : List Bool) → not t ≡ true
+        → runs-answer (Runs.Refused 8) ms′ ≡ tally 0 0 ms₀ (runs-from (below-of 0) D area (elements-at index 0 n))
     walk-high n ms₀ ms v ms′ f =
-        walk-refused format4 index area n D ms₀ words blocks at left ms v (u .some-left) 8 ms′
-        (reading-high format4 D area (element-at index at) (following index at left) size run word len pos count (u .reading) st word′ step h t ends-here (not-true t f))
+        walk-refused (below-of 0) index area n D ms₀ words blocks at left ms v (u .some-left) 8 ms′
+        (reading-high (below-of 0) D area (element-at index at) (following index at left) size run word len pos count (u .reading) st word′ step h t ends-here (not-true t f))
 
     -- one run more
-    pub walk-on : (n : ℕ) (ms₀ ms : List Bool) → Walking format4 index area n D ms₀ words blocks at left ms → not t ≡ false → (ms′ : List Bool) → ms′ ≡ with-range b size true ms → Walking format4 index area n D ms₀ (words + count) (blocks + size) (end + 1) (left - 1) ms′
+    pub walk-on : (n : ℕ) (ms₀ ms : List Bool) → Walking (below-of 0) index area n D ms₀ words blocks at left ms → not t ≡ false → (ms′ : List Bool)
+        → ms′ ≡ with-range b size true ms → Walking (below-of 0) index area n D ms₀ (words + count) (blocks + size) (end + 1) (left - 1) ms′
     unfolding Elements.element-at
     walk-on n ms₀ ms v f ms′ m =
-        let (r, g, c, x, y) = reading-good format4 D area (element-at index at) (following index at left) size run word len pos count (u .reading) st word′ step h t ends-here (not-false t f) in
-        rw (u .ended) (walk-next format4 index area n D ms₀ words blocks at left ms v (u .some-left) r count b size ms′ g c (x ∙ sym (u .number)) y (omega (arith, u .small, u .long, u .reading .few, u .reading .inside)) (u .small) m)
+        let (r, g, c, x, y) = reading-good (below-of 0) D area (element-at index at) (following index at left) size run word len pos count (u .reading) st word′ step h t ends-here (not-false t f) in
+        rw (u .ended) (walk-next (below-of 0) index area n D ms₀ words blocks at left ms v (u .some-left) r count b size ms′ g c (x ∙ sym (u .number)) y
+        (omega (arith, u .small, u .long, u .reading .few, u .reading .inside)) (u .small) m)
 
 -- where the walk stands inside a run
 module _ (index area : List ℕ) (D words blocks at left b size : ℕ) (run : List ℕ) (end : ℕ) (word : List ℕ) (len pos count : ℕ)

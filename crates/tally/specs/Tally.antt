@@ -5,9 +5,9 @@ use mathlib.Core.Bool.{Bool, true}
 use mathlib.Core.List.{List, [], _∷_}
 use mathlib.Core.Option.{Option, none, some}
 use lib.ListN.{length, take, drop}
+use Rattle.spec.specs.Order.{HeadwordOrder}
 use Rattle.spec.specs.Outcome.{Outcome, refused, ok}
 use Rattle.spec.specs.Bytes.{from-little-endian, bytes-at}
-use Rattle.spec.specs.Header.{Format}
 use Rattle.spec.specs.Index.{Element}
 use Rattle.spec.specs.Run.{Run}
 use Rattle.spec.specs.Blocks.{run-blocks}
@@ -38,21 +38,21 @@ runs-answer (Runs.Read w b) ms = ok (record { words = w; blocks = b; marked = ms
 runs-answer (Runs.Refused n) ms = refused n
 
 -- "the last is below the next element's", by the last headword
-unfoldable pub last-below : Format → List ℕ → Option (List ℕ) → Bool
-last-below F h none = true
-last-below F h (some k) = F .below h k
+unfoldable pub last-below : HeadwordOrder → List ℕ → Option (List ℕ) → Bool
+last-below below h none = true
+last-below below h (some k) = below h k
 
 -- what is known of the size that row 7 allows the run at block b: 0 where it is refused
-abbrev pub Sized : Format → ℕ → List ℕ → ℕ → ℕ → Type 0
-Sized F D area b n =
-    ((e : Element) (next : Option (List ℕ)) → e .block ≡ b → n ≡ 0 → run-from F D area e next ≡ refused 7)
+abbrev pub Sized : HeadwordOrder → ℕ → List ℕ → ℕ → ℕ → Type 0
+Sized below D area b n =
+    ((e : Element) (next : Option (List ℕ)) → e .block ≡ b → n ≡ 0 → run-from below D area e next ≡ refused 7)
     × (0 < n → (b < D) × (n ≡ from-little-endian (bytes-at (256 * b) 2 area)) × (n ≤ 32_767) × (b + n ≤ D))
 
 -- what is known of the place where the first entry of a run ends, which is to have the headword h: 0 where it is refused
-abbrev pub Started : Format → List ℕ → List ℕ → List ℕ → ℕ → Type 0
-Started F h run word x =
-    (x ≡ 0 → first-entry F h (drop 2 run) ≡ refused 8)
-    × (0 < x → (2 < x) × (take (length h) word ≡ h) × (body : List ℕ) × (first-entry F h (drop 2 run) ≡ ok (record { headword = h; body = body }, drop x run)))
+abbrev pub Started : HeadwordOrder → List ℕ → List ℕ → List ℕ → ℕ → Type 0
+Started below h run word x =
+    (x ≡ 0 → first-entry below h (drop 2 run) ≡ refused 8)
+    × (0 < x → (2 < x) × (take (length h) word ≡ h) × (body : List ℕ) × (first-entry below h (drop 2 run) ≡ ok (record { headword = h; body = body }, drop x run)))
 
 -- where the zero byte of the element at `at` is, the first of `left`, if there is one
 pub record Carried (index : List ℕ) (at left end : ℕ) : Type 0 where

@@ -2,7 +2,7 @@
 ghost use mathlib.Core.Path.{_≡_};
 ghost use Prim.Native.Nat.{_-_, _*_, _≤_};
 ghost use lib.ListN.{length};
-ghost use Rattle.spec.specs.Header.{format4};
+ghost use Rattle.spec.specs.Order.{below-of};
 ghost use Rattle.spec.specs.Check.{runs-from, next-headword};
 ghost use Rattle.marks.specs.Marks.{marks};
 ghost use Rattle.index.specs.Elements.{elements-at, Inside};
@@ -20,7 +20,7 @@ pub enum Runs {
 // The number of blocks of the run at block `b`; 0 where it breaks row 7.
 pub fn run_size(area: &[u8], d: usize, b: usize) -> usize
     requires { ⌜ (256 * d ≡ length (now area)) × (d ≤ 65536) ⌝ }
-    ensures { λ r. ⌜ Sized format4 d (now (area .entry)) b r ⌝ }
+    ensures { λ r. ⌜ Sized (below-of 0) d (now (area .entry)) b r ⌝ }
     ensures { λ r. ⌜ (r ≤ 32767) × (r ≤ d - b) ⌝ }
 {
     if d <= b {
@@ -40,7 +40,7 @@ pub fn run_size(area: &[u8], d: usize, b: usize) -> usize
 // entry breaks row 8.
 fn first_entry(run: &[u8], headword: &[u8], word: &mut [u8]) -> usize
     requires { ⌜ (2 ≤ length (now run)) × (248 ≤ length (now word)) ⌝ }
-    ensures { λ r. ⌜ Started format4 (now (headword .entry)) (now (run .entry)) (now (word .exit)) r ⌝ }
+    ensures { λ r. ⌜ Started (below-of 0) (now (headword .entry)) (now (run .entry)) (now (word .exit)) r ⌝ }
     ensures { λ r. ⌜ r ≤ length (now (run .entry)) ⌝ }
     ensures { λ r. ⌜ length (now (word .exit)) ≡ length (now (word .entry)) ⌝ }
 {
@@ -79,7 +79,7 @@ fn ends_below(index: &[u8], at: usize, end: usize, left: usize, last: &[u8]) -> 
     requires { ⌜ Inside (now index) at left ⌝ }
     requires { ⌜ Carried (now index) at left end ⌝ }
     requires { ⌜ end ≤ length (now index) ⌝ }
-    ensures { λ r. ⌜ r ≡ last-below format4 (now (last .entry)) (next-headword (elements-at (now (index .entry)) at left)) ⌝ }
+    ensures { λ r. ⌜ r ≡ last-below (below-of 0) (now (last .entry)) (next-headword (elements-at (now (index .entry)) at left)) ⌝ }
 {
     if left == 0 {
         return true;
@@ -91,7 +91,7 @@ fn ends_below(index: &[u8], at: usize, end: usize, left: usize, last: &[u8]) -> 
 pub fn read_runs(index: &[u8], n: usize, area: &[u8], d: usize, used: &mut [u64]) -> Runs
     requires { ⌜ Inside (now index) 0 n ⌝ }
     requires { ⌜ (length (now index) ≤ 8388608) × (256 * d ≡ length (now area)) × (d ≤ 65536) × (d ≤ 64 * length (now used)) ⌝ }
-    ensures { λ r. ⌜ runs-answer r (marks (now (used .exit))) ≡ tally 0 0 (marks (now (used .entry))) (runs-from format4 d (now (area .entry)) (elements-at (now (index .entry)) 0 n)) ⌝ }
+    ensures { λ r. ⌜ runs-answer r (marks (now (used .exit))) ≡ tally 0 0 (marks (now (used .entry))) (runs-from (below-of 0) d (now (area .entry)) (elements-at (now (index .entry)) 0 n)) ⌝ }
 {
     let mut word = [0u8; 256];
     let mut words = 0;

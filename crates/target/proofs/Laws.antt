@@ -13,12 +13,10 @@ use borrow.Author.Needs.{needs}
 use borrow.Author.Tests.{eq-eqb, ne-eqb, eqb-false}
 use Rattle.spec.specs.Outcome.{ok}
 use Rattle.spec.specs.Lists as Lists
-use Rattle.spec.specs.Lists.{split-last}
+use Rattle.spec.specs.Lists.{split-last, All}
 use Rattle.spec.specs.Bytes as Bytes
 use Rattle.spec.specs.Bytes.{from-little-endian, bytes-at}
-use Rattle.spec.specs.Order.{IsOrder, below-of}
-use Rattle.spec.specs.Header as Header
-use Rattle.spec.specs.Header.{Format, format4}
+use Rattle.spec.specs.Order.{IsOrder, below-of, HeadwordOrder}
 use Rattle.spec.specs.Entry.{Entry}
 use Rattle.spec.specs.Run.{Run, entries-from}
 use Rattle.spec.specs.Index.{Element, elements-bytes}
@@ -26,10 +24,10 @@ use Rattle.spec.specs.Blocks.{run-blocks}
 use Rattle.spec.specs.Check.{ends-below, run-from, runs-from, next-headword}
 use Rattle.spec.specs.Place as Place
 use Rattle.spec.specs.Place.{target-run, element-of}
-use Rattle.spec.proofs.ListsLaws.{All, all-map, all-back}
+use Rattle.spec.proofs.ListsLaws.{all-map, all-back}
 use Rattle.spec.proofs.OutcomeLaws.{ok-not-refused}
 use Rattle.spec.proofs.OrderLaws.{order-of}
-use Rattle.spec.proofs.RunLaws.{EntriesOk}
+use Rattle.spec.specs.Sound.{EntriesOk}
 use Rattle.spec.proofs.ReadLaws.{RunsAscend, ascend-back, run-told, no-runs, runs-first, runs-elements, runs-ascend}
 use Rattle.marks.proofs.Laws.{drop-take}
 use Rattle.index.specs.Elements as Elements
@@ -75,18 +73,18 @@ pub ruleset start-laws = (start-none, start-some, needs)
 
 -- ---- runs and their elements
 -- a run that was read by its own element
-pub record Known (F : Format) (D : ℕ) (area : List ℕ) (r : Run) : Type 0 where
+pub record Known (below : HeadwordOrder) (D : ℕ) (area : List ℕ) (r : Run) : Type 0 where
   pub next : Option (List ℕ)
-  pub read : run-from F D area (element-of r) next ≡ ok r
+  pub read : run-from below D area (element-of r) next ≡ ok r
 
-module _ (F : Format) (D : ℕ) (area : List ℕ) where
+module _ (below : HeadwordOrder) (D : ℕ) (area : List ℕ) where
   -- so are all runs that were read
-  pub runs-known : (es : List Element) (rs : List Run) → runs-from F D area es ≡ ok rs → All (Known F D area) rs
+  pub runs-known : (es : List Element) (rs : List Run) → runs-from below D area es ≡ ok rs → All (Known below D area) rs
   unfolding element-of
-  runs-known [] rs h = rw (no-runs F D area rs h) tt
+  runs-known [] rs h = rw (no-runs below D area rs h) tt
   runs-known (e ∷ es) rs h =
-      let (r, qs, p, u, k) = runs-first F D area e es rs h in
-      let t = run-told F D area e (next-headword es) r u in
+      let (r, qs, p, u, k) = runs-first below D area e es rs h in
+      let t = run-told below D area e (next-headword es) r u in
       let m : element-of r ≡ e = rw (t .block, t .headword) in
       rw p (record { next = next-headword es; read = rw m u }, runs-known es qs k)
 
@@ -112,7 +110,16 @@ record Parted (rs : List Run) (x : List Element) (e : Element) (y : List Element
 parted : (rs : List Run) (x : List Element) (e : Element) (y : List Element) → map element-of rs ≡ x ++ e ∷ y → Parted rs x e y
 parted [] [] e y h = absurd (cons-ne-nil e y (sym h))
 parted [] (a ∷ x) e y h = absurd (cons-ne-nil a (x ++ e ∷ y) (sym h))
-parted (r ∷ rs) [] e y h = record { before = []; run = r; after = rs; split = refl; before-is = refl; run-is = same-first (element-of r) e (map element-of rs) y h; after-is = same-others (element-of r) e (map element-of rs) y h }
+parted (r ∷ rs) [] e y h =
+    record {
+      before = [];
+      run = r;
+      after = rs;
+      split = refl;
+      before-is = refl;
+      run-is = same-first (element-of r) e (map element-of rs) y h;
+      after-is = same-others (element-of r) e (map element-of rs) y h;
+    }
 parted (r ∷ rs) (a ∷ x) e y h =
     let i = parted rs x e y (same-others (element-of r) a (map element-of rs) (x ++ e ∷ y) h) in
     record {
@@ -139,47 +146,48 @@ module _ {A : Type 0} (f : A → Bool) where
   last-here [] a y p q = rw (last-none y q, p)
   last-here (b ∷ x) a y p q = rw (last-here x a y p q)
 
-module _ (F : Format) (h : List ℕ) where
+module _ (below : HeadwordOrder) (h : List ℕ) where
   -- the run concerned by its place: behind it all start above the headword, and it does not, or is the first
-  target-at : (x : List Run) (r : Run) (y : List Run) → (F .below h (r .headword) ≡ false) ⊎ (x ≡ []) → All (λ q. F .below h (q .headword) ≡ true) y
-      → target-run F h (x ++ r ∷ y) ≡ record { before = x; entries = r .entries; after = y }
+  target-at : (x : List Run) (r : Run) (y : List Run) → (below h (r .headword) ≡ false) ⊎ (x ≡ []) → All (λ q. below h (q .headword) ≡ true) y
+      → target-run below h (x ++ r ∷ y) ≡ record { before = x; entries = r .entries; after = y }
   unfolding target-run Place.target-split Place.target-of Lists.split-first
-  target-at x r y o above = go (F .below h (r .headword)) refl o
+  target-at x r y o above = go (below h (r .headword)) refl o
     where
-      others : All (λ q. not (F .below h (q .headword)) ≡ false) y
+      others : All (λ q. not (below h (q .headword)) ≡ false) y
       others = all-map _ _ (λ q e. ap not e) y above
 
-      go : (t : Bool) → F .below h (r .headword) ≡ t → (F .below h (r .headword) ≡ false) ⊎ (x ≡ []) → target-run F h (x ++ r ∷ y) ≡ record { before = x; entries = r .entries; after = y }
-      go false e o = rw (last-here (λ q. not (F .below h (q .headword))) x r y (ap not e) others)
+      go : (t : Bool) → below h (r .headword) ≡ t → (below h (r .headword) ≡ false) ⊎ (x ≡ []) → target-run below h (x ++ r ∷ y) ≡ record { before = x; entries = r .entries; after = y }
+      go false e o = rw (last-here (λ q. not (below h (q .headword))) x r y (ap not e) others)
       go true e (inl p) = absurd (true≢false (sym e ∙ p))
-      go true e (inr p) = rw (p, last-none (λ q. not (F .below h (q .headword))) (r ∷ y) (ap not e, others))
+      go true e (inr p) = rw (p, last-none (λ q. not (below h (q .headword))) (r ∷ y) (ap not e, others))
 
-  module _ (order : IsOrder (F .below)) where
+  module _ (order : IsOrder below) where
     -- entries that end below a headword start below it
-    starts-below : (prev k : List ℕ) (e : Entry) (es : List Entry) → EntriesOk F prev (e ∷ es) → ends-below F (some k) (e ∷ es) ≡ true → F .below (e .headword) k ≡ true
+    starts-below : (prev k : List ℕ) (e : Entry) (es : List Entry) → EntriesOk below prev (e ∷ es) → ends-below below (some k) (e ∷ es) ≡ true → below (e .headword) k ≡ true
     unfolding ends-below
     starts-below prev k e [] p q = q
     starts-below prev k e (d ∷ es) (hok, bok, up, p) q = order .transitive (e .headword) (d .headword) k (p .2) (starts-below (e .headword) k d es p q)
 
     -- runs that ascend and start above a headword are all above it
-    all-above : (q : Run) (rs : List Run) → RunsAscend F (q ∷ rs) → F .below h (q .headword) ≡ true → All (λ r. F .below h (r .headword) ≡ true) (q ∷ rs)
+    all-above : (q : Run) (rs : List Run) → RunsAscend below (q ∷ rs) → below h (q .headword) ≡ true → All (λ r. below h (r .headword) ≡ true) (q ∷ rs)
     all-above q [] p a = (a, tt)
     all-above q (r ∷ rs) ((f, o, s, b), t, e, p) a =
-        let u : EntriesOk F [] (f ∷ o) = rw s at t in
-        let v : ends-below F (some (r .headword)) (f ∷ o) ≡ true = rw s at e in
-        let w : F .below (q .headword) (r .headword) ≡ true = rw b at (starts-below [] (r .headword) f o u v) in
+        let u : EntriesOk below [] (f ∷ o) = rw s at t in
+        let v : ends-below below (some (r .headword)) (f ∷ o) ≡ true = rw s at e in
+        let w : below (q .headword) (r .headword) ≡ true = rw b at (starts-below [] (r .headword) f o u v) in
         (a, all-above r rs p (order .transitive h (q .headword) (r .headword) a w))
 
 -- ---- where the element of the run concerned stands
 -- of n elements so many from `at` on, the first of which is not above h, or the first of all
-record Reached (below : List ℕ → List ℕ → Bool) (index h : List ℕ) (n at left : ℕ) : Type 0 where
+record Reached (below : HeadwordOrder) (index h : List ℕ) (n at left : ℕ) : Type 0 where
   fewer : left ≤ n
   start : at ≡ elements-end index 0 (n - left)
   low : (below h (element-headword index at) ≡ false) ⊎ (n - left ≡ 0)
 
-module _ (below : List ℕ → List ℕ → Bool) (index h : List ℕ) (n : ℕ) where
+module _ (below : HeadwordOrder) (index h : List ℕ) (n : ℕ) where
   -- one element more is passed
-  reached-next : (at k : ℕ) → Reached below index h n at (suc (suc k)) → below h (element-headword index (element-end index at + 1)) ≡ false → Reached below index h n (element-end index at + 1) (suc k)
+  reached-next : (at k : ℕ) → Reached below index h n at (suc (suc k)) → below h (element-headword index (element-end index at + 1)) ≡ false
+      → Reached below index h n (element-end index at + 1) (suc k)
   unfolding Elements.elements-end
   reached-next at k v e =
       let p : n - suc k ≡ (n - suc (suc k)) + 1 = omega (arith, v .fewer) in
@@ -206,10 +214,11 @@ part-same area b size p =
 -- where there is no element there is no run
 module _ (index area h : List ℕ) (D n : ℕ) (none : n ≡ 0) where
   -- what is told then
-  pub told-none : (rs : List Run) → runs-from format4 D area (elements-at index 0 n) ≡ ok rs → TargetTold index area n h rs (record { at = 0; end = 0; before = 0; after = 0; block = 0; size = 0 })
+  pub told-none : (rs : List Run) → runs-from (below-of 0) D area (elements-at index 0 n) ≡ ok rs
+      → TargetTold index area n h rs (record { at = 0; end = 0; before = 0; after = 0; block = 0; size = 0 })
   unfolding Elements.elements-at Elements.elements-end target-run Place.target-split Place.target-of split-last Lists.split-first elements-bytes
   told-none rs r =
-      let e : rs ≡ [] = no-runs format4 D area rs (rw none at r) in
+      let e : rs ≡ [] = no-runs (below-of 0) D area rs (rw none at r) in
       rw (e, none) (
       record {
         before = refl;
@@ -223,7 +232,8 @@ module _ (index area h : List ℕ) (D n : ℕ) (none : n ≡ 0) where
       }
       )
 
-module _ (index h : List ℕ) (n : ℕ) (some-elements : n ≡ 0 → ⊥) (all-inside : Inside index 0 n) (c : IndexPlace.Place) (concerned : c ≡ concerned-from (below-of 0) index h 0 (n - 1)) (some-left : 1 ≤ c .left) where
+module _ (index h : List ℕ) (n : ℕ) (some-elements : n ≡ 0 → ⊥) (all-inside : Inside index 0 n) (c : IndexPlace.Place)
+    (concerned : c ≡ concerned-from (below-of 0) index h 0 (n - 1)) (some-left : 1 ≤ c .left) where
   -- where its element stands among all
   here : Reached (below-of 0) index h n (c .at) (c .left)
   here = rw concerned (reached (below-of 0) index h n some-elements)
@@ -261,11 +271,11 @@ module _ (index h : List ℕ) (n : ℕ) (some-elements : n ≡ 0 → ⊥) (all-i
   behind-inside end e = rw e (inside-next index (c .at) (c .left) (inside-parts .1) some-left)
 
   -- it stands behind the bytes of those before it
-  start-bytes : c .at ≡ length (elements-bytes format4 (elements-at index 0 (n - c .left)))
+  start-bytes : c .at ≡ length (elements-bytes 2 (elements-at index 0 (n - c .left)))
   start-bytes = omega (arith, here .start, elements-length index 0 (n - c .left) (inside-parts .0))
 
   -- behind it stand the bytes of the others, up to the end of all
-  rest-bytes : (end : ℕ) → end ≡ element-end index (c .at) → elements-end index 0 n ≡ end + 1 + length (elements-bytes format4 (elements-at index (end + 1) (c .left - 1)))
+  rest-bytes : (end : ℕ) → end ≡ element-end index (c .at) → elements-end index 0 n ≡ end + 1 + length (elements-bytes 2 (elements-at index (end + 1) (c .left - 1)))
   rest-bytes end e =
       let a : elements-end index 0 n ≡ elements-end index (c .at) (c .left)
       = ap (elements-end index 0) sum ∙ ends-split index 0 (n - c .left) (c .left) ∙ ap (λ (a : ℕ). elements-end index a (c .left)) (sym (here .start)) in
@@ -274,7 +284,7 @@ module _ (index h : List ℕ) (n : ℕ) (some-elements : n ≡ 0 → ⊥) (all-i
 
   -- the bytes of all elements: of those before it, its own, of those behind it
   bytes-parts : (end : ℕ) → end ≡ element-end index (c .at)
-      → elements-end index 0 n ≡ length (elements-bytes format4 (elements-at index 0 (n - c .left))) + (end + 1 - c .at) + length (elements-bytes format4 (elements-at index (end + 1) (c .left - 1)))
+      → elements-end index 0 n ≡ length (elements-bytes 2 (elements-at index 0 (n - c .left))) + (end + 1 - c .at) + length (elements-bytes 2 (elements-at index (end + 1) (c .left - 1)))
   bytes-parts end e = omega (arith, start-bytes, rest-bytes end e, element-end-past index (c .at))
 
   -- behind it stands none, or one whose headword is above the given one
@@ -282,37 +292,39 @@ module _ (index h : List ℕ) (n : ℕ) (some-elements : n ≡ 0 → ⊥) (all-i
   stops = rw concerned (concerned-stops (below-of 0) index h 0 (n - 1))
 
   -- the runs behind it start above the given headword
-  behind-above : (a k : ℕ) (y : List Run) → map element-of y ≡ elements-at index a k → (k ≡ 0) ⊎ (below-of 0 h (element-headword index a) ≡ true) → RunsAscend format4 y → All (λ q. format4 .below h (q .headword) ≡ true) y
-  unfolding Elements.elements-at Elements.element-at element-of Header.format4
+  behind-above : (a k : ℕ) (y : List Run) → map element-of y ≡ elements-at index a k → (k ≡ 0) ⊎ (below-of 0 h (element-headword index a) ≡ true)
+      → RunsAscend (below-of 0) y → All (λ q. below-of 0 h (q .headword) ≡ true) y
+  unfolding Elements.elements-at Elements.element-at element-of
   behind-above a k [] m o p = tt
   behind-above a zero (q ∷ qs) m o p = absurd (cons-ne-nil (element-of q) (map element-of qs) m)
   behind-above a (suc k) (q ∷ qs) m (inl z) p = absurd (omega arith)
   behind-above a (suc k) (q ∷ qs) m (inr up) p =
       let s : element-of q ≡ element-at index a = same-first (element-of q) (element-at index a) (map element-of qs) (elements-at index (element-end index a + 1) k) m in
       let w : q .headword ≡ element-headword index a = ap (λ (e : Element). e .headword) s in
-      all-above format4 h (order-of 0) q qs p (rw w up)
+      all-above (below-of 0) h (order-of 0) q qs p (rw w up)
 
   -- it starts not above it, or is the first
-  first-or-low : (x : List Run) (r : Run) → map element-of x ≡ elements-at index 0 (n - c .left) → element-of r ≡ element-at index (c .at) → (format4 .below h (r .headword) ≡ false) ⊎ (x ≡ [])
-  unfolding Elements.elements-at Elements.element-at element-of Header.format4
+  first-or-low : (x : List Run) (r : Run) → map element-of x ≡ elements-at index 0 (n - c .left) → element-of r ≡ element-at index (c .at) → (below-of 0 h (r .headword) ≡ false) ⊎ (x ≡ [])
+  unfolding Elements.elements-at Elements.element-at element-of
   first-or-low x r m s = go (here .low)
     where
       empty : (k : ℕ) (l : List Run) → k ≡ 0 → map element-of l ≡ elements-at index 0 k → l ≡ []
       empty k [] z e = refl
       empty k (q ∷ l) z e = absurd (cons-ne-nil (element-of q) (map element-of l) (rw z at e))
 
-      go : (below-of 0 h (element-headword index (c .at)) ≡ false) ⊎ (n - c .left ≡ 0) → (format4 .below h (r .headword) ≡ false) ⊎ (x ≡ [])
+      go : (below-of 0 h (element-headword index (c .at)) ≡ false) ⊎ (n - c .left ≡ 0) → (below-of 0 h (r .headword) ≡ false) ⊎ (x ≡ [])
       go (inl e) =
           let w : r .headword ≡ element-headword index (c .at) = ap (λ (e : Element). e .headword) s in
           inl (rw w e)
       go (inr z) = inr (empty (n - c .left) x z m)
 
-  module _ (D : ℕ) (area : List ℕ) (b : ℕ) (num : b ≡ from-little-endian (bytes-at (c .at) 2 index)) (end : ℕ) (ends : end ≡ element-end index (c .at)) (size : ℕ) (sized : Sized format4 D area b size) where
+  module _ (D : ℕ) (area : List ℕ) (b : ℕ) (num : b ≡ from-little-endian (bytes-at (c .at) 2 index)) (end : ℕ) (ends : end ≡ element-end index (c .at))
+      (size : ℕ) (sized : Sized (below-of 0) D area b size) where
     -- its run has that block, and that size
-    run-placed : (r : Run) → Known format4 D area r → element-of r ≡ element-at index (c .at) → (r .block ≡ b) × (r .size ≡ size) × (1 ≤ size)
+    run-placed : (r : Run) → Known (below-of 0) D area r → element-of r ≡ element-at index (c .at) → (r .block ≡ b) × (r .size ≡ size) × (1 ≤ size)
     unfolding Elements.element-at element-of
     run-placed r known s =
-        let t = run-told format4 D area (element-of r) (known .next) r (known .read) in
+        let t = run-told (below-of 0) D area (element-of r) (known .next) r (known .read) in
         let p : r .block ≡ b = ap (λ (e : Element). e .block) s ∙ sym num in
         let z : size ≡ 0 → ⊥ = λ y. ok-not-refused r 7 (sym (known .read) ∙ sized .0 (element-of r) (known .next) p y) in
         let q : 0 < size = omega (arith, z) in
@@ -320,7 +332,7 @@ module _ (index h : List ℕ) (n : ℕ) (some-elements : n ≡ 0 → ⊥) (all-i
         (p, t .size ∙ rw p (sym m), q)
 
     -- what is told of it
-    pub told-some : (rs : List Run) → runs-from format4 D area (elements-at index 0 n) ≡ ok rs
+    pub told-some : (rs : List Run) → runs-from (below-of 0) D area (elements-at index 0 n) ≡ ok rs
         → TargetTold index area n h rs (record { at = c .at; end = end + 1; before = n - c .left; after = c .left - 1; block = b; size = size })
     told-some rs read =
         record {
@@ -334,30 +346,32 @@ module _ (index h : List ℕ) (n : ℕ) (some-elements : n ≡ 0 → ⊥) (all-i
           bytes = bytes-parts end ends;
         }
       where
-        all-known : All (Known format4 D area) rs
-        all-known = runs-known format4 D area (elements-at index 0 n) rs read
+        all-known : All (Known (below-of 0) D area) rs
+        all-known = runs-known (below-of 0) D area (elements-at index 0 n) rs read
 
         d : Parted rs (elements-at index 0 (n - c .left)) (element-at index (c .at)) (elements-at index (element-end index (c .at) + 1) (c .left - 1))
-        d = parted rs (elements-at index 0 (n - c .left)) (element-at index (c .at)) (elements-at index (element-end index (c .at) + 1) (c .left - 1)) (runs-elements format4 D area (elements-at index 0 n) rs read ∙ elements-parts)
+        d =
+            parted rs (elements-at index 0 (n - c .left)) (element-at index (c .at)) (elements-at index (element-end index (c .at) + 1) (c .left - 1))
+            (runs-elements (below-of 0) D area (elements-at index 0 n) rs read ∙ elements-parts)
 
-        ascending : RunsAscend format4 (d .run ∷ d .after)
-        ascending = ascend-back format4 (d .before) (d .run ∷ d .after) (rw (d .split) at (runs-ascend format4 D area (elements-at index 0 n) rs read))
+        ascending : RunsAscend (below-of 0) (d .run ∷ d .after)
+        ascending = ascend-back (below-of 0) (d .before) (d .run ∷ d .after) (rw (d .split) at (runs-ascend (below-of 0) D area (elements-at index 0 n) rs read))
 
-        above : All (λ q. format4 .below h (q .headword) ≡ true) (d .after)
+        above : All (λ q. below-of 0 h (q .headword) ≡ true) (d .after)
         above = behind-above (element-end index (c .at) + 1) (c .left - 1) (d .after) (d .after-is) (⊎-elim (λ z. inl (omega arith)) inr stops) (ascending .3)
 
-        t : target-run format4 h rs ≡ record { before = d .before; entries = d .run .entries; after = d .after }
-        t = ap (target-run format4 h) (d .split) ∙ target-at format4 h (d .before) (d .run) (d .after) (first-or-low (d .before) (d .run) (d .before-is) (d .run-is)) above
+        t : target-run (below-of 0) h rs ≡ record { before = d .before; entries = d .run .entries; after = d .after }
+        t = ap (target-run (below-of 0) h) (d .split) ∙ target-at (below-of 0) h (d .before) (d .run) (d .after) (first-or-low (d .before) (d .run) (d .before-is) (d .run-is)) above
 
-        known : Known format4 D area (d .run)
-        known = all-back (Known format4 D area) (d .before) (d .run ∷ d .after) (rw (d .split) at all-known) .0
+        known : Known (below-of 0) D area (d .run)
+        known = all-back (Known (below-of 0) D area) (d .before) (d .run ∷ d .after) (rw (d .split) at all-known) .0
 
         own : (d .run .block ≡ b) × (d .run .size ≡ size) × (1 ≤ size)
         own = run-placed (d .run) known (d .run-is)
 
-        entries : entries-from format4 (suc (length (d .run .bytes))) [] (entries-part area b size) ≡ ok (d .run .entries)
+        entries : entries-from (below-of 0) (suc (length (d .run .bytes))) [] (entries-part area b size) ≡ ok (d .run .entries)
         entries =
-            let w = run-told format4 D area (element-of (d .run)) (known .next) (d .run) (known .read) in
+            let w = run-told (below-of 0) D area (element-of (d .run)) (known .next) (d .run) (known .read) in
             let e : d .run .bytes ≡ bytes-at (256 * b) (256 * size) area = w .bytes ∙ rw (own .0, own .1) in
             rw (part-same area b size (own .2), ← e) (w .read)
 
@@ -365,7 +379,8 @@ module _ (index h : List ℕ) (n : ℕ) (some-elements : n ≡ 0 → ⊥) (all-i
     pub blocks-inside : NumbersWithin D index 0 n → size ≤ D - b → b + size ≤ D
     blocks-inside all-numbers p =
         let e : suc (n - 1) ≡ n = omega arith in
-        let w : NumbersWithin D index (c .at) (c .left) = rw concerned (concerned-rule (below-of 0) index h 0 (n - 1) (λ at left. NumbersWithin D index at left) (subst (λ (k : ℕ). NumbersWithin D index 0 k) (sym e) all-numbers) (λ at k v low. v .1)) in
+        let w : NumbersWithin D index (c .at) (c .left) = rw concerned (concerned-rule (below-of 0) index h 0 (n - 1) (λ at left. NumbersWithin D index at left)
+        (subst (λ (k : ℕ). NumbersWithin D index 0 k) (sym e) all-numbers) (λ at k v low. v .1)) in
         omega (arith, first-within (c .at) (c .left) some-left w)
       where
         first-within : (at left : ℕ) → 1 ≤ left → NumbersWithin D index at left → from-little-endian (bytes-at at 2 index) ≤ D
@@ -381,13 +396,13 @@ pub ruleset run-laws = (told-none, left-fewer, after-fewer, others-fewer, blocks
 
 -- ---- for the crates above
 -- the numbers of elements whose runs can be read are those of data blocks
-pub numbers-within : (F : Format) (D : ℕ) (area index : List ℕ) (at n : ℕ) (rs : List Run) → runs-from F D area (elements-at index at n) ≡ ok rs → NumbersWithin D index at n
+pub numbers-within : (below : HeadwordOrder) (D : ℕ) (area index : List ℕ) (at n : ℕ) (rs : List Run) → runs-from below D area (elements-at index at n) ≡ ok rs → NumbersWithin D index at n
 unfolding Elements.elements-at Elements.element-at
-numbers-within F D area index at zero rs h = tt
-numbers-within F D area index at (suc n) rs h =
-    let (r, qs, p, u, k) = runs-first F D area (element-at index at) (elements-at index (element-end index at + 1) n) rs h in
-    let t = run-told F D area (element-at index at) (next-headword (elements-at index (element-end index at + 1) n)) r u in
-    (omega (arith, t .block, t .inside), numbers-within F D area index (element-end index at + 1) n qs k)
+numbers-within below D area index at zero rs h = tt
+numbers-within below D area index at (suc n) rs h =
+    let (r, qs, p, u, k) = runs-first below D area (element-at index at) (elements-at index (element-end index at + 1) n) rs h in
+    let t = run-told below D area (element-at index at) (next-headword (elements-at index (element-end index at + 1) n)) r u in
+    (omega (arith, t .block, t .inside), numbers-within below D area index (element-end index at + 1) n qs k)
 
 -- the blocks of runs taken apart at one
 blocks-beside : (x : List Run) (r : Run) (y : List Run) → run-blocks (x ++ r ∷ y) ≡ run-blocks (x ++ y) + r .size
@@ -397,17 +412,17 @@ blocks-beside (q ∷ x) r y = omega (arith, blocks-beside x r y)
 
 module _ (index area : List ℕ) (n : ℕ) (h : List ℕ) (rs : List Run) (t : Target) (told : TargetTold index area n h rs t) where
   -- so many runs stand before the run concerned
-  pub told-before : length (target-run format4 h rs .before) ≡ t .before
-  told-before = sym (length-map (target-run format4 h rs .before) element-of) ∙ ap length (sym (told .before)) ∙ elements-count index 0 (t .before)
+  pub told-before : length (target-run (below-of 0) h rs .before) ≡ t .before
+  told-before = sym (length-map (target-run (below-of 0) h rs .before) element-of) ∙ ap length (sym (told .before)) ∙ elements-count index 0 (t .before)
 
   -- and so many behind it
-  pub told-after : length (target-run format4 h rs .after) ≡ t .after
-  told-after = sym (length-map (target-run format4 h rs .after) element-of) ∙ ap length (sym (told .after)) ∙ elements-count index (t .end) (t .after)
+  pub told-after : length (target-run (below-of 0) h rs .after) ≡ t .after
+  told-after = sym (length-map (target-run (below-of 0) h rs .after) element-of) ∙ ap length (sym (told .after)) ∙ elements-count index (t .end) (t .after)
 
   -- the blocks of all runs are those of the others and its own
-  pub told-blocks : run-blocks rs ≡ run-blocks (target-run format4 h rs .before ++ target-run format4 h rs .after) + t .size
+  pub told-blocks : run-blocks rs ≡ run-blocks (target-run (below-of 0) h rs .before ++ target-run (below-of 0) h rs .after) + t .size
   unfolding run-blocks
-  told-blocks = go (target-run format4 h rs) (told .run)
+  told-blocks = go (target-run (below-of 0) h rs) (told .run)
     where
       go : (c : Place.Target) → NoRun area rs c t ⊎ OneRun area rs c t → run-blocks rs ≡ run-blocks (c .before ++ c .after) + t .size
       go c (inl v) = rw (v .none, v .before, v .after, v .size)

@@ -6,9 +6,9 @@ use mathlib.Core.Bool.{true, false}
 use mathlib.Core.List.{List, [], _∷_, _++_, map}
 use lib.ListN.{length, take, drop}
 use lib.Dec.{eqb}
+use Rattle.spec.specs.Order.{below-of}
 use Rattle.spec.specs.Outcome.{ok}
 use Rattle.spec.specs.Bytes.{from-little-endian, bytes-at}
-use Rattle.spec.specs.Header.{format4}
 use Rattle.spec.specs.Run.{Run, entries-from}
 use Rattle.spec.specs.Index.{elements-bytes}
 use Rattle.spec.specs.Place as Place
@@ -46,18 +46,18 @@ pub record OneRun (area : List ℕ) (rs : List Run) (c : Place.Target) (t : Targ
   pub size : run .size ≡ t .size
   pub some-blocks : 1 ≤ t .size
   pub fuel : ℕ
-  pub read : entries-from format4 fuel [] (entries-part area (t .block) (t .size)) ≡ ok (c .entries)
+  pub read : entries-from (below-of 0) fuel [] (entries-part area (t .block) (t .size)) ≡ ok (c .entries)
 
 -- the run concerned of the headword h among the runs of n elements
 pub record TargetTold (index area : List ℕ) (n : ℕ) (h : List ℕ) (rs : List Run) (t : Target) : Type 0 where
-  pub before : elements-at index 0 (t .before) ≡ map element-of (target-run format4 h rs .before)
-  pub after : elements-at index (t .end) (t .after) ≡ map element-of (target-run format4 h rs .after)
+  pub before : elements-at index 0 (t .before) ≡ map element-of (target-run (below-of 0) h rs .before)
+  pub after : elements-at index (t .end) (t .after) ≡ map element-of (target-run (below-of 0) h rs .after)
   pub before-inside : Inside index 0 (t .before)
   pub after-inside : Inside index (t .end) (t .after)
-  pub at-is : t .at ≡ length (elements-bytes format4 (elements-at index 0 (t .before)))
-  pub end-is : elements-end index 0 n ≡ t .end + length (elements-bytes format4 (elements-at index (t .end) (t .after)))
-  pub run : NoRun area rs (target-run format4 h rs) t ⊎ OneRun area rs (target-run format4 h rs) t
-  pub bytes : elements-end index 0 n ≡ length (elements-bytes format4 (elements-at index 0 (t .before))) + (t .end - t .at) + length (elements-bytes format4 (elements-at index (t .end) (t .after)))
+  pub at-is : t .at ≡ length (elements-bytes 2 (elements-at index 0 (t .before)))
+  pub end-is : elements-end index 0 n ≡ t .end + length (elements-bytes 2 (elements-at index (t .end) (t .after)))
+  pub run : NoRun area rs (target-run (below-of 0) h rs) t ⊎ OneRun area rs (target-run (below-of 0) h rs) t
+  pub bytes : elements-end index 0 n ≡ length (elements-bytes 2 (elements-at index 0 (t .before))) + (t .end - t .at) + length (elements-bytes 2 (elements-at index (t .end) (t .after)))
 
 -- names all definitions of this module: who unfolds it unfolds them
 unfoldable pub open-told : Unit {0}

@@ -3,8 +3,8 @@ ghost use mathlib.Core.Path.{_≡_};
 ghost use mathlib.Core.List.{List};
 ghost use Prim.Native.Nat.{_+_, _*_, _≤_};
 ghost use lib.ListN.{length};
+ghost use Rattle.spec.specs.Order.{below-of};
 ghost use Rattle.spec.specs.Outcome.{ok};
-ghost use Rattle.spec.specs.Header.{format4};
 ghost use Rattle.spec.specs.Run.{Run};
 ghost use Rattle.spec.specs.Check.{runs-from};
 ghost use Rattle.index.specs.Elements.{elements-at, Inside};
@@ -28,7 +28,8 @@ pub fn find_run(index: &[u8], n: usize, area: &[u8], d: usize, h: &[u8]) -> Targ
     requires { ⌜ Inside (now index) 0 n ⌝ }
     requires { ⌜ NumbersWithin d (now index) 0 n ⌝ }
     requires { ⌜ (256 * d ≡ length (now area)) × (d ≤ 65536) ⌝ }
-    ensures { λ r. ⌜ ((rs : List Run) → runs-from format4 d (now (area .entry)) (elements-at (now (index .entry)) 0 n) ≡ ok rs → TargetTold (now (index .entry)) (now (area .entry)) n (now (h .entry)) rs r) ⌝ }
+    ensures { λ r. ⌜ ((rs : List Run) → runs-from (below-of 0) d (now (area .entry)) (elements-at (now (index .entry)) 0 n) ≡ ok rs
+        → TargetTold (now (index .entry)) (now (area .entry)) n (now (h .entry)) rs r) ⌝ }
     ensures { λ r. ⌜ (r .block + r .size ≤ d) × (r .size ≤ 32767) × (r .at ≤ r .end) × (r .end ≤ length (now (index .entry))) × (r .before + r .after ≤ n) ⌝ }
 {
     if n == 0 {

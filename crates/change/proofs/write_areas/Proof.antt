@@ -72,7 +72,7 @@ abbrev start-of-write-parts : tie.After-write-parts → tie.Start
 start-of-write-parts c = search (after-index-of-write-parts c)
 
 parts-kept : (c : tie.After-write-parts) → length (c .write-parts .last .0) ≡ length (start-of-write-parts c .args .image .now)
-parts-kept c = c .write-parts .ensures .1 .1 .1 .0 ∙ before-kept after-copy-elements
+parts-kept c = c .write-parts .ensures .1 .0 ∙ before-kept after-copy-elements
   where
     after-copy-elements : tie.After-copy-elements
     after-copy-elements = search
@@ -316,7 +316,7 @@ copy-elements-requires-2 : tie.Need-copy-elements-requires-2
 copy-elements-requires-2 c κs =
     after-asks _ _ _ _ _ _ _ _ (start .pre .0) _ (start .pre .1) _ _ _ (parts-kept after-write-parts) (after-copy-elements .copy-elements .ensures .1 .0)
     (parts-bytes _ _ _ _ _ _ _ _ (start .pre .0) _ (start .pre .1) _ (after-entries-start .entries-start .ensures .0) _ _
-    (after-write-parts .write-parts .ensures .1 .0))
+    (after-write-parts .write-parts .ensures .0 .1))
   where
     after-write-parts : tie.After-write-parts
     after-write-parts = search
@@ -339,7 +339,7 @@ mul-fill-zero c =
       arith,
       index-end _ _ _ _ _ _ _ _ (start .pre .0) _ (start .pre .1) _ _ _ (after-copy-elements .copy-elements .ensures .1 .0)
           (parts-bytes _ _ _ _ _ _ _ _ (start .pre .0) _ (start .pre .1) _ (after-entries-start .entries-start .ensures .0) _ _
-          (after-write-parts .write-parts .ensures .1 .0)) (after-copy-elements2 .copy-elements2 .ensures .1 .0),
+          (after-write-parts .write-parts .ensures .0 .1)) (after-copy-elements2 .copy-elements2 .ensures .1 .0),
       starts-inside _ _ _ _ _ _ _ _ (start .pre .0) _ (start .pre .1),
     )
   where
@@ -367,7 +367,7 @@ add-fill-zero c =
       arith,
       index-end _ _ _ _ _ _ _ _ (start .pre .0) _ (start .pre .1) _ _ _ (after-copy-elements .copy-elements .ensures .1 .0)
           (parts-bytes _ _ _ _ _ _ _ _ (start .pre .0) _ (start .pre .1) _ (after-entries-start .entries-start .ensures .0) _ _
-          (after-write-parts .write-parts .ensures .1 .0)) (after-copy-elements2 .copy-elements2 .ensures .1 .0),
+          (after-write-parts .write-parts .ensures .0 .1)) (after-copy-elements2 .copy-elements2 .ensures .1 .0),
       starts-inside _ _ _ _ _ _ _ _ (start .pre .0) _ (start .pre .1),
     )
   where
@@ -395,7 +395,7 @@ sub-fill-zero c =
       arith,
       index-end _ _ _ _ _ _ _ _ (start .pre .0) _ (start .pre .1) _ _ _ (after-copy-elements .copy-elements .ensures .1 .0)
           (parts-bytes _ _ _ _ _ _ _ _ (start .pre .0) _ (start .pre .1) _ (after-entries-start .entries-start .ensures .0) _ _
-          (after-write-parts .write-parts .ensures .1 .0)) (after-copy-elements2 .copy-elements2 .ensures .1 .0),
+          (after-write-parts .write-parts .ensures .0 .1)) (after-copy-elements2 .copy-elements2 .ensures .1 .0),
       starts-inside _ _ _ _ _ _ _ _ (start .pre .0) _ (start .pre .1),
     )
   where
@@ -423,7 +423,7 @@ fill-zero-requires c κs =
       arith,
       index-end _ _ _ _ _ _ _ _ (start .pre .0) _ (start .pre .1) _ _ _ (after-copy-elements .copy-elements .ensures .1 .0)
           (parts-bytes _ _ _ _ _ _ _ _ (start .pre .0) _ (start .pre .1) _ (after-entries-start .entries-start .ensures .0) _ _
-          (after-write-parts .write-parts .ensures .1 .0)) (after-copy-elements2 .copy-elements2 .ensures .1 .0),
+          (after-write-parts .write-parts .ensures .0 .1)) (after-copy-elements2 .copy-elements2 .ensures .1 .0),
       after-kept after-copy-elements2,
     )
   where
@@ -463,13 +463,13 @@ returns c = (
       (start .args .image .now) ++ (x ++ drop (length (start .args .image .now) - (256 + 256 * start .args .v .n))
       (drop (256 + 256 * start .args .v .n) (start .args .image .now)))) (after-copy-moved .copy-moved .ensures .0))
       (after-copy-elements .copy-elements .ensures .0) (after-copy-elements .copy-elements .ensures .1 .0) (parts-image _ _ _ _ _ _ _ _
-      (start .pre .0) _ (start .pre .1) _ (after-entries-start .entries-start .ensures .0) _ _ _ (after-write-parts .write-parts .ensures .0))
+      (start .pre .0) _ (start .pre .1) _ (after-entries-start .entries-start .ensures .0) _ _ _ (after-write-parts .write-parts .ensures .0 .0))
       (parts-bytes _ _ _ _ _ _ _ _ (start .pre .0) _ (start .pre .1) _ (after-entries-start .entries-start .ensures .0) _ _
-      (after-write-parts .write-parts .ensures .1 .0)) (after-copy-elements2 .copy-elements2 .ensures .0)
+      (after-write-parts .write-parts .ensures .0 .1)) (after-copy-elements2 .copy-elements2 .ensures .0)
       (after-copy-elements2 .copy-elements2 .ensures .1 .0) (after-fill-zero .fill-zero .ensures .0),
   (
     parts-marks _ _ _ _ _ _ _ _ (start .pre .0) _
-        (start .pre .1) _ (after-entries-start .entries-start .ensures .0) _ (after-write-parts .write-parts .ensures .1 .1 .0),
+        (start .pre .1) _ (after-entries-start .entries-start .ensures .0) _ (after-write-parts .write-parts .ensures .0 .2),
     (after-fill-zero .fill-zero .ensures .1 ∙ after-kept after-copy-elements2, search needs),
   ),
 )

@@ -98,8 +98,8 @@ part-put-rest-end c = search needs
 put-rest-requires : tie.Need-put-rest-requires
 put-rest-requires c κs =
     let i = new-inside _ _ _ _ _ _ _ _ (start .pre .0) _ (start .pre .1 .0) (start .pre .1 .1 .0) (λ k. omega (arith, known .slice-known .given k))
-    _ _ (save .save-old .ensures .0) _ (parts .write-parts .ensures .1 .0) in
-    (i .0, omega (arith, i .1, parts .write-parts .ensures .1 .1 .1 .0))
+    _ _ (save .save-old .ensures .0) _ (parts .write-parts .ensures .0 .1) in
+    (i .0, omega (arith, i .1, parts .write-parts .ensures .1 .0))
   where
     parts : tie.After-write-parts
     parts = search
@@ -125,15 +125,15 @@ same-length-3 c = search needs
 returns : tie.Need-returns
 returns c = (
   kept-areas _ _ _ _ _ _ _ _ (start .pre .0) _ (start .pre .1 .0) (start .pre .1 .1 .0) (λ k. omega (arith, known .slice-known .given k))
-      _ _ (save .save-old .ensures .0) _ (parts .write-parts .ensures .1 .0) _ _ (parts .write-parts .ensures .0) (parts .write-parts .ensures .1 .1 .1 .0)
+      _ _ (save .save-old .ensures .0) _ (parts .write-parts .ensures .0 .1) _ _ (parts .write-parts .ensures .0 .0) (parts .write-parts .ensures .1 .0)
       (put .put-rest .ensures .0),
   (
     kept-marks _ _ _ _ _ _ _ _ (start .pre .0) _ (start .pre .1 .0) (start .pre .1 .1 .0) (λ k. omega (arith, known .slice-known .given k))
-        _ _ (save .save-old .ensures .0) _ (parts .write-parts .ensures .1 .1 .0),
+        _ _ (save .save-old .ensures .0) _ (parts .write-parts .ensures .0 .2),
     (
-      omega (arith, put .put-rest .ensures .1, parts .write-parts .ensures .1 .1 .1 .0),
+      omega (arith, put .put-rest .ensures .1, parts .write-parts .ensures .1 .0),
       omega (arith, save .save-old .ensures .1),
-      omega (arith, parts .write-parts .ensures .1 .1 .1 .1),
+      omega (arith, parts .write-parts .ensures .1 .1),
     ),
   ),
 )

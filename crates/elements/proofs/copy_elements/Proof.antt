@@ -5,7 +5,6 @@ use lib.ListN.{length}
 use Rattle.spec.specs.Bytes.{write}
 use Rattle.index.specs.Elements.{elements-at, Inside}
 use Rattle.elements.proofs.Laws.{renewed-bytes, room, copy-laws}
-use borrow.Author.Needs.{needs}
 use Rattle.elements.proofs.copy_elements.Statement.{statement}
 use Rattle.elements.proofs.copy_elements.Tie as tie
 

@@ -4,9 +4,9 @@ use mathlib.Core.Path.{_≡_}
 use mathlib.Core.List.{[]}
 use lib.ListN.{length, drop}
 use borrow.Author.Needs.{needs}
+use Rattle.spec.specs.Order.{below-of}
 use Rattle.spec.specs.Outcome.{accepted}
 use Rattle.spec.specs.Bytes.{bytes-at}
-use Rattle.spec.specs.Header.{format4}
 use Rattle.spec.specs.Index.{elements-from}
 use Rattle.index.specs.Elements.{elements-end}
 use Rattle.index.proofs.Laws.{end-turn}
@@ -17,7 +17,7 @@ use Rattle.index.proofs.read_elements.Tie as tie
 abbrev Inv-loop : tie.InvT-loop
 Inv-loop index n at₀ left₀ start₀ end₀ at left start end =
     (at ≤ length index) × (start ≤ end) × (end ≤ length index)
-    × (accepted (elements-from format4 n [] index) ≡ accepted (elements-from format4 left (bytes-at start (end - start) index) (drop at index)))
+    × (accepted (elements-from 2 (below-of 0) n [] index) ≡ accepted (elements-from 2 (below-of 0) left (bytes-at start (end - start) index) (drop at index)))
     × (elements-end index at left ≡ elements-end index 0 n)
 
 abbrev μ-loop : tie.MeasureT-loop

@@ -1,14 +1,14 @@
 -- The lines of the runs still to come, stored in what stands there now, are the lines of all runs.
+use Rattle.spec.specs.Order.{below-of}
 use native.Mathlib.Omega.{arith}
 use borrow.Author.Needs.{needs}
-use Rattle.spec.specs.Header.{format4}
 use Rattle.index.proofs.Laws.{inside-start}
 use Rattle.listing.proofs.Runs.{Walking, walking-start, walking-end, walking-area, walking-inside, walking-some, walking-room, walking-next}
 use Rattle.listing.proofs.all_lines.Statement.{statement}
 use Rattle.listing.proofs.all_lines.Tie as tie
 
 abbrev Inv-loop : tie.InvT-loop
-Inv-loop out₀ start index n area d at₀ ordinal₀ place₀ left₀ out at ordinal place left = Walking format4 index area n d out₀ out start at ordinal place left
+Inv-loop out₀ start index n area d at₀ ordinal₀ place₀ left₀ out at ordinal place left = Walking (below-of 0) index area n d out₀ out start at ordinal place left
 
 abbrev μ-loop : tie.MeasureT-loop
 μ-loop out₀ start index n area d at₀ ordinal₀ place₀ left₀ out at ordinal place left = left

@@ -3,7 +3,7 @@ use Prim.Native.Nat.{_-_}
 use native.Mathlib.Omega.{arith}
 use lib.ListN.{length}
 use borrow.Author.Needs.{needs}
-use Rattle.spec.specs.Header.{format4}
+use Rattle.spec.specs.Order.{below-of}
 use Rattle.runs.proofs.Laws.{inside-body, inside-run}
 use Rattle.listing.proofs.Entries.{
   Printing,
@@ -21,7 +21,7 @@ use Rattle.listing.proofs.run_lines.Tie as tie
 
 abbrev Inv-loop : tie.InvT-loop
 Inv-loop out₀ start k block blocks run word₀ len₀ pos₀ at₀ ordinal₀ out word len pos at ordinal =
-    Printing format4 run word len pos block blocks out₀ out start at k ordinal
+    Printing (below-of 0) run word len pos block blocks out₀ out start at k ordinal
 
 abbrev μ-loop : tie.MeasureT-loop
 μ-loop out₀ start k block blocks run word₀ len₀ pos₀ at₀ ordinal₀ out word len pos at ordinal = length run - pos

@@ -13,24 +13,8 @@ use Rattle.parts.specs.Part.{part-of}
 use Rattle.parts.specs.Merge.{todo, changed-entries, CursorOk}
 use Rattle.parts.proofs.PartLaws.{none-left, used-some, fewer-left}
 use Rattle.parts.proofs.Laws.{first-bytes, none-zero, begun-todo, todo-short}
-use Rattle.newruns.proofs.Laws.{
-  laid,
-  elements-long,
-  Writing,
-  planning-under,
-  planning-more,
-  writing-start,
-  writing-more,
-  written-image,
-  written-size,
-  written-free,
-  length-lent,
-  run-room,
-  element-fits,
-  element-past,
-  head-stands,
-  part-stored,
-}
+use Rattle.newruns.specs.Laid.{laid, elements-long}
+use Rattle.newruns.proofs.Laws.{Writing, planning-under, planning-more, writing-start, writing-more, written-image, written-size, written-free, length-lent, run-room, element-fits, element-past, head-stands, part-stored}
 use Rattle.newruns.proofs.write_parts.Statement.{statement}
 use Rattle.newruns.proofs.write_parts.Tie as tie
 
@@ -38,9 +22,9 @@ abbrev Inv-loop : tie.InvT-loop
 Inv-loop image₀ start at run h body fresh free₀ g end word₀ part₀ cur₀ d₀ out₀ image free word part cur d out =
     (length word ≡ 256) × (length part ≡ 3328) × CursorOk run word cur × (length image ≡ length image₀) × (length free ≡ length free₀) × (2560 ≤ length free)
     × (g ≤ d)
-    × (laid g end (marks free₀) (changed-entries run h body fresh) .end ≤ 98304)
-    × (start + 256 * laid g end (marks free₀) (changed-entries run h body fresh) .end ≤ length image₀)
-    × (at + elements-long g (laid g end (marks free₀) (changed-entries run h body fresh) .places) (changed-entries run h body fresh) ≤ length image₀)
+    × (laid 1024 g end (marks free₀) (changed-entries run h body fresh) .end ≤ 98304)
+    × (start + 256 * laid 1024 g end (marks free₀) (changed-entries run h body fresh) .end ≤ length image₀)
+    × (at + elements-long 2 1024 g (laid 1024 g end (marks free₀) (changed-entries run h body fresh) .places) (changed-entries run h body fresh) ≤ length image₀)
     × Writing start g at end (marks free₀) (changed-entries run h body fresh) image₀ out d (marks free) (todo run word h body cur) image
 
 abbrev μ-loop : tie.MeasureT-loop
@@ -231,8 +215,8 @@ returns : tie.Need-returns Inv-loop μ-loop
 returns c =
     let none = none-left _ _ (after-encode-part .encode-part .ensures .1 .0) (c .if1 .taken) in
     let w = at-loop .loop .inv .10 in (
-      written-image _ _ _ _ _ _ _ _ _ _ _ _ w none,
-      (written-size _ _ _ _ _ _ _ _ _ _ _ _ w none, (written-free _ _ _ _ _ _ _ _ _ _ _ _ w none, (omega arith, omega arith))),
+      (written-image _ _ _ _ _ _ _ _ _ _ _ _ w none, written-size _ _ _ _ _ _ _ _ _ _ _ _ w none, written-free _ _ _ _ _ _ _ _ _ _ _ _ w none),
+      (omega arith, omega arith),
     )
   where
     after-encode-part : tie.After-encode-part Inv-loop μ-loop

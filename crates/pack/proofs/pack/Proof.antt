@@ -5,7 +5,6 @@ use mathlib.Core.List.{List}
 use native.Mathlib.Omega.{arith}
 use lib.ListN.{length}
 use denote.Ref.{now}
-use Rattle.spec.specs.Header.{format4}
 use Rattle.spec.specs.Index.{elements-bytes}
 use Rattle.index.specs.Elements.{elements-at}
 use Rattle.inspect.proofs.Laws.{index-part, data-long}
@@ -52,7 +51,7 @@ after-nindex2-of-need c = search
 
 -- its elements fit in the new one
 holds : (c : tie.After-need)
-    → 256 + length (elements-bytes format4 (elements-at (old-index c) 0 (after-nindex2-of-need c .nindex2 .result))) ≤ 256 + 256 * c .need .result
+    → 256 + length (elements-bytes 2 (elements-at (old-index c) 0 (after-nindex2-of-need c .nindex2 .result))) ≤ 256 + 256 * c .need .result
 holds c =
     index-holds _ _ _ (start .pre .0) (start .pre .1 .0 .0) _ (after-nindex2 .nindex2 .ensures .0) _ _ (start .pre .1 .1 .0) (c .need .ensures)
   where

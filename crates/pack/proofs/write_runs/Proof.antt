@@ -2,7 +2,6 @@
 use Prim.Native.Nat.{_+_, _*_, _≤_}
 use mathlib.Core.Path.{_≡_}
 use lib.ListN.{length}
-use Rattle.spec.specs.Header.{format4}
 use Rattle.spec.specs.Index.{elements-bytes}
 use Rattle.index.specs.Elements.{elements-at, Inside}
 use Rattle.pack.proofs.Laws.{Underway, run-inside, run-fits, element-fits, underway-turn, write-laws}
@@ -13,7 +12,7 @@ use Rattle.pack.proofs.write_runs.Tie as tie
 
 abbrev Inv-loop : tie.InvT-loop
 Inv-loop image₀ base index n area d at₀ out₀ b₀ left₀ image at out b left =
-    (length image ≡ length image₀) × (256 + length (elements-bytes format4 (elements-at index 0 n)) ≤ base) × (base + 256 * b ≤ length image)
+    (length image ≡ length image₀) × (256 + length (elements-bytes 2 (elements-at index 0 n)) ≤ base) × (base + 256 * b ≤ length image)
     × Inside index at left × Underway index area n d base image₀ image at out b left
 
 abbrev μ-loop : tie.MeasureT-loop

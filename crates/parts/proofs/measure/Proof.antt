@@ -4,7 +4,7 @@ use mathlib.Core.Path.{_≡_, refl, sym, _∙_}
 use native.Mathlib.Omega.{arith}
 use lib.ListN.{length}
 use mathlib.Core.List.{[]}
-use Rattle.spec.specs.Header.{format4}
+use Rattle.spec.specs.Order.{below-of}
 use Rattle.parts.specs.Merge.{entries-left, ahead, todo, changed-entries, CursorOk, Met}
 use Rattle.parts.proofs.MeasureLaws.{parts-in, bytes-in, blocks-in, Counting, counted, parts-more, bytes-more, blocks-more}
 use Rattle.parts.proofs.PartLaws.{used-some, fewer-left}
@@ -19,7 +19,7 @@ Inv-loop run h body fresh word₀ part₀ cur₀ parts₀ bytes₀ blocks₀ fou
     × Counting (changed-entries run h body fresh) (todo run word h body cur) parts bytes blocks
     × (parts-in (changed-entries run h body fresh) ≤ 8388609) × (bytes-in (changed-entries run h body fresh) ≤ 2105540859)
     × (blocks-in (changed-entries run h body fresh) ≤ 109051917)
-    × Met h (entries-left format4 [] run) found (ahead run word cur)
+    × Met h (entries-left (below-of 0) [] run) found (ahead run word cur)
 
 abbrev μ-loop : tie.MeasureT-loop
 μ-loop run h body fresh word₀ part₀ cur₀ parts₀ bytes₀ blocks₀ found₀ word part cur parts bytes blocks found = length (todo run word h body cur)

@@ -1,7 +1,6 @@
 use Prim.Native.Nat.{_-_}
 use lib.ListN.{length}
 use borrow.Author.Needs.{needs}
-use Rattle.spec.specs.Header.{format4}
 use Rattle.spec.specs.Order.{below-of}
 use Rattle.runs.proofs.Laws.{step-less, inside-rest, inside-body, inside-run, inside-short}
 use Rattle.runs.proofs.Returns.{none-inside-end}
@@ -11,7 +10,7 @@ use Rattle.seek.proofs.find_in_run.Statement.{statement}
 use Rattle.seek.proofs.find_in_run.Tie as tie
 
 abbrev Inv-loop : tie.InvT-loop
-Inv-loop run above h word₀ pos₀ n₀ word pos n = Passing format4 (below-of 0) above h run word₀ word pos n
+Inv-loop run above h word₀ pos₀ n₀ word pos n = Passing (below-of 0) (below-of 0) above h run word₀ word pos n
 
 abbrev μ-loop : tie.MeasureT-loop
 μ-loop run above h word₀ pos₀ n₀ word pos n = length run - pos

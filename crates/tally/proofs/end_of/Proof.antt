@@ -1,10 +1,11 @@
-use Rattle.tally.proofs.RunsLaws.{carried-none, none-inside, carried-some, number-inside}
+use Rattle.index.proofs.Laws.{inside-at}
+use Rattle.tally.proofs.RunsLaws.{carried-none, carried-some, number-inside}
 use borrow.Author.Needs.{needs}
 use Rattle.tally.proofs.end_of.Statement.{statement}
 use Rattle.tally.proofs.end_of.Tie as tie
 
 returns : tie.Need-returns
-returns c = (search carried-none, search none-inside)
+returns c = (search carried-none, search inside-at)
 
 element-end-requires : tie.Need-element-end-requires
 element-end-requires c κs = number-inside _ _ _ (start .pre) (tested .if1 .left)

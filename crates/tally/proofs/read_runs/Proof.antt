@@ -2,7 +2,7 @@ use Prim.Native.Nat.{_+_, _-_, _*_, _≤_}
 use mathlib.Core.Path.{_≡_}
 use native.Mathlib.Omega.{arith}
 use lib.ListN.{length}
-use Rattle.spec.specs.Header.{format4}
+use Rattle.spec.specs.Order.{below-of}
 use Rattle.marks.specs.Marks.{marks}
 use Rattle.tally.specs.Tally.{Carried}
 use Rattle.tally.proofs.RunsLaws.{Walking, Underway, walk-reading, walk-turn, walk-behind, walk-on, zero-behind, zero-inside, runs-laws}
@@ -20,7 +20,7 @@ abbrev μ-loop : tie.MeasureT-loop
 
 abbrev Inv-walk : tie.InvT-walk
 Inv-walk index n area d used₀ word₀ words₀ blocks₀ at₀ left₀ end₀ used word words blocks at left end =
-    (length word ≡ 256) × (length used ≡ length used₀) × Walking format4 index area n d (marks used₀) words blocks at left (marks used)
+    (length word ≡ 256) × (length used ≡ length used₀) × Walking (below-of 0) index area n d (marks used₀) words blocks at left (marks used)
     × Carried index at left end
 
 abbrev μ-walk : tie.MeasureT-walk

@@ -1,0 +1,36 @@
+-- The parts of the entries that a changed run is to have: where they go, and what is written for them.
+use Prim.Native.Nat.{ℕ, _+_, _*_, _≤_}
+use mathlib.Core.Path.{_≡_}
+use mathlib.Core.Bool.{Bool}
+use mathlib.Core.List.{List, map}
+use lib.ListN.{length}
+use Rattle.spec.specs.Entry.{Entry}
+use Rattle.spec.specs.Run.{run-size}
+use Rattle.spec.specs.Index.{elements-bytes}
+use Rattle.spec.specs.Place.{cut, element-of}
+use Rattle.placing.specs.Spread.{Spread, spread}
+use Rattle.plan.specs.Written.{part-runs, parts-written}
+
+-- how many blocks each part takes, by the run limit
+abbrev pub sizes-of : ℕ → List Entry → List ℕ
+sizes-of limit es = map run-size (cut limit es)
+
+-- the parts placed in order among the blocks g to d − 1, or from d on
+abbrev pub laid : ℕ → ℕ → ℕ → List Bool → List Entry → Spread
+laid limit g d ms es = spread g d ms (sizes-of limit es)
+
+-- how many bytes their index elements take, where they have these places
+abbrev pub elements-long : ℕ → ℕ → ℕ → List ℕ → List Entry → ℕ
+elements-long width limit g places es = length (elements-bytes width (map element-of (part-runs g places (cut limit es))))
+
+-- A slice of that length has room for the parts, counted from `start` on, and for their elements from `at` on.
+abbrev pub PartsFit : ℕ → ℕ → ℕ → ℕ → ℕ → ℕ → List Bool → List Entry → ℕ → Type 0
+PartsFit width limit start at g end ms es long =
+    let s : Spread = laid limit g end ms es in
+    ((s .end ≤ 98_304) × (start + 256 * s .end ≤ long)) × (at + elements-long width limit g (s .places) es ≤ long)
+
+-- The parts and their elements are written over the slice s, which leaves s′; the elements end at r, and ms′ are the marks then.
+abbrev pub PartsPut : ℕ → ℕ → ℕ → ℕ → ℕ → ℕ → List Bool → List Entry → List ℕ → List ℕ → ℕ → List Bool → Type 0
+PartsPut width limit start at g end ms es s s′ r ms′ =
+    let p : Spread = laid limit g end ms es in
+    (s′ ≡ parts-written width start g at (p .places) (cut limit es) s) × (r ≡ at + elements-long width limit g (p .places) es) × (ms′ ≡ p .free)
