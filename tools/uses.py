@@ -1,7 +1,8 @@
 #!/usr/bin/env python3
 """uses.py: crates.txt lists for each crate the crates that it names itself, and no others. A crate names X where its code,
 specifications or proofs say `Rattle.X`, or its code says `X::` or `use X`; comments and must-fail edits do not count. What only the
-crates below need is not listed: rt finds it by their lines."""
+crates below need is not listed: rt finds it by their lines. And what contracts and specifications cite stands in specs/: neither names
+a module of proofs/."""
 import glob
 import re
 import sys
@@ -26,6 +27,13 @@ def named(crate):
     return {*re.findall(r'Rattle·(\w+)', code + proofs), *re.findall(r'\buse (\w+)', code), *re.findall(r'(?<![\w:])(\w+)::', code)}
 
 
+def proofs_cited(crate):
+    """The imports by which contracts or specifications of a crate cite a module of proofs/."""
+    paths = glob.glob(f'crates/{crate}/src/*.rt') + glob.glob(f'crates/{crate}/specs/**/*.antt', recursive=True)
+    return [f'{path}:{number}: cites proofs/' for path in sorted(paths) for number, line in enumerate(open(path, encoding='utf-8'), 1)
+            if re.match(r'\s*(ghost |pub )*use \S+\.proofs\.', line)]
+
+
 def main():
     crates = listed()
     wrong = []
@@ -33,6 +41,7 @@ def main():
         words = named(crate)
         wrong += [f'{crate}: lists {use}, which it names nowhere' for use in uses if use not in words]
         wrong += [f'{crate}: names {use}, which it does not list' for use in sorted(words & {*crates, *KIT} - {crate, *uses})]
+        wrong += proofs_cited(crate)
     print('\n'.join(wrong) if wrong else f'uses.py: {sum(map(len, crates.values()))} uses, each in crates.txt and in the code')
     sys.exit(1 if wrong else 0)
 
