@@ -34,6 +34,7 @@ that has one, each path `c .before .. .before` becomes a name, that of the place
 - Each place is searched from the one that is bound above it, so that no search has far to go: `search` enters 128 records in all, those of
   `c` among them, which is some 10 to 20 places. Where a search stops short of its place (`no proof of tie.PLACE was found`), bind one between.
 - A place that the answer names by a `let`, or by an `abbrev` of the file from place to place, is cited as the others are.
+- A file of laws has no places: its long lines are broken, and that is all.
 - In a signature, which has no `where`, a function in front of it does the same:
     abbrev start-of-copy : tie.After-copy → tie.Start
     start-of-copy c = search
@@ -53,8 +54,8 @@ HELPER = re.compile(r'^    (\S+) : tie\.([^\s()]+)', re.M)
 # no line is broken behind these, nor in front of those
 BEHIND = set('∙ ≡ ++ × → * + - < ≤ ∷ = : λ let'.split())
 FRONT = {'in', '=', ':', 'where'}
-# a line is broken rather in front of these
-LOOSE = set('→ ≡ × ∙'.split())
+# a line is broken rather in front of these, of the first row that it has
+LOOSE = [set(row.split()) for row in ('→ ↔', '≡ × ⊎', '∙', '++ ∷')]
 
 
 def places(path):
@@ -113,10 +114,13 @@ def cut(text, at_space):
 
 
 def split(text):
-    """The parts of a text that is too long for a line: at commas, else in front of an operator, else at arguments."""
-    parts = cut(text, lambda at: text[at - 1] in ',;')
+    """The parts of a text that is too long for a line: a `let` and its value, else at commas, else in front of an operator, else at arguments."""
+    parts = cut(text, lambda at: text.startswith('let ') and text[at:at + 3] == ' = ')
     if len(parts) == 1:
-        parts = cut(text, lambda at: text[at + 1:].split(' ')[0] in LOOSE)
+        parts = cut(text, lambda at: text[at - 1] in ',;')
+    for row in LOOSE:
+        if len(parts) == 1:
+            parts = cut(text, lambda at: text[at + 1:].split(' ')[0] in row)
     if len(parts) == 1:
         parts = []
         # a projection stays with what it is of
@@ -199,7 +203,7 @@ class Proof:
         self.text = open(file, encoding='utf-8').read()
         self.kinds, self.gives, self.made, self.unbound = {}, {}, set(), []
         found = re.search(r'crates/([^/]+)/proofs/(.*)/Proof\.antt$', os.path.abspath(file))
-        self.before, self.needs = {}, {}
+        self.before, self.needs, self.laws = {}, {}, not found
         if found:
             crate, function = found.groups()
             lts = f'{options.root}/target/goals/{crate}/Rattle.{crate}.proofs/proofs/{function}/Lts.antt'
@@ -373,7 +377,7 @@ class Proof:
     def rewritten(self):
         if not self.long(self.text) and not self.deep(self.text):
             return self.text
-        if not self.before and re.search(path('c'), self.text):
+        if not self.laws and not self.before and re.search(path('c'), self.text):
             self.unbound.append(('all', 'left alone, for target/goals has nothing of it: run rt goals'))
             return self.text
         out = []
@@ -399,7 +403,7 @@ class Proof:
                 if found and len(block.split('\n')[0]) > self.options.width:
                     block = f'{found.group()}\n    {block[found.end():].lstrip()}'
                 kept = [path.count('.before') for path in re.findall(r'(?<![^\s(,{\[;])[^\s.(]\S*(?: \.before)+(?![^\s),;}\]])', block)]
-                if max(kept, default=0) > self.options.keep and not self.options.paths:
+                if max(kept, default=0) > self.options.keep and not self.options.paths and not self.laws:
                     self.unbound.append((name, f'a path of {max(kept)} .before stays'))
                 block = '\n'.join(piece for line in block.split('\n') for piece in wrap(line, self.options.width))
                 if self.long(block):
