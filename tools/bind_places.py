@@ -55,7 +55,7 @@ HELPER = re.compile(r'^    (\S+) : tie\.([^\s()]+)', re.M)
 BEHIND = set('∙ ≡ ++ × → * + - < ≤ ∷ = : λ let'.split())
 FRONT = {'in', '=', ':', 'where'}
 # a line is broken rather in front of these, of the first row that it has
-LOOSE = [set(row.split()) for row in ('→ ↔', '≡ × ⊎', '∙', '++ ∷')]
+LOOSE = [set(row.split()) for row in ('→ ↔', '× ⊎', '≡ ≤ <', '∙', '++ ∷')]
 
 
 def places(path):
