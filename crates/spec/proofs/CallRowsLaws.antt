@@ -3,34 +3,35 @@ use Prim.Native.Nat.{ℕ, _<_, _≤_}
 use mathlib.Core.Path.{_≡_, refl, sym, ap, _∙_}
 use mathlib.Core.Logic.{_⊎_, inl, inr, ⊎-elim, _↔_, Iff·trans}
 use mathlib.Core.Bool.{Bool, true, false, not, _&&_, _||_, false≢true}
-use mathlib.Core.List.{List}
+use mathlib.Core.List.{List, [], _∷_, _++_}
 use mathlib.Core.Option.{Option, none, some}
 use native.Mathlib.Omega.{arith}
 use lib.ListN.{length, take}
-use lib.Dec.{T, ltb}
+use lib.Dec.{T, ltb, eqb}
 use lib.Pow.{areBytes}
-use borrow.Author.Tests.{ltb-true, ltb-false, lt-ltb, le-ltb, not-true, not-false}
+use borrow.Author.Tests.{ltb-true, ltb-false, lt-ltb, le-ltb, eqb-true, not-true, not-false}
 use Rattle.spec.specs.Outcome.{Outcome, refused, ok, _>>=_, _>>_, refuse_when_}
+use Rattle.spec.specs.Lists.{all, any, _∈_}
 use Rattle.spec.specs.Header.{layout4, empty-image, writable}
 use Rattle.spec.specs.Entry.{Entry, headword-ok, text-ok, attribute-ok, attribute, text}
 use Rattle.spec.specs.Check.{Image, slice-ok, work-ok, image-from, image-in, entries-of}
 use Rattle.spec.specs.SortedList.{lookup, successor}
 use Rattle.spec.specs.Place.{Plan, plan-full}
 use Rattle.spec.specs.Calls.{create-bytes, create-result, create, figures, check, text-fitted, look-up-in, look-up-entry, look-up-result, look-up, entry-fitted, start-ok, walk-in, walk-entry, walk-result, walk, changeable, fitting, changed, plan-length, insert-plan, insert-result, insert, delete-plan, delete-result, delete, optimise-plan, optimise-result, optimise}
-use Rattle.spec.specs.Rows.{No, SliceRule, FirstRowBroken}
+use Rattle.spec.specs.Rows.{No, slices, numbers, content-numbers, image-numbers, SliceRule, FirstRowBroken}
 use Rattle.spec.specs.Claim.{insert-placing, delete-placing, optimise-placing}
-use Rattle.spec.specs.CallRows.{ImageRows, CreateRows, CheckRows, LookUpRows, WalkRows, ChangeRows, MayChange, InsertRows, DeleteRows, OptimiseRows, FirstNumbers}
-use Rattle.spec.proofs.ListsLaws.{or-cases, or-right, less-or}
-use Rattle.spec.proofs.OutcomeLaws.{ok-not-refused, same-value, when-ok, bind-ok, next-ok, when-refused, bind-refused, next-refused, then-refused}
+use Rattle.spec.specs.CallRows.{ImageRows, CreateRows, CheckRows, LookUpRows, WalkRows, change-numbers, ChangeRows, MayChange, InsertRows, DeleteRows, OptimiseRows, FirstNumbers}
+use Rattle.spec.proofs.ListsLaws.{or-cases, or-right, in-front, in-back, in-all}
+use Rattle.spec.proofs.OutcomeLaws.{ok-not-refused, same-value, Among, when-ok, bind-ok, next-ok, when-refused, bind-refused, next-refused, then-refused}
 use Rattle.spec.proofs.StoredHeaderLaws.{slice-stored, slice-one, slice-refused}
 use Rattle.spec.proofs.RowsLaws.{first-row-broken}
 use Rattle.spec.proofs.AnswerLaws.{in-told}
 use Rattle.spec.proofs.ClaimLaws.{packed-room}
 
--- the image's own rows: 1, and 3 to 10
-image-number : (s : List ℕ) (L : ℕ) → T (areBytes s) → (n : ℕ) → image-in s L ≡ refused n → n ≤ 10
+-- the image's own rows
+image-told : (s : List ℕ) (L : ℕ) → T (areBytes s) → Among image-numbers (image-in s L)
 unfolding FirstRowBroken
-image-number s L small n h = ⊎-elim (λ (e : n ≡ 1). omega arith) (λ (e : (3 ≤ n) × (n ≤ 10)). e .1) (first-row-broken s L small .no-other n h)
+image-told s L small = first-row-broken s L small .no-other
 
 -- Look up and walk: an image, row 12 by the argument, row 14 by the entry found.
 module _ (s : List ℕ) (L : ℕ) (bad : Bool) (found : Image → Option Entry) (short : Entry → Bool) where
@@ -65,37 +66,41 @@ module _ (s : List ℕ) (L : ℕ) (bad : Bool) (found : Image → Option Entry) 
   reads-back n (by-output i e got b l t m) = rw (got, b, l, t, m)
 
   module _ (small : T (areBytes s)) where
-    reads-image : (n : ℕ) → n ≤ 10 → (reads ≡ refused n) ↔ (image-in s L ≡ refused n)
-    reads-image n few = (λ p. go (reads-told n p), λ e. reads-back n (by-image e))
+    reads-image : (n : ℕ) → n ∈ image-numbers → (reads ≡ refused n) ↔ (image-in s L ≡ refused n)
+    unfolding any numbers content-numbers image-numbers
+    reads-image n own = (λ p. go (reads-told n p), λ e. reads-back n (by-image e))
       where
         go : ReadCase n → image-in s L ≡ refused n
         go (by-image e) = e
-        go (by-argument i got b m) = absurd (omega arith)
-        go (by-output i e got b l t m) = absurd (omega arith)
+        go (by-argument i got b m) = absurd (false≢true (rw m at own))
+        go (by-output i e got b l t m) = absurd (false≢true (rw m at own))
 
     reads-twelve : (reads ≡ refused 12) ↔ ((i : Image) × (image-in s L ≡ ok i) × (bad ≡ true))
+    unfolding any numbers content-numbers image-numbers
     reads-twelve = (λ p. go (reads-told 12 p), λ (i, got, b). reads-back 12 (by-argument i got b refl))
       where
         go : ReadCase 12 → (i : Image) × (image-in s L ≡ ok i) × (bad ≡ true)
-        go (by-image e) = absurd (omega (arith, image-number s L small 12 e))
+        go (by-image e) = absurd (false≢true (image-told s L small 12 e))
         go (by-argument i got b m) = (i, got, b)
         go (by-output i e got b l t m) = absurd (omega arith)
 
     reads-fourteen : (reads ≡ refused 14) ↔ ((i : Image) × (e : Entry) × (image-in s L ≡ ok i) × (bad ≡ false) × (found i ≡ some e) × (short e ≡ true))
+    unfolding any numbers content-numbers image-numbers
     reads-fourteen = (λ p. go (reads-told 14 p), λ (i, e, got, b, l, t). reads-back 14 (by-output i e got b l t refl))
       where
         go : ReadCase 14 → (i : Image) × (e : Entry) × (image-in s L ≡ ok i) × (bad ≡ false) × (found i ≡ some e) × (short e ≡ true)
-        go (by-image e) = absurd (omega (arith, image-number s L small 14 e))
+        go (by-image e) = absurd (false≢true (image-told s L small 14 e))
         go (by-argument i got b m) = absurd (omega arith)
         go (by-output i e got b l t m) = (i, e, got, b, l, t)
 
-    reads-others : (n : ℕ) → reads ≡ refused n → (n ≤ 10) ⊎ (n ≡ 12) ⊎ (n ≡ 14)
+    reads-others : Among (image-numbers ++ 12 ∷ 14 ∷ []) reads
+    unfolding any
     reads-others n p = go (reads-told n p)
       where
-        go : ReadCase n → (n ≤ 10) ⊎ (n ≡ 12) ⊎ (n ≡ 14)
-        go (by-image e) = inl (image-number s L small n e)
-        go (by-argument i got b m) = inr (inl m)
-        go (by-output i e got b l t m) = inr (inr m)
+        go : ReadCase n → n ∈ image-numbers ++ 12 ∷ 14 ∷ []
+        go (by-image e) = in-front image-numbers (12 ∷ 14 ∷ []) n (image-told s L small n e)
+        go (by-argument i got b m) = in-back image-numbers (12 ∷ 14 ∷ []) n (rw m)
+        go (by-output i e got b l t m) = in-back image-numbers (12 ∷ 14 ∷ []) n (rw m)
 
 -- a look up's answer is refused where the outcome is
 look-up-answered : (s : List ℕ) (L : ℕ) (h out : List ℕ) (n : ℕ) → (look-up s L h out .answer ≡ refused n)
@@ -163,31 +168,41 @@ walk-rows s L above h x y small =
     short-either e (inl p) = rw (lt-ltb (length x) (length (e .headword)) p)
     short-either e (inr p) = or-right (ltb (length x) (length (e .headword))) (ltb (length y) (length (text e))) (lt-ltb (length y) (length (text e)) p)
 
--- Changing calls: rows 1 to 11.
+-- none of these numbers is one with which a changing call begins
+abbrev Later : List ℕ → Type 0
+Later own = all (λ n. not (any (eqb n) change-numbers)) own ≡ true
+
+-- what the image holds is among those
+content-begins : (n : ℕ) → n ∈ content-numbers → n ∈ change-numbers
+unfolding numbers change-numbers
+content-begins n a = in-front (numbers slices ++ 2 ∷ content-numbers) (11 ∷ []) n (in-back (numbers slices ++ 2 ∷ []) content-numbers n a)
+
+-- Changing calls: the rows with which they begin.
 module _ (s : List ℕ) (L : ℕ) (work : List ℕ) where
   -- why the image may not be changed
   data ChangeCase (n : ℕ) : Type 0 where
     by-slice : No (SliceRule s L) → n ≡ 1 → ChangeCase n
     by-work : SliceRule s L → length work < length s → n ≡ 2 → ChangeCase n
-    by-found : length s ≤ length work → image-in s L ≡ refused n → 3 ≤ n → n ≤ 10 → ChangeCase n
+    by-content : length s ≤ length work → image-in s L ≡ refused n → n ∈ content-numbers → ChangeCase n
     by-version : (i : Image) → length s ≤ length work → image-in s L ≡ ok i → writable (i .frame .format .layout) s ≡ false → n ≡ 11 → ChangeCase n
 
-  -- behind row 1 the image is that of rows 3 to 10
+  -- behind row 1 the image is that of its first L bytes
   found-in : slice-ok s L ≡ ok tt → image-in s L ≡ image-from (take L s)
   unfolding image-in
   found-in a = rw a
 
-  -- a refusal of 3 to 10 comes from there
-  found-from : (n : ℕ) → 3 ≤ n → image-in s L ≡ refused n → (slice-ok s L ≡ ok tt) × (image-from (take L s) ≡ refused n)
-  unfolding image-in
-  found-from n a h = ⊎-elim (λ e. absurd (omega (arith, slice-refused s L n e))) (λ (u, e, q). (e, q)) (next-refused (slice-ok s L) (image-from (take L s)) n h)
+  -- a refusal by what the image holds comes from there
+  found-from : (n : ℕ) → n ∈ content-numbers → image-in s L ≡ refused n → (slice-ok s L ≡ ok tt) × (image-from (take L s) ≡ refused n)
+  unfolding image-in any numbers content-numbers
+  found-from n a h = ⊎-elim (λ e. absurd (false≢true (rw (slice-refused s L n e) at a))) (λ (u, e, q). (e, q)) (next-refused (slice-ok s L) (image-from (take L s)) n h)
 
   module _ (small : T (areBytes s)) where
-    -- behind row 1 it is refused by 3 to 10
-    found-number : (n : ℕ) → slice-ok s L ≡ ok tt → image-in s L ≡ refused n → (3 ≤ n) × (n ≤ 10)
-    unfolding FirstRowBroken No
-    found-number n a h =
-        ⊎-elim (λ (e : n ≡ 1). absurd (first-row-broken s L small .row-1 .0 (h ∙ ap refused e) (slice-stored s L .0 a))) (λ (e : (3 ≤ n) × (n ≤ 10)). e) (first-row-broken s L small .no-other n h)
+    -- behind row 1 it is refused by what it holds
+    content-told : slice-ok s L ≡ ok tt → Among content-numbers (image-in s L)
+    unfolding FirstRowBroken No any numbers image-numbers
+    content-told a n h =
+        or-cases (eqb n 1) (any (eqb n) content-numbers) (λ e. absurd (first-row-broken s L small .row-1 .0 (h ∙ ap refused (eqb-true n 1 e)) (slice-stored s L .0 a))) (λ e. e)
+        (image-told s L small n h)
 
     change-told : (n : ℕ) → changeable s L work ≡ refused n → ChangeCase n
     unfolding changeable work-ok
@@ -199,7 +214,7 @@ module _ (s : List ℕ) (L : ℕ) (work : List ℕ) where
         behind a q =
             ⊎-elim (λ (t, m). by-work (slice-stored s L .0 a) (ltb-true (length work) (length s) t) m)
             (λ (f, r).
-            ⊎-elim (λ e. let h : image-in s L ≡ refused n = found-in a ∙ e in by-found (ltb-false (length work) (length s) f) h (found-number n a h .0) (found-number n a h .1))
+            ⊎-elim (λ e. let h : image-in s L ≡ refused n = found-in a ∙ e in by-content (ltb-false (length work) (length s) f) h (content-told a n h))
             (λ (i, got, v).
             ⊎-elim (λ (t, m). by-version i (ltb-false (length work) (length s) f) (found-in a ∙ got) (not-true (writable (i .frame .format .layout) s) t) m) (λ (g, w). absurd (ok-not-refused i n w))
             (when-refused 11 (not (writable (i .frame .format .layout) s)) (ok i) n v))
@@ -210,17 +225,18 @@ module _ (s : List ℕ) (L : ℕ) (work : List ℕ) where
   unfolding changeable work-ok
   change-back n (by-slice b m) = rw (slice-one s L .1 b, m)
   change-back n (by-work r l m) = rw (slice-stored s L .1 r, lt-ltb (length work) (length s) l, m)
-  change-back n (by-found l h a b) = let (q, e) = found-from n a h in rw (q, le-ltb (length work) (length s) l, e)
+  change-back n (by-content l h a) = let (q, e) = found-from n a h in rw (q, le-ltb (length work) (length s) l, e)
   change-back n (by-version i l got w m) = let (q, e) = in-told s L i got in rw (q, le-ltb (length work) (length s) l, e, w, m)
 
-  -- rows 1 to 11 have no higher number
-  low-number : (n : ℕ) → ChangeCase n → 12 ≤ n → ⊥
-  low-number n (by-slice b m) l = omega arith
-  low-number n (by-work r k m) l = omega arith
-  low-number n (by-found k h a b) l = omega arith
-  low-number n (by-version i k got w m) l = omega arith
+  -- they have no other number
+  change-number : (n : ℕ) → ChangeCase n → n ∈ change-numbers
+  unfolding any numbers content-numbers change-numbers
+  change-number n (by-slice b m) = rw m
+  change-number n (by-work r l m) = rw m
+  change-number n (by-content l h a) = content-begins n a
+  change-number n (by-version i l got w m) = rw m
 
-  -- rows 1 to 11 do not apply
+  -- they do not apply
   may-told : (i : Image) → changeable s L work ≡ ok i → MayChange s L work i
   unfolding changeable work-ok
   may-told i p =
@@ -235,43 +251,67 @@ module _ (s : List ℕ) (L : ℕ) (work : List ℕ) where
   unfolding changeable work-ok
   may-back i m = let (q, e) = in-told s L i (m .image) in rw (q, le-ltb (length work) (length s) (m .working-slice), e, m .version)
 
-  -- A call that goes on behind row 11, and is then refused by no number below 12.
-  module _ {A B : Type 0} (small : T (areBytes s)) (o : Outcome A) (k : Image → Outcome B)
-      (same : (n : ℕ) → (o ≡ refused n) ↔ ((changeable s L work >>= k) ≡ refused n)) (high : (i : Image) (n : ℕ) → k i ≡ refused n → 12 ≤ n) where
-    low : (n : ℕ) → n ≤ 11 → (o ≡ refused n) ↔ ChangeCase n
-    low n few = Iff·trans (same n) (λ p. ⊎-elim (λ e. change-told small n e) (λ (i, a, q). absurd (omega (arith, high i n q))) (bind-refused (changeable s L work) k n p), λ c. rw (change-back n c))
+  -- A call that goes on behind row 11, and is then refused by numbers of its own.
+  module _ {A B : Type 0} (small : T (areBytes s)) (o : Outcome A) (k : Image → Outcome B) (same : (n : ℕ) → (o ≡ refused n) ↔ ((changeable s L work >>= k) ≡ refused n))
+      (own : List ℕ) (later : Later own) (told : (i : Image) → Among own (k i)) where
+    -- its own numbers are not those with which it begins
+    own-later : (n : ℕ) → n ∈ own → n ∈ change-numbers → ⊥
+    own-later n p q = false≢true (sym (not-true _ (in-all (λ j. not (any (eqb j) change-numbers)) own n later p)) ∙ q)
+
+    -- why it is refused by a number with which it begins
+    beginning : (n : ℕ) → n ∈ change-numbers → (o ≡ refused n) ↔ ChangeCase n
+    beginning n q =
+        Iff·trans (same n) (
+          λ p. ⊎-elim (λ e. change-told small n e) (λ (i, a, r). absurd (own-later n (told i n r) q)) (bind-refused (changeable s L work) k n p),
+          λ c. rw (change-back n c),
+        )
+
+    -- a number of its own is given behind row 11
+    behind : (n : ℕ) → n ∈ own → (o ≡ refused n) ↔ ((i : Image) × MayChange s L work i × (k i ≡ refused n))
+    behind n q =
+        Iff·trans (same n) (
+          λ p. ⊎-elim (λ e. absurd (own-later n q (change-number n (change-told small n e)))) (λ (i, a, r). (i, may-told i a, r)) (bind-refused (changeable s L work) k n p),
+          λ (i, m, e). rw (may-back i m) e,
+        )
+
+    -- there is no other
+    begins-or-own : Among (change-numbers ++ own) o
+    begins-or-own n p =
+        ⊎-elim (λ e. in-front change-numbers own n (change-number n (change-told small n e))) (λ (i, a, r). in-back change-numbers own n (told i n r))
+        (bind-refused (changeable s L work) k n (same n .0 p))
 
     change-rows : ChangeRows s L work o
+    unfolding any numbers content-numbers change-numbers
     change-rows =
         record {
-          row-1 = Iff·trans (low 1 (omega arith)) (λ c. one c, λ b. by-slice b refl);
-          row-2 = Iff·trans (low 2 (omega arith)) (λ c. two c, λ (r, l). by-work r l refl);
-          rows-3-to-10 = λ n a b. Iff·trans (low n (omega arith)) (λ c. found n a b c, λ (l, h). by-found l h a b);
-          row-11 = Iff·trans (low 11 (omega arith)) (λ c. eleven c, λ (i, l, got, w). by-version i l got w refl);
+          row-1 = Iff·trans (beginning 1 refl) (λ c. one c, λ b. by-slice b refl);
+          row-2 = Iff·trans (beginning 2 refl) (λ c. two c, λ (r, l). by-work r l refl);
+          content-rows = λ n a. Iff·trans (beginning n (content-begins n a)) (λ c. found n a c, λ (l, h). by-content l h a);
+          row-11 = Iff·trans (beginning 11 refl) (λ c. eleven c, λ (i, l, got, w). by-version i l got w refl);
         }
       where
         one : ChangeCase 1 → No (SliceRule s L)
         one (by-slice b m) = b
         one (by-work r l m) = absurd (omega arith)
-        one (by-found l h a b) = absurd (omega arith)
+        one (by-content l h a) = absurd (false≢true a)
         one (by-version i l got w m) = absurd (omega arith)
 
         two : ChangeCase 2 → SliceRule s L × (length work < length s)
         two (by-slice b m) = absurd (omega arith)
         two (by-work r l m) = (r, l)
-        two (by-found l h a b) = absurd (omega arith)
+        two (by-content l h a) = absurd (false≢true a)
         two (by-version i l got w m) = absurd (omega arith)
 
-        found : (n : ℕ) → 3 ≤ n → n ≤ 10 → ChangeCase n → (length s ≤ length work) × (image-in s L ≡ refused n)
-        found n x y (by-slice b m) = absurd (omega arith)
-        found n x y (by-work r l m) = absurd (omega arith)
-        found n x y (by-found l h a b) = (l, h)
-        found n x y (by-version i l got w m) = absurd (omega arith)
+        found : (n : ℕ) → n ∈ content-numbers → ChangeCase n → (length s ≤ length work) × (image-in s L ≡ refused n)
+        found n q (by-slice b m) = absurd (false≢true (rw m at q))
+        found n q (by-work r l m) = absurd (false≢true (rw m at q))
+        found n q (by-content l h a) = (l, h)
+        found n q (by-version i l got w m) = absurd (false≢true (rw m at q))
 
         eleven : ChangeCase 11 → (i : Image) × (length s ≤ length work) × (image-in s L ≡ ok i) × (writable (i .frame .format .layout) s ≡ false)
         eleven (by-slice b m) = absurd (omega arith)
         eleven (by-work r l m) = absurd (omega arith)
-        eleven (by-found l h a b) = absurd (omega arith)
+        eleven (by-content l h a) = absurd (false≢true a)
         eleven (by-version i l got w m) = (i, l, got, w)
 
 -- what follows row 11 of an insertion
@@ -314,29 +354,42 @@ module _ (s : List ℕ) (L : ℕ) (work h : List ℕ) (a : ℕ) (t : List ℕ) w
       go (refused k) p = let e : k ≡ n = cc in rw e
       go (ok p) q = absurd (ok-not-refused (plan-length p) n q)
 
+  -- its own numbers
+  abbrev insert-own : List ℕ
+  insert-own = 12 ∷ 13 ∷ 15 ∷ []
+
+  -- they are not those with which it begins
+  insert-later : Later insert-own
+  unfolding any all numbers content-numbers change-numbers
+  insert-later = refl
+
+  -- it gives no others behind row 11
+  insert-told : (i : Image) → Among insert-own (inserts s h a t i)
+  unfolding any
+  insert-told i n p = go (inserts-told i n p)
+    where
+      go : InsertCase s h a t i n → n ∈ insert-own
+      go (by-headword x m) = rw m
+      go (by-text x y m) = rw m
+      go (by-placing x y z m) = rw m
+
   -- the rows behind row 11
-  insert-behind : T (areBytes s) → (n : ℕ) → 12 ≤ n → (insert s L work h a t .answer ≡ refused n) ↔ ((i : Image) × MayChange s L work i × InsertCase s h a t i n)
-  insert-behind small n many = (
-    λ p. ⊎-elim (λ e. absurd (low-number s L work n (change-told s L work small n e) many)) (λ (i, q, r). (i, may-told s L work i q, inserts-told i n r))
-        (bind-refused (changeable s L work) (inserts s h a t) n (insert-answered n .0 p)),
-    λ (i, m, c). insert-answered n .1 (rw (may-back s L work i m) (inserts-back i n c)),
-  )
+  insert-behind : T (areBytes s) → (n : ℕ) → n ∈ insert-own → (insert s L work h a t .answer ≡ refused n) ↔ ((i : Image) × MayChange s L work i × InsertCase s h a t i n)
+  insert-behind small n q =
+      Iff·trans (behind s L work small (insert s L work h a t .answer) (inserts s h a t) insert-answered insert-own insert-later insert-told n q)
+      (λ (i, m, e). (i, m, inserts-told i n e), λ (i, m, c). (i, m, inserts-back i n c))
 
   insert-rows : T (areBytes s) → InsertRows s L work h a t
+  unfolding any
   insert-rows small =
       record {
-        change-rows = change-rows s L work small (insert s L work h a t .answer) (inserts s h a t) insert-answered (λ i n p. high (inserts-told i n p));
-        row-12 = Iff·trans (insert-behind small 12 (omega arith)) (λ (i, m, c). (i, m, twelve c), λ (i, m, x). (i, m, by-headword x refl));
-        row-13 = Iff·trans (insert-behind small 13 (omega arith)) (λ (i, m, c). let (x, y) = thirteen c in (i, m, x, y), λ (i, m, x, y). (i, m, by-text x y refl));
-        row-15 = Iff·trans (insert-behind small 15 (omega arith)) (λ (i, m, c). let (x, y, z) = fifteen c in (i, m, x, y, z), λ (i, m, x, y, z). (i, m, by-placing x y z refl));
-        no-other = λ n p. ⊎-elim (λ (l : n < 12). inl (omega arith)) (λ (l : 12 ≤ n). let (i, m, c) = insert-behind small n l .0 p in others c) (less-or n 12);
+        change-rows = change-rows s L work small (insert s L work h a t .answer) (inserts s h a t) insert-answered insert-own insert-later insert-told;
+        row-12 = Iff·trans (insert-behind small 12 refl) (λ (i, m, c). (i, m, twelve c), λ (i, m, x). (i, m, by-headword x refl));
+        row-13 = Iff·trans (insert-behind small 13 refl) (λ (i, m, c). let (x, y) = thirteen c in (i, m, x, y), λ (i, m, x, y). (i, m, by-text x y refl));
+        row-15 = Iff·trans (insert-behind small 15 refl) (λ (i, m, c). let (x, y, z) = fifteen c in (i, m, x, y, z), λ (i, m, x, y, z). (i, m, by-placing x y z refl));
+        no-other = begins-or-own s L work small (insert s L work h a t .answer) (inserts s h a t) insert-answered insert-own insert-later insert-told;
       }
     where
-      high : {i : Image} {n : ℕ} → InsertCase s h a t i n → 12 ≤ n
-      high (by-headword x m) = omega arith
-      high (by-text x y m) = omega arith
-      high (by-placing x y z m) = omega arith
-
       twelve : {i : Image} → InsertCase s h a t i 12 → headword-ok h ≡ false
       twelve (by-headword x m) = x
       twelve (by-text x y m) = absurd (omega arith)
@@ -351,11 +404,6 @@ module _ (s : List ℕ) (L : ℕ) (work h : List ℕ) (a : ℕ) (t : List ℕ) w
       fifteen (by-headword x m) = absurd (omega arith)
       fifteen (by-text x y m) = absurd (omega arith)
       fifteen (by-placing x y z m) = (x, y, z)
-
-      others : {i : Image} {n : ℕ} → InsertCase s h a t i n → (n ≤ 13) ⊎ (n ≡ 15)
-      others (by-headword x m) = inl (omega arith)
-      others (by-text x y m) = inl (omega arith)
-      others (by-placing x y z m) = inr m
 
 -- what follows row 12 of a deletion, by the entry looked up
 abbrev removes : List ℕ → List ℕ → Image → Option Entry → Outcome (Option Plan)
@@ -397,27 +445,40 @@ module _ (s : List ℕ) (L : ℕ) (work h : List ℕ) where
       go (ok none) q = absurd (ok-not-refused none n q)
       go (ok (some p)) q = absurd (ok-not-refused (some (plan-length p)) n q)
 
+  -- its own numbers
+  abbrev delete-own : List ℕ
+  delete-own = 12 ∷ 15 ∷ []
+
+  -- they are not those with which it begins
+  delete-later : Later delete-own
+  unfolding any all numbers content-numbers change-numbers
+  delete-later = refl
+
+  -- it gives no others behind row 11
+  delete-told : (i : Image) → Among delete-own (deletes s h i)
+  unfolding any
+  delete-told i n p = go (deletes-told i n p)
+    where
+      go : DeleteCase s h i n → n ∈ delete-own
+      go (by-headword x m) = rw m
+      go (by-placing e x l z m) = rw m
+
   -- the rows behind row 11
-  delete-behind : T (areBytes s) → (n : ℕ) → 12 ≤ n → (delete s L work h .answer ≡ refused n) ↔ ((i : Image) × MayChange s L work i × DeleteCase s h i n)
-  delete-behind small n many = (
-    λ p. ⊎-elim (λ e. absurd (low-number s L work n (change-told s L work small n e) many)) (λ (i, q, r). (i, may-told s L work i q, deletes-told i n r))
-        (bind-refused (changeable s L work) (deletes s h) n (delete-answered n .0 p)),
-    λ (i, m, c). delete-answered n .1 (rw (may-back s L work i m) (deletes-back i n c)),
-  )
+  delete-behind : T (areBytes s) → (n : ℕ) → n ∈ delete-own → (delete s L work h .answer ≡ refused n) ↔ ((i : Image) × MayChange s L work i × DeleteCase s h i n)
+  delete-behind small n q =
+      Iff·trans (behind s L work small (delete s L work h .answer) (deletes s h) delete-answered delete-own delete-later delete-told n q)
+      (λ (i, m, e). (i, m, deletes-told i n e), λ (i, m, c). (i, m, deletes-back i n c))
 
   delete-rows : T (areBytes s) → DeleteRows s L work h
+  unfolding any
   delete-rows small =
       record {
-        change-rows = change-rows s L work small (delete s L work h .answer) (deletes s h) delete-answered (λ i n p. high (deletes-told i n p));
-        row-12 = Iff·trans (delete-behind small 12 (omega arith)) (λ (i, m, c). (i, m, twelve c), λ (i, m, x). (i, m, by-headword x refl));
-        row-15 = Iff·trans (delete-behind small 15 (omega arith)) (λ (i, m, c). let (e, x, l, z) = fifteen c in (i, e, m, x, l, z), λ (i, e, m, x, l, z). (i, m, by-placing e x l z refl));
-        no-other = λ n p. ⊎-elim (λ (l : n < 12). inl (omega arith)) (λ (l : 12 ≤ n). let (i, m, c) = delete-behind small n l .0 p in others c) (less-or n 12);
+        change-rows = change-rows s L work small (delete s L work h .answer) (deletes s h) delete-answered delete-own delete-later delete-told;
+        row-12 = Iff·trans (delete-behind small 12 refl) (λ (i, m, c). (i, m, twelve c), λ (i, m, x). (i, m, by-headword x refl));
+        row-15 = Iff·trans (delete-behind small 15 refl) (λ (i, m, c). let (e, x, l, z) = fifteen c in (i, e, m, x, l, z), λ (i, e, m, x, l, z). (i, m, by-placing e x l z refl));
+        no-other = begins-or-own s L work small (delete s L work h .answer) (deletes s h) delete-answered delete-own delete-later delete-told;
       }
     where
-      high : {i : Image} {n : ℕ} → DeleteCase s h i n → 12 ≤ n
-      high (by-headword x m) = omega arith
-      high (by-placing e x l z m) = omega arith
-
       twelve : {i : Image} → DeleteCase s h i 12 → headword-ok h ≡ false
       twelve (by-headword x m) = x
       twelve (by-placing e x l z m) = absurd (omega arith)
@@ -425,10 +486,6 @@ module _ (s : List ℕ) (L : ℕ) (work h : List ℕ) where
       fifteen : {i : Image} → DeleteCase s h i 15 → (e : Entry) × (headword-ok h ≡ true) × (lookup h (entries-of i) ≡ some e) × (plan-full s (delete-placing i h) ≡ true)
       fifteen (by-headword x m) = absurd (omega arith)
       fifteen (by-placing e x l z m) = (e, x, l, z)
-
-      others : {i : Image} {n : ℕ} → DeleteCase s h i n → (n ≤ 12) ⊎ (n ≡ 15)
-      others (by-headword x m) = inl (omega arith)
-      others (by-placing e x l z m) = inr m
 
 -- Optimise: an accepted image is never too long for its slice when packed.
 module _ (s : List ℕ) (L : ℕ) (work : List ℕ) where
@@ -445,20 +502,15 @@ module _ (s : List ℕ) (L : ℕ) (work : List ℕ) where
   fitting-number p n e = ⊎-elim (λ (t, m). (m, t)) (λ (f, u). absurd (ok-not-refused p n u)) (when-refused 15 (plan-full s p) (ok p) n e)
 
   optimise-rows : T (areBytes s) → OptimiseRows s L work
+  unfolding any all numbers content-numbers change-numbers
   optimise-rows small =
       record {
-        change-rows = change-rows s L work small (optimise s L work .answer) (λ i. fitting s (optimise-placing i)) optimise-answered
-            (λ i n p. omega (arith, fitting-number (optimise-placing i) n p .0));
-        no-other = λ n p. ⊎-elim (λ e. low (change-told s L work small n e))
+        change-rows = change-rows s L work small (optimise s L work .answer) (λ i. fitting s (optimise-placing i)) optimise-answered (15 ∷ []) refl
+            (λ i n p. rw (fitting-number (optimise-placing i) n p .0));
+        no-other = λ n p. ⊎-elim (λ e. change-number s L work n (change-told s L work small n e))
             (λ (i, q, r). absurd (false≢true (sym (packed-room s L i (may-told s L work i q .image) small) ∙ fitting-number (optimise-placing i) n r .1)))
             (bind-refused (changeable s L work) _ n (optimise-answered n .0 p));
       }
-    where
-      low : {n : ℕ} → ChangeCase s L work n → n ≤ 11
-      low (by-slice b m) = omega arith
-      low (by-work r l m) = omega arith
-      low (by-found l h a b) = omega arith
-      low (by-version i l got w m) = omega arith
 
 -- create: row 1 alone
 create-rows : (s : List ℕ) → CreateRows s
@@ -469,7 +521,7 @@ create-rows s n = (λ p. go (ltb (length s) 256) refl p, λ (e, l). rw (lt-ltb (
     go true e p = (let k : _≡_ {A = ℕ} 1 n = cc in sym k, ltb-true (length s) 256 e)
     go false e p = absurd (ok-not-refused {A = ℕ} 256 n p)
 
--- check: rows 1 and 3 to 10 alone
+-- check: the image's rows alone
 check-rows : (s : List ℕ) (L : ℕ) → CheckRows s L
 unfolding CheckRows check
 check-rows s L n = (then-refused (image-in s L) figures n, λ e. rw e)
