@@ -5,17 +5,20 @@ use mathlib.Core.Bool.{Bool}
 use mathlib.Core.List.{List, [], _∷_, _++_, map, append-assoc, append-nil}
 use native.Mathlib.Omega.{arith}
 use lib.ListN.{length, getD, set, take, drop, drop-of-length-le}
-use lib.Seq.{take-suc-set, take-all, drop-cons}
+use lib.Seq.{take-suc-set, take-all, take-take, take-append-le, length-take-le, drop-cons}
 use borrow.Author.Tests.{eq-eqb, ne-eqb}
 use Rattle.spec.specs.Bytes.{blocks-for}
-use Rattle.spec.specs.Header.{layout4, changed-header}
+use Rattle.spec.specs.Header.{Layout, Counts, changed-header}
+use Rattle.header.specs.Form.{layout-named}
+use Rattle.header.proofs.Laws.{layout-kept}
+use Rattle.inspect.specs.declared.Overview.{Overview}
 use Rattle.spec.specs.Blocks.{free-list-start, free-list-written}
 use Rattle.index.specs.Elements.{elements-at}
 use Rattle.placing.specs.Spread.{spread, Within}
 use Rattle.moves.specs.Moved.{noted, starts, size-at, freed, tabled}
 use Rattle.target.specs.declared.Target.{Target}
 use Rattle.newruns.proofs.Laws.{lent-rest}
-use Rattle.change.specs.Ready.{growth, Displaced, Sealed}
+use Rattle.change.specs.Ready.{growth, most-with, Displaced, Sealed}
 use Rattle.change.specs.declared.Outline.{Outline}
 
 -- ---- growth
@@ -35,17 +38,17 @@ unfolding growth blocks-for
 growth-more n k b x h e p = sym (rw (ne-eqb k 0 h, growth) (omega arith))
 
 -- ---- displace: the steps one after the other
-pub displaced : (index area : List ℕ) (d g : ℕ) (t : Target) (T T₁ T₂ T₃ : List ℕ) (ms ms₁ ms₂ : List Bool) (top end : ℕ)
-    → T₁ ≡ noted g (map (λ e. e .block) (elements-at index 0 (t .before))) T
-    → T₂ ≡ noted g (map (λ e. e .block) (elements-at index (t .end) (t .after))) T₁
-    → ms₁ ≡ freed area d (starts 0 g T₂) ms
-    → top ≡ max d g
-    → Within (65_536 + g) (spread g top ms₁ (map (size-at area d) (starts 0 g T₂))) end ms₂
-    → (end ≤ 65_536 + g → T₃ ≡ tabled (starts 0 g T₂) (spread g top ms₁ (map (size-at area d) (starts 0 g T₂)) .places) T₂)
-    → Displaced index area d g t T ms end T₃ ms₂
-displaced index area d g t T T₁ T₂ T₃ ms ms₁ ms₂ top end e₁ e₂ e₃ e₄ w k T₀ m₁ f₁ f₂ =
-    let a : T₀ ≡ T₂ = f₁ ∙ sym (e₂ ∙ ap (noted g (map (λ e. e .block) (elements-at index (t .end) (t .after)))) e₁) in
-    let b : m₁ ≡ ms₁ = f₂ ∙ ap (λ (x : List ℕ). freed area d (starts 0 g x) ms) a ∙ sym e₃ in
+pub displaced : (x : Overview) (index area : List ℕ) (g : ℕ) (t : Target) (T T₁ T₂ T₃ : List ℕ) (ms ms₁ ms₂ : List Bool) (top end : ℕ)
+    → T₁ ≡ noted g (map (λ e. e .block) (elements-at (x .form .width) index 0 (t .before))) T
+    → T₂ ≡ noted g (map (λ e. e .block) (elements-at (x .form .width) index (t .end) (t .after))) T₁
+    → ms₁ ≡ freed area (x .d) (starts 0 g T₂) ms
+    → top ≡ max (x .d) g
+    → Within (most-with x g) (spread g top ms₁ (map (size-at area (x .d)) (starts 0 g T₂))) end ms₂
+    → (end ≤ most-with x g → T₃ ≡ tabled (starts 0 g T₂) (spread g top ms₁ (map (size-at area (x .d)) (starts 0 g T₂)) .places) T₂)
+    → Displaced x index area g t T ms end T₃ ms₂
+displaced x index area g t T T₁ T₂ T₃ ms ms₁ ms₂ top end e₁ e₂ e₃ e₄ w k T₀ m₁ f₁ f₂ =
+    let a : T₀ ≡ T₂ = f₁ ∙ sym (e₂ ∙ ap (noted g (map (λ e. e .block) (elements-at (x .form .width) index (t .end) (t .after)))) e₁) in
+    let b : m₁ ≡ ms₁ = f₂ ∙ ap (λ (y : List ℕ). freed area (x .d) (starts 0 g y) ms) a ∙ sym e₃ in
     rw (a, b, ← e₄) (w, k)
 
 -- ---- copy_marks: what is copied, then what is left, is all
@@ -61,20 +64,20 @@ marks-end dst src i e h l =
     ∙ ap₂ (λ (x y : List ℕ). x ++ y) (sym (take-all i dst (omega arith))) (sym (drop-of-length-le src {i = i} h))
     ∙ e
 
--- ---- write_rest: the free list in the lent rest, then the header
-pub rest-sealed : (s s′ x bs : List ℕ) (front : ℕ) (v : Outline) (first : ℕ) → x ≡ free-list-written bs (take (length s - front) (drop front s)) → first ≡ free-list-start bs
-    → s′ ≡ changed-header layout4
-    (record { index-blocks = v .n + v .g; entries = v .words; first-free = first; elements = v .elements; run-blocks = v .blocks })
+-- ---- write_rest: the free list in the lent rest, then the header, which still names its layout
+pub rest-sealed : (s s′ x bs : List ℕ) (front : ℕ) (v : Outline) (first : ℕ) → 256 ≤ front → front ≤ length s
+    → x ≡ free-list-written bs (take (length s - front) (drop front s)) → first ≡ free-list-start bs
+    → s′ ≡ changed-header (layout-named (take front s ++ (x ++ drop (length s - front) (drop front s))))
+    (record { index-blocks = v .old .n + v .g; entries = v .words; first-free = first; elements = v .elements; run-blocks = v .blocks })
     (take front s ++ (x ++ drop (length s - front) (drop front s)))
     → Sealed s s′ front v bs
-rest-sealed s s′ x bs front v first ex ef e =
+rest-sealed s s′ x bs front v first least room ex ef e =
+    let counts : ℕ → Counts = λ k. record { index-blocks = v .old .n + v .g; entries = v .words; first-free = k; elements = v .elements; run-blocks = v .blocks } in
+    let rest : List ℕ = x ++ drop (length s - front) (drop front s) in
+    let same : take 256 (take front s ++ rest) ≡ take 256 s
+    = take-append-le 256 (take front s) rest (omega (arith, length-take-le front s room)) ∙ take-take 256 front s least in
+    let written : rest ≡ free-list-written bs (drop front s)
+    = ap (λ (y : List ℕ). y ++ drop (length s - front) (drop front s)) ex ∙ lent-rest front s (free-list-written bs) in
     e
-    ∙ ap (λ (k : ℕ). changed-header layout4
-    (record { index-blocks = v .n + v .g; entries = v .words; first-free = k; elements = v .elements; run-blocks = v .blocks })
-    (take front s ++ (x ++ drop (length s - front) (drop front s)))) ef
-    ∙ ap (λ (y : List ℕ). changed-header layout4
-    (record { index-blocks = v .n + v .g; entries = v .words; first-free = free-list-start bs; elements = v .elements; run-blocks = v .blocks })
-    (take front s ++ (y ++ drop (length s - front) (drop front s)))) ex
-    ∙ ap (λ (y : List ℕ). changed-header layout4
-    (record { index-blocks = v .n + v .g; entries = v .words; first-free = free-list-start bs; elements = v .elements; run-blocks = v .blocks })
-    (take front s ++ y)) (lent-rest front s (free-list-written bs))
+    ∙ ap (λ (o : Layout). changed-header o (counts first) (take front s ++ rest)) (layout-kept (take front s ++ rest) s same)
+    ∙ ap₂ (λ (k : ℕ) (y : List ℕ). changed-header (layout-named s) (counts k) (take front s ++ y)) ef written

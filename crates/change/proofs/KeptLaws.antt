@@ -6,16 +6,14 @@ use mathlib.Core.Bool.{Bool, true}
 use mathlib.Core.List.{List, [], _∷_, _++_, map, append-assoc}
 use native.Mathlib.Omega.{arith}
 use lib.ListN.{length, take, drop, getD, take-append-drop, replicate-append-replicate}
-use lib.Seq.{length-take-le, take-all, take-at, drop-at, take-take, take-append-le, take-append-add, drop-drop}
+use lib.Seq.{take-all, take-at, drop-at, take-take, take-append-le, take-append-add, drop-drop}
 use Rattle.marks.specs.Marks.{marks}
 use Rattle.marks.proofs.Laws.{drop-take}
 use Rattle.spec.specs.Bytes.{bytes-at, write, zeros}
 use Rattle.spec.specs.Outcome.{ok}
-use Rattle.spec.specs.Order.{below-of}
-use Rattle.spec.specs.Check as Check
+use Rattle.spec.specs.Order.{HeadwordOrder, below-of}
 use Rattle.spec.specs.Check.{Frame, index-area}
-use Rattle.spec.specs.Header as Header
-use Rattle.spec.specs.Header.{layout4, format4, get}
+use Rattle.spec.specs.Header.{get}
 use Rattle.spec.specs.Entry.{Entry, headword-ok}
 use Rattle.spec.specs.Run.{run-size}
 use Rattle.spec.specs.Index.{Element, elements-bytes, index-from}
@@ -29,29 +27,33 @@ use Rattle.index.specs.Elements.{elements-at, elements-end, Inside}
 use Rattle.index.proofs.Laws.{inside-at, ends-inside}
 use Rattle.elements.specs.Renewed.{renewed}
 use Rattle.elements.proofs.Laws.{elements-length, elements-stand, renewed-none-all}
-use Rattle.inspect.specs.Overview.{AcceptedImage, index-part, data-part}
+use Rattle.byteops.specs.Width.{Width}
+use Rattle.header.specs.declared.Form.{Form}
+use Rattle.header.specs.Form.{layout-named, index-start, area-start, index-part, data-part}
+use Rattle.inspect.specs.declared.Overview.{Overview}
+use Rattle.inspect.specs.Overview.{AcceptedImage}
 use Rattle.inspect.proofs.Laws.{index-told}
-use Rattle.inspect.proofs.Accepted.{accepted-frame, accepted-inside}
-use Rattle.header.specs.Framed.{frame4}
+use Rattle.inspect.proofs.Accepted.{accepted-told, accepted-n, accepted-inside}
 use Rattle.header.proofs.Laws.{index-slice}
 use Rattle.spec.proofs.OrderLaws.{order-of}
-use Rattle.spec.proofs.ReadLaws.{image-told}
 use Rattle.chain.specs.Numbers.{numbers}
 use Rattle.placing.specs.Spread.{Spread, spread}
 use Rattle.moves.specs.Moved.{starts, moved-written}
 use Rattle.target.specs.declared.Target.{Target}
 use Rattle.target.specs.Told.{entries-start}
 use Rattle.target.proofs.Laws.{start-least, start-most}
+use Rattle.encoder.specs.Limits.{longest-body, longest-run}
+use Rattle.parts.specs.Room.{largest-limit}
 use Rattle.parts.specs.Merge.{changed-entries}
 use Rattle.plan.specs.Written.{part-runs, parts-written}
 use Rattle.newruns.proofs.Laws.{lent-rest}
 use Rattle.change.specs.declared.Outline.{Outline}
-use Rattle.change.specs.Ready.{parts-of, Ready, Roomy, Areas, Sealed, Written}
+use Rattle.change.specs.Ready.{parts-of, laid-parts, old-length, most-with, Ready, Roomy, Areas, Sealed, Written}
 use Rattle.change.specs.Drafted.{PlannedEnd}
 use Rattle.change.specs.Kept.{fitted, Saved}
 use Rattle.change.proofs.Laws.{run-cut, areas-done}
 use Rattle.change.proofs.AreasLaws.{parts-asks, index-end, rest-asks, all-written}
-use Rattle.change.proofs.FinishLaws.{marks-long, copy-ready, copy-roomy, copy-last}
+use Rattle.change.proofs.FinishLaws.{marks-long, copy-roomy, copy-last}
 
 -- ---- bytes cut or filled
 -- zeros one behind the other
@@ -96,21 +98,23 @@ put-filled d d₁ d₂ l at room n e₁ e₂ k h q =
 
 -- ---- save_old
 -- both copies stand in the working slice
-pub saved : (s w w₁ w₂ : List ℕ) (v : Outline) (t : Target) (from size : ℕ)
-    → from ≡ entries-start (t .block) (t .size) → size ≡ 256 * (t .block + t .size) - from
-    → w₁ ≡ write 0 (bytes-at (256 + 256 * v .n + from) size s) w
-    → w₂ ≡ write size (bytes-at (256 + t .end) (256 * v .n - t .end) s) w₁
-    → 256 + 256 * v .n + from + size ≤ length s → t .end ≤ 256 * v .n → size + (256 * v .n - t .end) ≤ length w → Saved s v t size w₂
-saved s w w₁ w₂ v t from size ef es e₁ e₂ fits inside room =
-    let x : List ℕ = bytes-at (256 + 256 * v .n + from) size s in
-    let y : List ℕ = bytes-at (256 + t .end) (256 * v .n - t .end) s in
-    let lx : length x ≡ size = length-bytes-at s (256 + 256 * v .n + from) size fits in
-    let ly : length y ≡ 256 * v .n - t .end = length-bytes-at s (256 + t .end) (256 * v .n - t .end) (omega arith) in
+pub saved : (s w w₁ w₂ : List ℕ) (v : Outline) (from size : ℕ) → let t : Target = v .target in
+    from ≡ entries-start (t .block) (t .size) → size ≡ 256 * (t .block + t .size) - from
+    → w₁ ≡ write 0 (bytes-at (area-start (v .old .form) (v .old .n) + from) size s) w
+    → w₂ ≡ write size (bytes-at (index-start (v .old .form) + t .end) (256 * v .old .n - t .end) s) w₁
+    → area-start (v .old .form) (v .old .n) + from + size ≤ length s → t .end ≤ 256 * v .old .n → size + (256 * v .old .n - t .end) ≤ length w → Saved s v size w₂
+saved s w w₁ w₂ v from size ef es e₁ e₂ fits inside room =
+    let t : Target = v .target in
+    let x : List ℕ = bytes-at (area-start (v .old .form) (v .old .n) + from) size s in
+    let y : List ℕ = bytes-at (index-start (v .old .form) + t .end) (256 * v .old .n - t .end) s in
+    let lx : length x ≡ size = length-bytes-at s (area-start (v .old .form) (v .old .n) + from) size fits in
+    let ly : length y ≡ 256 * v .old .n - t .end = length-bytes-at s (index-start (v .old .form) + t .end) (256 * v .old .n - t .end) (omega arith) in
     let l₁ : length w₁ ≡ length w = ap length e₁ ∙ length-write 0 x w (omega (arith, lx)) in
     let k : size + length y ≤ length w₁ = omega (arith, ly, l₁) in
     let a : take size w₂ ≡ x = ap (take size) e₂ ∙ take-write size y w₁ k size (omega arith) ∙ ap (take size) e₁ ∙ written-front x w size lx in
-    let b : bytes-at size (256 * v .n - t .end) w₂ ≡ y = ap (bytes-at size (256 * v .n - t .end)) e₂ ∙ ap (λ (q : ℕ). bytes-at size q (write size y w₁)) (sym ly) ∙ bytes-at-write size y w₁ k in
-    (es ∙ ap (λ (q : ℕ). 256 * (t .block + t .size) - q) ef, a ∙ ap (λ (q : ℕ). bytes-at (256 + 256 * v .n + q) size s) ef, b)
+    let b : bytes-at size (256 * v .old .n - t .end) w₂ ≡ y
+    = ap (bytes-at size (256 * v .old .n - t .end)) e₂ ∙ ap (λ (q : ℕ). bytes-at size q (write size y w₁)) (sym ly) ∙ bytes-at-write size y w₁ k in
+    (es ∙ ap (λ (q : ℕ). 256 * (t .block + t .size) - q) ef, a ∙ ap (λ (q : ℕ). bytes-at (area-start (v .old .form) (v .old .n) + q) size s) ef, b)
 
 -- ---- the index
 -- a byte of a list of bytes
@@ -140,16 +144,17 @@ run-inside o s start from size copy fits =
     ∙ ap (take size) (drop-drop from start s))
 
 -- the elements of an accepted image's index
-accepted-elements : (o : List ℕ) (n d : ℕ) → AcceptedImage o n d
-    → index-from 2 (below-of 0) n (get (layout4 .nindex2) o) (index-part o n) ≡ ok (elements-at (index-part o n) 0 (get (layout4 .nindex2) o))
-unfolding Check.image-from Header.format-of Header.format4
-accepted-elements o n d a =
-    let m = image-told format4 o (a .image) (a .is) in
-    let f : a .image .frame ≡ frame4 n d = accepted-frame o n d a in
-    let x : index-area (a .image .frame) o ≡ index-part o n = ap (λ (g : Frame). index-area g o) f ∙ index-slice o n d in
-    let e : index-from 2 (below-of 0) n (get (layout4 .nindex2) o) (index-part o n) ≡ ok (m .elements)
-    = ap₂ (λ (k : ℕ) (l : List ℕ). index-from 2 (below-of 0) k (get (layout4 .nindex2) o) l) (a .index-blocks) (sym x) ∙ m .index in
-    e ∙ ap ok (index-told (index-part o n) n (get (layout4 .nindex2) o) (m .elements) e .0)
+accepted-elements : (o : List ℕ) (x : Overview) → AcceptedImage o x → let e : ℕ = get (layout-named o .nindex2) o in
+    index-from (x .form .width) (below-of (x .form .order)) (x .n) e (index-part (x .form) o (x .n)) ≡ ok (elements-at (x .form .width) (index-part (x .form) o (x .n)) 0 e)
+accepted-elements o x a =
+    let w : ℕ = x .form .width in
+    let below : HeadwordOrder = below-of (x .form .order) in
+    let index : List ℕ = index-part (x .form) o (x .n) in
+    let e : ℕ = get (layout-named o .nindex2) o in
+    let m = accepted-told o x a in
+    let y : index-area (a .image .frame) o ≡ index = ap (λ (g : Frame). index-area g o) (a .frame-is) ∙ index-slice (layout-named o) (x .form) o (x .n) (x .d) in
+    let z : index-from w below (x .n) e index ≡ ok (m .elements) = ap₂ (λ (k : ℕ) (l : List ℕ). index-from w below k e l) (accepted-n o x a) (sym y) ∙ m .index in
+    z ∙ ap ok (index-told w (omega (arith, a .good .0 .0)) below index (x .n) e (m .elements) z .0)
 
 -- a part of a slice as code cuts it out
 rest-cut : (at n : ℕ) (w : List ℕ) → take (at + n - at) (drop at w) ≡ bytes-at at n w
@@ -157,54 +162,66 @@ unfolding bytes-at
 rest-cut at n w = let e : at + n - at ≡ n = omega arith in ap (λ (x : ℕ). take x (drop at w)) e
 
 -- ---- write_kept
-module _ (o : List ℕ) (v : Outline) (T : List ℕ) (ws : List ℕ) (t : Target) (h body : List ℕ) (fresh : Bool) (r : Ready o v T (marks ws) t h body fresh)
-    (s : List ℕ) (q : Roomy s o v (marks ws) t h body fresh) (still : v .g ≡ 0) (small : (k : ℕ) → getD s k 0 < 256) where
+module _ (o : List ℕ) (v : Outline) (T : List ℕ) (ws : List ℕ) (h body : List ℕ) (r : Ready o v T (marks ws) h body)
+    (s : List ℕ) (q : Roomy s o v (marks ws) h body) (still : v .g ≡ 0) (small : (k : ℕ) → getD s k 0 < 256) where
+  abbrev fm : Form
+  fm = v .old .form
+
+  abbrev w : ℕ
+  w = fm .width
+
+  abbrev t : Target
+  t = v .target
+
+  abbrev front : ℕ
+  front = index-start fm
+
   abbrev start : ℕ
-  start = 256 + 256 * v .n
+  start = area-start fm (v .old .n)
 
   abbrev index : List ℕ
-  index = index-part o (v .n)
+  index = index-part fm o (v .old .n)
 
   abbrev area : List ℕ
-  area = data-part o (v .n)
+  area = data-part fm o (v .old .n)
 
   abbrev count : ℕ
-  count = get (layout4 .nindex2) o
+  count = get (layout-named o .nindex2) o
 
   -- the bytes of the elements before and after
   abbrev B : List ℕ
-  B = elements-bytes 2 (elements-at index 0 (t .before))
+  B = elements-bytes w (elements-at w index 0 (t .before))
 
   abbrev A : List ℕ
-  A = elements-bytes 2 (elements-at index (t .end) (t .after))
+  A = elements-bytes w (elements-at w index (t .end) (t .after))
 
   -- the index in the slice
-  index-there : index ≡ bytes-at 256 (256 * v .n) s
+  index-there : index ≡ bytes-at front (256 * v .old .n) s
   unfolding bytes-at
   index-there =
-      let k : 256 + 256 * v .n - 256 ≡ 256 * v .n = omega arith in
-      ap (λ (x : ℕ). take x (drop 256 o)) k
-      ∙ ap (λ (x : List ℕ). take (256 * v .n) (drop 256 x)) (sym (q .copy))
-      ∙ ap (take (256 * v .n)) (drop-take 256 (length o) s)
-      ∙ take-take (256 * v .n) (length o - 256) (drop 256 s) (omega (arith, r .whole))
+      let k : start - front ≡ 256 * v .old .n = omega arith in
+      ap (λ (x : ℕ). take x (drop front o)) k
+      ∙ ap (λ (x : List ℕ). take (256 * v .old .n) (drop front x)) (sym (q .copy))
+      ∙ ap (take (256 * v .old .n)) (drop-take front (length o) s)
+      ∙ take-take (256 * v .old .n) (length o - front) (drop front s) (omega (arith, r .whole))
 
-  index-long : length index ≡ 256 * v .n
-  index-long = ap length index-there ∙ length-bytes-at s 256 (256 * v .n) (omega (arith, r .whole, q .shorter))
+  index-long : length index ≡ 256 * v .old .n
+  index-long = ap length index-there ∙ length-bytes-at s front (256 * v .old .n) (omega (arith, r .whole, q .shorter))
 
   -- its bytes are bytes
   index-bytes : Small index
-  index-bytes = subst Small (sym index-there) (small-part s small (256 * v .n) 256)
+  index-bytes = subst Small (sym index-there) (small-part s small (256 * v .old .n) front)
 
   -- the element of the run concerned ends inside the index
-  pub end-inside : t .end ≤ 256 * v .n
-  end-inside = omega (arith, inside-at index (t .end) (t .after) (r .told .after-inside), index-long)
+  pub end-inside : t .end ≤ 256 * v .old .n
+  end-inside = omega (arith, inside-at w index (t .end) (t .after) (r .told .after-inside), index-long)
 
   -- and starts there
-  pub at-inside : t .at ≤ 256 * v .n
-  at-inside = omega (arith, r .told .at-is, elements-length index 0 (t .before) (r .told .before-inside), ends-inside index 0 (t .before) (r .told .before-inside), index-long)
+  pub at-inside : t .at ≤ 256 * v .old .n
+  at-inside = omega (arith, r .told .at-is, elements-length w index 0 (t .before) (r .told .before-inside), ends-inside w index 0 (t .before) (r .told .before-inside), index-long)
 
   -- nothing is moved
-  nothing-moved : s ≡ take start s ++ (moved-written area (v .d) T (starts 0 (v .g) T) (take (length s - start) (drop start s)) ++ drop (length s - start) (drop start s))
+  nothing-moved : s ≡ take start s ++ (moved-written area (v .old .d) T (starts 0 (v .g) T) (take (length s - start) (drop start s)) ++ drop (length s - start) (drop start s))
   unfolding starts moved-written
   nothing-moved = rw still (sym (ap (λ (x : List ℕ). take start s ++ x) (lent-rest start s (λ x. x)) ∙ take-append-drop start s))
 
@@ -213,49 +230,50 @@ module _ (o : List ℕ) (v : Outline) (T : List ℕ) (ws : List ℕ) (t : Target
   as-they-are es = ap (λ (g : ℕ). map (renewed T g) es) still ∙ renewed-none-all T es
 
   -- the elements before stand there
-  before-there : s ≡ write 256 (elements-bytes 2 (map (renewed T (v .g)) (elements-at index 0 (t .before)))) s
+  before-there : s ≡ write front (elements-bytes w (map (renewed T (v .g)) (elements-at w index 0 (t .before)))) s
   before-there =
-      let i : Inside index 0 (t .before) = r .told .before-inside in
-      let l : elements-end index 0 (t .before) ≡ 0 + length B = elements-length index 0 (t .before) i in
-      let k : elements-end index 0 (t .before) - 0 ≡ length B = omega arith in
-      let b : bytes-at 0 (length B) index ≡ B = ap (λ (x : ℕ). bytes-at 0 x index) (sym k) ∙ elements-stand index 0 (t .before) (λ x. small-get index x index-bytes) i in
-      let p : 0 + length B ≤ 256 * v .n = omega (arith, ends-inside index 0 (t .before) i, index-long) in
-      let c : bytes-at 256 (length B) s ≡ B = sym (ap (bytes-at 0 (length B)) index-there ∙ bytes-at-within 256 (256 * v .n) 0 (length B) s p) ∙ b in
-      sym (ap (λ (es : List Element). write 256 (elements-bytes 2 es) s) (as-they-are (elements-at index 0 (t .before))) ∙ write-same 256 B s c)
+      let i : Inside w index 0 (t .before) = r .told .before-inside in
+      let l : elements-end w index 0 (t .before) ≡ 0 + length B = elements-length w index 0 (t .before) i in
+      let k : elements-end w index 0 (t .before) - 0 ≡ length B = omega arith in
+      let b : bytes-at 0 (length B) index ≡ B = ap (λ (x : ℕ). bytes-at 0 x index) (sym k) ∙ elements-stand w index 0 (t .before) (λ x. small-get index x index-bytes) i in
+      let z : front + 0 ≡ front = omega arith in
+      let p : 0 + length B ≤ 256 * v .old .n = omega (arith, ends-inside w index 0 (t .before) i, index-long) in
+      let c : bytes-at front (length B) s ≡ B
+      = sym (ap (bytes-at 0 (length B)) index-there ∙ bytes-at-within front (256 * v .old .n) 0 (length B) s p ∙ ap (λ (x : ℕ). bytes-at x (length B) s) z) ∙ b in
+      sym (ap (λ (es : List Element). write front (elements-bytes w es) s) (as-they-are (elements-at w index 0 (t .before))) ∙ write-same front B s c)
 
   -- the index holds the elements in front of zeros
-  stored : StoredIndex 2 (elements-at index 0 count) index
+  stored : StoredIndex w (elements-at w index 0 count) index
   stored =
-      let a : AcceptedImage o (v .n) (v .d) = record { image = r .image; is = r .is; index-blocks = r .index-blocks; data-blocks = r .data-blocks } in
-      let e : index-from 2 (below-of 0) (v .n) count index ≡ ok (elements-at index 0 count) = accepted-elements o (v .n) (v .d) a in
-      index-stored 2 (below-of 0) (order-of 0) (v .n) count index (bytes-of index index-bytes) index-long (elements-at index 0 count) .0 e .stored
+      let e : index-from w (below-of (fm .order)) (v .old .n) count index ≡ ok (elements-at w index 0 count) = accepted-elements o (v .old) (r .accepted) in
+      index-stored w (below-of (fm .order)) (order-of (fm .order)) (v .old .n) count index (bytes-of index index-bytes) index-long (elements-at w index 0 count) .0 e .stored
 
   -- behind the element of the run concerned stand those after it, then zeros
   rest-told : (z : ℕ) × (drop (t .end) index ≡ A ++ zeros z)
   unfolding StoredIndex zeros elements-bytes
   rest-told = go stored
     where
-      all-inside : Inside index 0 count
-      all-inside = accepted-inside o (v .n) (v .d) (record { image = r .image; is = r .is; index-blocks = r .index-blocks; data-blocks = r .data-blocks }) count refl
+      all-inside : Inside w index 0 count
+      all-inside = accepted-inside o (v .old) (r .accepted) count refl
 
-      total : length (elements-bytes 2 (elements-at index 0 count)) ≡ t .end + length A
-      total = omega (arith, elements-length index 0 count all-inside, r .told .end-is)
+      total : length (elements-bytes w (elements-at w index 0 count)) ≡ t .end + length A
+      total = omega (arith, elements-length w index 0 count all-inside, r .told .end-is)
 
       there : bytes-at (t .end) (length A) index ≡ A
       there =
-          let k : elements-end index (t .end) (t .after) - t .end ≡ length A = omega (arith, elements-length index (t .end) (t .after) (r .told .after-inside)) in
-          ap (λ (x : ℕ). bytes-at (t .end) x index) (sym k) ∙ elements-stand index (t .end) (t .after) (λ x. small-get index x index-bytes) (r .told .after-inside)
+          let k : elements-end w index (t .end) (t .after) - t .end ≡ length A = omega (arith, elements-length w index (t .end) (t .after) (r .told .after-inside)) in
+          ap (λ (x : ℕ). bytes-at (t .end) x index) (sym k) ∙ elements-stand w index (t .end) (t .after) (λ x. small-get index x index-bytes) (r .told .after-inside)
 
-      go : ((index ≡ []) × (elements-at index 0 count ≡ [])) ⊎ ((n : ℕ) × (4 ≤ n) × (index ≡ elements-bytes 2 (elements-at index 0 count) ++ zeros n))
+      go : ((index ≡ []) × (elements-at w index 0 count ≡ [])) ⊎ ((n : ℕ) × (4 ≤ n) × (index ≡ elements-bytes w (elements-at w index 0 count) ++ zeros n))
           → (z : ℕ) × (drop (t .end) index ≡ A ++ zeros z)
       go (inl (e, f)) =
-          let x : length (elements-bytes 2 (elements-at index 0 count)) ≡ 0 = ap (λ (l : List Element). length (elements-bytes 2 l)) f in
+          let x : length (elements-bytes w (elements-at w index 0 count)) ≡ 0 = ap (λ (l : List Element). length (elements-bytes w l)) f in
           (0, zeros-behind index [] A (t .end) 0 e (omega (arith, total)) there)
-      go (inr (n, p, e)) = (n, zeros-behind index (elements-bytes 2 (elements-at index 0 count)) A (t .end) n e total there)
+      go (inr (n, p, e)) = (n, zeros-behind index (elements-bytes w (elements-at w index 0 count)) A (t .end) n e total there)
 
   -- the parts of the plan
   abbrev ps : List (List Entry)
-  ps = parts-of o (v .n) t h body fresh
+  ps = parts-of (v .old) o (v .target) h body (v .fresh)
 
   -- parts placed on the marks
   abbrev placed : List (List Entry) → Spread
@@ -263,15 +281,15 @@ module _ (o : List ℕ) (v : Outline) (T : List ℕ) (ws : List ℕ) (t : Target
 
   -- the bytes that their elements take
   abbrev room : List (List Entry) → ℕ
-  room cs = length (elements-bytes 2 (map element-of (part-runs (v .g) (placed cs .places) cs)))
+  room cs = length (elements-bytes w (map element-of (part-runs (v .g) (placed cs .places) cs)))
 
   -- and they written over a slice
   abbrev written : List (List Entry) → List ℕ → List ℕ
-  written cs = parts-written 2 start (v .g) (256 + t .at) (placed cs .places) cs
+  written cs = parts-written w start (v .g) (front + t .at) (placed cs .places) cs
 
-  module _ (size : ℕ) (w : List ℕ) (sv : Saved s v t size w) where
+  module _ (size : ℕ) (kept : List ℕ) (sv : Saved s v size kept) where
     -- the entries as they were saved
-    run-saved : take size w ≡ take (256 * (t .block + t .size) - entries-start (t .block) (t .size)) (drop (entries-start (t .block) (t .size)) area)
+    run-saved : take size kept ≡ take (256 * (t .block + t .size) - entries-start (t .block) (t .size)) (drop (entries-start (t .block) (t .size)) area)
     run-saved =
         let f : ℕ = entries-start (t .block) (t .size) in
         sv .1
@@ -280,42 +298,43 @@ module _ (o : List ℕ) (v : Outline) (T : List ℕ) (ws : List ℕ) (t : Target
 
     -- the parts of the changed run
     abbrev cs : List (List Entry)
-    cs = cut 1024 (changed-entries (take size w) h body fresh)
+    cs = cut (fm .limit) (changed-entries (fm .order) (take size kept) h body (v .fresh))
 
     parts-same : cs ≡ ps
-    parts-same = ap (λ (x : List ℕ). cut 1024 (changed-entries x h body fresh)) (run-saved ∙ run-cut area (t .block) (t .size) (entries-start (t .block) (t .size)) refl)
+    parts-same = ap (λ (x : List ℕ). cut (fm .limit) (changed-entries (fm .order) x h body (v .fresh))) (run-saved ∙ run-cut area (t .block) (t .size) (entries-start (t .block) (t .size)) refl)
 
     -- where their elements start
-    at-there : 256 + t .at ≡ 256 + length B
+    at-there : front + t .at ≡ front + length B
     at-there = omega (arith, r .told .at-is)
 
     -- what writing the parts asks
     pub kept-asks : (l : ℕ) → l ≡ length s
-        → ((headword-ok h ≡ true) × (length body ≤ 3001) × (length (take size w) ≤ 8388608))
-        × (((v .g ≤ v .end) × (2560 ≤ length ws))
-        × (((placed cs .end ≤ 98304) × (start + 256 * placed cs .end ≤ l))
-        × (256 + t .at + room cs ≤ l)))
+        → ((headword-ok h ≡ true) × (length body ≤ longest-body) × (length (take size kept) ≤ 8388608))
+        × ((Width w × (fm .limit ≤ largest-limit) × (v .g ≤ v .end))
+        × (((placed cs .end + longest-run ≤ 64 * length ws) × (start + 256 * placed cs .end ≤ l))
+        × (front + t .at + room cs ≤ l)))
     kept-asks l e =
         subst
         (λ (x : List ℕ).
-        ((headword-ok h ≡ true) × (length body ≤ 3001) × (length x ≤ 8388608))
-        × (((v .g ≤ v .end) × (2560 ≤ length ws))
-        × (((placed (cut 1024 (changed-entries x h body fresh)) .end ≤ 98304) × (start + 256 * placed (cut 1024 (changed-entries x h body fresh)) .end ≤ l))
-        × (256 + t .at + room (cut 1024 (changed-entries x h body fresh)) ≤ l))))
-        (sym run-saved) (parts-asks o v T ws t h body fresh r s q l (entries-start (t .block) (t .size)) (256 + t .at) e refl at-there)
+        ((headword-ok h ≡ true) × (length body ≤ longest-body) × (length x ≤ 8388608))
+        × ((Width w × (fm .limit ≤ largest-limit) × (v .g ≤ v .end))
+        × (((placed (cut (fm .limit) (changed-entries (fm .order) x h body (v .fresh))) .end + longest-run ≤ 64 * length ws)
+        × (start + 256 * placed (cut (fm .limit) (changed-entries (fm .order) x h body (v .fresh))) .end ≤ l))
+        × (front + t .at + room (cut (fm .limit) (changed-entries (fm .order) x h body (v .fresh))) ≤ l))))
+        (sym run-saved) (parts-asks o v T ws h body r s q l (entries-start (t .block) (t .size)) (front + t .at) e refl at-there)
 
     -- the marks then
     pub kept-marks : (ms : List Bool) → ms ≡ placed cs .free → ms ≡ placed ps .free
     kept-marks ms = subst (λ (x : List (List Entry)). ms ≡ placed x .free) parts-same
 
-    module _ (b : ℕ) (eb : b ≡ 256 + t .at + room cs) where
+    module _ (b : ℕ) (eb : b ≡ front + t .at + room cs) where
       -- where the new elements end, by the plan's parts
-      new-end : b ≡ 256 + t .at + room ps
-      new-end = subst (λ (x : List (List Entry)). b ≡ 256 + t .at + room x) parts-same eb
+      new-end : b ≡ front + t .at + room ps
+      new-end = subst (λ (x : List (List Entry)). b ≡ front + t .at + room x) parts-same eb
 
       -- with those after they end inside the index
       all-end : (b + length A ≤ start + 256 * v .g) × (start + 256 * v .g ≤ length s)
-      all-end = index-end o v T ws t h body fresh r s q (256 + t .at) b (b + length A) at-there new-end refl
+      all-end = index-end o v T ws h body r s q (front + t .at) b (b + length A) at-there new-end refl
 
       -- so the new ones do
       pub new-inside : (b ≤ start) × (start ≤ length s)
@@ -323,53 +342,50 @@ module _ (o : List ℕ) (v : Outline) (T : List ℕ) (ws : List ℕ) (t : Target
 
       -- THE LAW of the writing where the index does not grow
       pub kept-areas : (s₃ s₅ : List ℕ) → s₃ ≡ written cs s
-          → length s₃ ≡ length s → s₅ ≡ write b (fitted (start - b) (take (size + (256 * v .n - t .end) - size) (drop size w))) s₃ → Areas s s₅ o v h body fresh
+          → length s₃ ≡ length s → s₅ ≡ write b (fitted (start - b) (take (size + (256 * v .old .n - t .end) - size) (drop size kept))) s₃ → Areas s s₅ o v h body
       kept-areas s₃ s₅ e₃ l₃ e₅ =
           let z : ℕ = rest-told .0 in
-          let n : ℕ = 256 * v .n - t .end in
-          let rest : List ℕ = take (size + n - size) (drop size w) in
+          let n : ℕ = 256 * v .old .n - t .end in
+          let rest : List ℕ = take (size + n - size) (drop size kept) in
           let d : rest ≡ A ++ zeros z
-          = rest-cut size n w ∙ sv .2 ∙ sym (bytes-at-within 256 (256 * v .n) (t .end) n s (omega (arith, end-inside)))
+          = rest-cut size n kept ∙ sv .2 ∙ sym (bytes-at-within front (256 * v .old .n) (t .end) n s (omega (arith, end-inside)))
           ∙ ap (bytes-at (t .end) n) (sym index-there) ∙ rest-at index (t .end) n (omega (arith, index-long)) ∙ rest-told .1 in
           let f : fitted (start - b) rest ≡ A ++ zeros (start - b - length A) = ap (fitted (start - b)) d ∙ fitted-zeros (start - b) A z (omega (arith, all-end .0, still)) in
           let k : start - b - length A ≡ start + 256 * v .g - (b + length A) = omega (arith, still) in
           let g : s₅ ≡ write (b + length A) (zeros (start + 256 * v .g - (b + length A))) (write b A s₃)
           = e₅ ∙ ap (λ (x : List ℕ). write b x s₃) f ∙ sym (write-behind s₃ A (zeros (start - b - length A)) b (omega (arith, all-end, l₃)))
           ∙ ap (λ (x : ℕ). write (b + length A) (zeros x) (write b A s₃)) k in
-          let e₄ : write b A s₃ ≡ write b (elements-bytes 2 (map (renewed T (v .g)) (elements-at index (t .end) (t .after)))) s₃
-          = ap (λ (es : List Element). write b (elements-bytes 2 es) s₃) (sym (as-they-are (elements-at index (t .end) (t .after)))) in
+          let e₄ : write b A s₃ ≡ write b (elements-bytes w (map (renewed T (v .g)) (elements-at w index (t .end) (t .after)))) s₃
+          = ap (λ (es : List Element). write b (elements-bytes w es) s₃) (sym (as-they-are (elements-at w index (t .end) (t .after)))) in
           let p : s₃ ≡ written ps s = subst (λ (x : List (List Entry)). s₃ ≡ written x s) parts-same e₃ in
-          areas-done o v T (marks ws) t h body fresh r s q s s s₃ (write b A s₃) s₅ (256 + t .at) b (b + length A) nothing-moved before-there at-there p new-end e₄ refl g
+          areas-done o v T (marks ws) h body r s q s s s₃ (write b A s₃) s₅ (front + t .at) b (b + length A) nothing-moved before-there at-there p new-end e₄ refl g
 
 -- ---- keep
-module _ (o : List ℕ) (v : Outline) (T : List ℕ) (ws : List ℕ) (t : Target) (h body : List ℕ) (fresh : Bool) (r : Ready o v T (marks ws) t h body fresh)
-    (s : List ℕ) (q : Roomy s o v (marks ws) t h body fresh) (still : v .g ≡ 0) (last : ℕ) (el : last ≡ spread (v .g) (v .end) (marks ws) (map run-size (parts-of o (v .n) t h body fresh)) .end) where
+module _ (o : List ℕ) (v : Outline) (T : List ℕ) (ws : List ℕ) (h body : List ℕ) (r : Ready o v T (marks ws) h body)
+    (s : List ℕ) (q : Roomy s o v (marks ws) h body) (still : v .g ≡ 0) (last : ℕ) (el : last ≡ laid-parts o v (marks ws) h body .end) where
   -- what writing the free list and the header asks
   pub kept-rest : (l k : ℕ) → l ≡ length s → k ≡ length ws
-      → (256 ≤ l) × (256 + 256 * v .n ≤ l) × (v .g ≤ last) × (last ≤ 64 * k) × (256 * (last - v .g) ≤ l - (256 + 256 * v .n)) × (v .n + v .g ≤ 32_767)
+      → (256 ≤ area-start (v .old .form) (v .old .n)) × (area-start (v .old .form) (v .old .n) ≤ l) × (v .g ≤ last) × (last ≤ 64 * k)
+      × (256 * (last - v .g) ≤ l - area-start (v .old .form) (v .old .n)) × (v .old .n + v .g ≤ 32_767)
   kept-rest l k e ek =
-      let a = rest-asks o v T ws t h body fresh r s q l last e el k ek in
-      (a .0, omega (arith, a .1), a .2, a .3, omega (arith, a .4, still), a .5)
+      let a = rest-asks o v T ws h body r s q l last e el k ek in
+      (omega arith, omega (arith, a .1), a .2, a .3, omega (arith, a .4, still), a .5)
 
   -- after both
-  pub kept-written : (s₅ s₇ : List ℕ) (ms : List Bool) → Areas s s₅ o v h body fresh → ms ≡ spread (v .g) (v .end) (marks ws) (map run-size (parts-of o (v .n) t h body fresh)) .free
-      → Sealed s₅ s₇ (256 + 256 * v .n) v (numbers 0 (take (last - v .g) (drop (v .g) ms))) → Written s s₇ o h body fresh
+  pub kept-written : (s₅ s₇ : List ℕ) (ms : List Bool) → Areas s s₅ o v h body → ms ≡ laid-parts o v (marks ws) h body .free
+      → Sealed s₅ s₇ (area-start (v .old .form) (v .old .n)) v (numbers 0 (take (last - v .g) (drop (v .g) ms))) → Written s s₇ o h body (v .fresh)
   kept-written s₅ s₇ ms e₅ em e =
-      let f : 256 + 256 * v .n ≡ 256 + 256 * v .n + 256 * v .g = omega (arith, still) in
-      all-written o v T ws t h body fresh r s q s₅ s₇ ms last e₅ em el (subst (λ (x : ℕ). Sealed s₅ s₇ x v (numbers 0 (take (last - v .g) (drop (v .g) ms)))) f e)
+      let f : area-start (v .old .form) (v .old .n) ≡ area-start (v .old .form) (v .old .n) + 256 * v .g = omega (arith, still) in
+      all-written o v T ws h body r s q s₅ s₇ ms last e₅ em el (subst (λ (x : ℕ). Sealed s₅ s₇ x v (numbers 0 (take (last - v .g) (drop (v .g) ms)))) f e)
 
--- where there is room, the change is ready by the image as its blocks tell it
-pub kept-ready : (s : List ℕ) (L : ℕ) (v : Outline) (T ws : List ℕ) (t : Target) (h body : List ℕ) (fresh : Bool) → Ready (take L s) v T (marks ws) t h body fresh
-    → (last : ℕ) → PlannedEnd (take L s) v (marks ws) t h body fresh last → length ws ≡ 2560 → last ≤ 65_536 + v .g → 256 + 256 * v .n + 256 * last ≤ length s → L ≤ length s
-    → let o : List ℕ = take (256 + 256 * v .n + 256 * v .d) s in
-    Ready o v T (marks ws) t h body fresh × Roomy s o v (marks ws) t h body fresh
-    × (last ≡ spread (v .g) (v .end) (marks ws) (map run-size (parts-of o (v .n) t h body fresh)) .end) × (o ≡ take L s)
-kept-ready s L v T ws t h body fresh r last at long few room inside =
-    let o : List ℕ = take (256 + 256 * v .n + 256 * v .d) s in
-    let e : o ≡ take L s = ap (λ (x : ℕ). take x s) (r .whole ∙ length-take-le L s inside) in
+-- where there is room, the change is ready, and its new runs are placed
+pub kept-ready : (s : List ℕ) (v : Outline) (T ws : List ℕ) (h body : List ℕ) → let o : List ℕ = take (old-length (v .old)) s in
+    Ready o v T (marks ws) h body → (last : ℕ) → PlannedEnd o v (marks ws) h body last → length ws ≡ 2560 → last ≤ most-with (v .old) (v .g)
+    → area-start (v .old .form) (v .old .n) + 256 * last ≤ length s → old-length (v .old) ≤ length s
+    → Roomy s o v (marks ws) h body × (last ≡ laid-parts o v (marks ws) h body .end)
+kept-ready s v T ws h body r last at long few room inside =
+    let L : ℕ = old-length (v .old) in
     let l : length (marks ws) ≡ 163_840 = marks-long ws long in (
-      copy-ready s L v T (marks ws) t h body fresh r last at l few room inside o e,
-      copy-roomy s L v T (marks ws) t h body fresh r last at l few room inside o e,
-      copy-last s L v T (marks ws) t h body fresh r last at l few room inside o e,
-      e,
+      copy-roomy s L v T (marks ws) h body r last at l few room inside (take L s) refl,
+      copy-last s L v T (marks ws) h body r last at l few room inside (take L s) refl,
     )

@@ -4,6 +4,7 @@ use mathlib.Core.Path.{_≡_}
 use mathlib.Core.List.{List, _++_}
 use lib.ListN.{take}
 use Rattle.spec.specs.Bytes.{bytes-at, zeros}
+use Rattle.header.specs.Form.{index-start, area-start}
 use Rattle.target.specs.declared.Target.{Target}
 use Rattle.target.specs.Told.{entries-start}
 use Rattle.change.specs.declared.Outline.{Outline}
@@ -13,11 +14,13 @@ unfoldable pub fitted : ℕ → List ℕ → List ℕ
 fitted n l = take n (l ++ zeros n)
 
 -- in the slice w stand the r bytes of entries of the run concerned in the old slice s, then those of the index behind its element
-abbrev pub Saved : List ℕ → Outline → Target → ℕ → List ℕ → Type 0
-Saved s v t r w =
+abbrev pub Saved : List ℕ → Outline → ℕ → List ℕ → Type 0
+Saved s v r w =
+    let t : Target = v .target in
+    let rest : ℕ = 256 * v .old .n - t .end in
     (r ≡ 256 * (t .block + t .size) - entries-start (t .block) (t .size))
-    × (take r w ≡ bytes-at (256 + 256 * v .n + entries-start (t .block) (t .size)) r s)
-    × (bytes-at r (256 * v .n - t .end) w ≡ bytes-at (256 + t .end) (256 * v .n - t .end) s)
+    × (take r w ≡ bytes-at (area-start (v .old .form) (v .old .n) + entries-start (t .block) (t .size)) r s)
+    × (bytes-at r rest w ≡ bytes-at (index-start (v .old .form) + t .end) rest s)
 
 -- names all definitions of this module: who unfolds it unfolds them
 unfoldable pub open-kept : Unit {0}

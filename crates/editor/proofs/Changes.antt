@@ -12,13 +12,12 @@ use borrow.Author.Tests.{leb-true, not-true, not-false}
 use Rattle.spec.specs.Outcome.{ok, _>>=_}
 use Rattle.spec.specs.Bytes as Bytes
 use Rattle.spec.specs.Bytes.{write, bytes-at, no-zero}
-use Rattle.spec.specs.Order.{below-of}
-use Rattle.spec.specs.Header as Header
-use Rattle.spec.specs.Header.{Format, layout4, format4, writable}
+use Rattle.spec.specs.Order.{HeadwordOrder}
+use Rattle.spec.specs.Header.{Format, Lawful, format-of, writable}
 use Rattle.spec.specs.Entry as EntrySpec
 use Rattle.spec.specs.Entry.{Entry, headword-ok, text-ok, attribute-ok, entry-of}
 use Rattle.spec.specs.Check as Check
-use Rattle.spec.specs.Check.{Image, image-from, all-entries, entries-of}
+use Rattle.spec.specs.Check.{Frame, Image, image-from, all-entries, entries-of}
 use Rattle.spec.specs.SortedList.{Sorted, lookup, replace, remove}
 use Rattle.spec.specs.Place as Place
 use Rattle.spec.specs.Place.{Plan, Target, target-run, plan-change}
@@ -30,8 +29,8 @@ use Rattle.spec.specs.declared.DeleteAnswer.{DeleteAnswer}
 use Rattle.spec.specs.Claim as Claim
 use Rattle.spec.specs.Claim.{is-there}
 use Rattle.spec.proofs.ListsLaws.{and-left}
-use Rattle.spec.proofs.HeaderLaws.{lawful4}
-use Rattle.spec.proofs.OrderLaws.{order-of}
+use Rattle.spec.proofs.OutcomeLaws.{same-value}
+use Rattle.spec.proofs.HeaderLaws.{lawful-format}
 use Rattle.spec.proofs.WriteLaws.{write-behind}
 use Rattle.spec.specs.Sound.{EntriesOk, SoundPlan}
 use Rattle.spec.proofs.StoredIndexLaws.{empty-below}
@@ -41,12 +40,22 @@ use Rattle.spec.proofs.ChangeLaws.{Sound, image-sound, image-ascends, insert-en
 use Rattle.parts.specs.Merge.{merge}
 use Rattle.parts.proofs.MergeLaws.{merge-replace, merge-remove}
 use Rattle.parts.proofs.PartLaws.{front-stored}
-use Rattle.change.specs.Ready.{planned, Changed}
-use Rattle.inspect.specs.Overview.{AcceptedImage}
-use Rattle.inspect.proofs.Accepted.{accepted-frame}
+use Rattle.header.specs.Form.{layout-named}
+use Rattle.inspect.specs.declared.Overview.{Overview}
+use Rattle.inspect.specs.Overview.{AcceptedImage, FreeMarked}
+use Rattle.encoder.specs.Limits.{longest-body}
+use Rattle.change.specs.declared.Ending.{Ending}
+use Rattle.change.specs.Ready.{planned, old-length, Changed}
+use Rattle.change.specs.declared.Draft.{Draft}
+use Rattle.change.specs.Drafted.{Drafted, PlanCounted}
 use Rattle.editor.specs.Entered.{words-after}
 use Rattle.editor.proofs.Counts.{replace-count, remove-count}
-use Rattle.editor.proofs.Rows.{Inserts, Deletes, insert-refuses, delete-refuses, change-eleven, change-may}
+use Rattle.editor.proofs.Rows.{Inserts, Deletes, insert-refuses, delete-refuses, whole-blocks, change-eleven, change-may}
+
+-- ---- the image
+-- so many entries are in the image that is read
+words-in : (s : List ℕ) (v : Overview) → AcceptedImage s v → (i : Image) → image-from s ≡ ok i → v .words ≡ length (entries-of i)
+words-in s v a i got = a .words-are ∙ ap (λ (j : Image). length (entries-of j)) (same-value (a .image) i (sym (a .is) ∙ got))
 
 -- ---- the arguments
 -- a headword that passed its test
@@ -65,8 +74,8 @@ body-made b t x x₁ x₂ p e₁ e₂ =
     let w : x₂ ≡ write 0 (b ∷ t) x = e₂ ∙ ap₂ (λ (u v : List ℕ). write 1 u v) (take-length t) e₁ ∙ write-behind x (b ∷ []) t 0 (omega arith) in
     front-stored (b ∷ t) x x₂ (1 + length t) w (omega arith)
 
--- it has no more than 3,001 bytes
-pub body-few : (b : ℕ) (t body : List ℕ) → body ≡ b ∷ t → length t ≤ 3_000 → length body ≤ 3_001
+-- which is no longer than the longest
+pub body-few : (b : ℕ) (t body : List ℕ) → body ≡ b ∷ t → length t ≤ 3_000 → length body ≤ longest-body
 body-few b t body e p = rw e (omega arith)
 
 -- ---- the plan
@@ -77,85 +86,138 @@ unfolding Place.plan-change
 plan-same F i h f k e = rw e
 
 module _ (s : List ℕ) (i : Image) (got : image-from s ≡ ok i) where
-  -- what is known of the image
-  sound : Sound format4 s i
-  unfolding Check.image-from Header.format-of
-  sound = image-sound format4 s i got
+  -- the image's own format
+  abbrev F : Format
+  F = i .frame .format
+
+  -- its order of headwords
+  abbrev below : HeadwordOrder
+  below = F .below
+
+  -- what is known of the image by the format that its header names
+  sound-named : Sound (format-of s) s i
+  unfolding Check.image-from
+  sound-named = image-sound (format-of s) s i got
+
+  -- that format is its own
+  own : format-of s ≡ F
+  own = sym (ap (λ (f : Frame). f .format) (sound-named .fits .is))
+
+  -- it is lawful
+  law : Lawful F
+  law = subst Lawful own (lawful-format s)
+
+  -- and what is known goes by it
+  sound : Sound F s i
+  sound = subst (λ (G : Format). Sound G s i) own sound-named
 
   -- its entries ascend
-  ascends : EntriesOk (below-of 0) [] (entries-of i)
-  unfolding Header.format4
-  ascends = image-ascends format4 lawful4 s i sound
+  ascends : EntriesOk below [] (entries-of i)
+  ascends = image-ascends F law s i sound
 
   -- the entries of the run concerned ascend
-  target-sorted : (h : List ℕ) → Sorted (below-of 0) (target-run (below-of 0) h (i .runs) .entries)
-  unfolding Check.entries-of Header.format4
+  target-sorted : (h : List ℕ) → Sorted below (target-run below h (i .runs) .entries)
+  unfolding Check.entries-of
   target-sorted h =
-      let c : Target = target-run (below-of 0) h (i .runs) in
-      let k : Concerned (below-of 0) h (i .runs) c = target-concerned (below-of 0) (lawful4 .ordered) h (i .runs) (sound .ascend) in
-      let g : EntriesOk (below-of 0) [] (all-entries (c .before) ++ c .entries ++ all-entries (c .after)) = subst (EntriesOk (below-of 0) []) (k .entries) ascends in
-      ok-sorted (below-of 0) (order-of 0) [] (c .entries) (ok-back (below-of 0) (order-of 0) [] (all-entries (c .before)) (c .entries)
-      (ok-front (below-of 0) (order-of 0) [] (all-entries (c .before) ++ c .entries) (all-entries (c .after)) g))
+      let c : Target = target-run below h (i .runs) in
+      let k : Concerned below h (i .runs) c = target-concerned below (law .ordered) h (i .runs) (sound .ascend) in
+      let g : EntriesOk below [] (all-entries (c .before) ++ c .entries ++ all-entries (c .after)) = subst (EntriesOk below []) (k .entries) ascends in
+      ok-sorted below (law .ordered) [] (c .entries) (ok-back below (law .ordered) [] (all-entries (c .before)) (c .entries)
+      (ok-front below (law .ordered) [] (all-entries (c .before) ++ c .entries) (all-entries (c .after)) g))
 
   -- a fresh entry is put in
-  merged-replace : (h body : List ℕ) → planned i h body true ≡ plan-change format4 i h (replace (below-of 0) (record { headword = h; body = body }))
-  unfolding Header.format4
+  merged-replace : (h body : List ℕ) → planned i h body true ≡ plan-change F i h (replace below (record { headword = h; body = body }))
   merged-replace h body =
-      plan-same format4 i h (merge (below-of 0) (record { headword = h; body = body }) true) (replace (below-of 0) (record { headword = h; body = body }))
-      (merge-replace (below-of 0) (record { headword = h; body = body }) (order-of 0) (target-run (below-of 0) h (i .runs) .entries) (target-sorted h))
+      plan-same F i h (merge below (record { headword = h; body = body }) true) (replace below (record { headword = h; body = body }))
+      (merge-replace below (record { headword = h; body = body }) (law .ordered) (target-run below h (i .runs) .entries) (target-sorted h))
 
   -- without one the headword goes
-  merged-remove : (h body : List ℕ) → planned i h body false ≡ plan-change format4 i h (remove h)
-  unfolding Header.format4
+  merged-remove : (h body : List ℕ) → planned i h body false ≡ plan-change F i h (remove h)
   merged-remove h body =
-      plan-same format4 i h (merge (below-of 0) (record { headword = h; body = body }) false) (remove h)
-      (merge-remove (below-of 0) (record { headword = h; body = body }) (order-of 0) (target-run (below-of 0) h (i .runs) .entries))
+      plan-same F i h (merge below (record { headword = h; body = body }) false) (remove h)
+      (merge-remove below (record { headword = h; body = body }) (law .ordered) (target-run below h (i .runs) .entries))
 
   -- what the change asks of the plan of an insertion
   insert-planned : (h : List ℕ) (b : ℕ) (t : List ℕ) → headword-ok h ≡ true → text-ok t ≡ true → attribute-ok b ≡ true
-      → SoundPlan format4 (planned i h (b ∷ t) true) × (words-after (length (entries-of i)) (is-there (lookup h (entries-of i))) ≡ length (all-entries (planned i h (b ∷ t) true .runs)))
-  unfolding Header.format4 EntrySpec.body-ok
+      → SoundPlan F (planned i h (b ∷ t) true) × (words-after (length (entries-of i)) (is-there (lookup h (entries-of i))) ≡ length (all-entries (planned i h (b ∷ t) true .runs)))
+  unfolding EntrySpec.body-ok
   insert-planned h b t x y z =
       let a : Entry = record { headword = h; body = b ∷ t } in
-      let good : EntriesOk (below-of 0) [] (a ∷ []) = (x, rw (z, y), empty-below (below-of 0) (order-of 0) h x, tt) in
-      let e : planned i h (b ∷ t) true ≡ plan-change format4 i h (replace (below-of 0) a) = merged-replace h (b ∷ t) in
-      let n : length (all-entries (plan-change format4 i h (replace (below-of 0) a) .runs)) ≡ words-after (length (entries-of i)) (is-there (lookup h (entries-of i))) =
-      ap length (insert-entries format4 lawful4 s i sound a good) ∙ replace-count (below-of 0) (order-of 0) a (entries-of i) ascends in
-      (subst (SoundPlan format4) (sym e) (insert-sound format4 lawful4 s i sound a good), sym (ap (λ (p : Plan). length (all-entries (p .runs))) e ∙ n))
+      let good : EntriesOk below [] (a ∷ []) = (x, rw (z, y), empty-below below (law .ordered) h x, tt) in
+      let e : planned i h (b ∷ t) true ≡ plan-change F i h (replace below a) = merged-replace h (b ∷ t) in
+      let n : length (all-entries (plan-change F i h (replace below a) .runs)) ≡ words-after (length (entries-of i)) (is-there (lookup h (entries-of i))) =
+      ap length (insert-entries F law s i sound a good) ∙ replace-count below (law .ordered) a (entries-of i) ascends in
+      (subst (SoundPlan F) (sym e) (insert-sound F law s i sound a good), sym (ap (λ (p : Plan). length (all-entries (p .runs))) e ∙ n))
 
   -- and of a deletion
-  delete-planned : (h body : List ℕ) → is-there (lookup h (entries-of i)) ≡ true → SoundPlan format4 (planned i h body false) × (1 ≤ length (entries-of i))
+  delete-planned : (h body : List ℕ) → is-there (lookup h (entries-of i)) ≡ true → SoundPlan F (planned i h body false) × (1 ≤ length (entries-of i))
       × (length (entries-of i) - 1 ≡ length (all-entries (planned i h body false .runs)))
-  unfolding Header.format4
   delete-planned h body q =
-      let e : planned i h body false ≡ plan-change format4 i h (remove h) = merged-remove h body in
-      let (p, n) = remove-count (below-of 0) (order-of 0) h (entries-of i) ascends q in (
-        subst (SoundPlan format4) (sym e) (delete-sound format4 lawful4 s i sound h),
+      let e : planned i h body false ≡ plan-change F i h (remove h) = merged-remove h body in
+      let (p, n) = remove-count below (law .ordered) h (entries-of i) ascends q in (
+        subst (SoundPlan F) (sym e) (delete-sound F law s i sound h),
         p,
-        n ∙ sym (ap (λ (p : Plan). length (all-entries (p .runs))) e ∙ ap length (delete-entries format4 lawful4 s i sound h)),
+        n ∙ sym (ap (λ (p : Plan). length (all-entries (p .runs))) e ∙ ap length (delete-entries F law s i sound h)),
       )
 
--- the same in the terms of the code
-pub insert-ready : (s h : List ℕ) (w : Bool) → w ≡ headword-ok h → not w ≡ false → (t : List ℕ) (x : Bool) → x ≡ text-ok t → not x ≡ false → (b : ℕ) (y : Bool) → y ≡ attribute-ok b → not y ≡ false
-    → (words : ℕ) → ((i : Image) → image-from s ≡ ok i → words ≡ length (entries-of i))
-    → (there : Bool) → ((i : Image) → image-from s ≡ ok i → there ≡ is-there (lookup h (entries-of i)))
-    → (all : ℕ) → all ≡ words-after words there → (body : List ℕ) → body ≡ b ∷ t
-    → (i : Image) → image-from s ≡ ok i → SoundPlan format4 (planned i h body true) × (all ≡ length (all-entries (planned i h body true .runs)))
-insert-ready s h w e₁ q₁ t x e₂ q₂ b y e₃ q₃ words counted there found all e body made i got =
-    let k = insert-planned s i got h b t (sym e₁ ∙ not-false w q₁) (sym e₂ ∙ not-false x q₂) (sym e₃ ∙ not-false y q₃) in
-    rw made (k .0, e ∙ ap₂ words-after (counted i got) (found i got) ∙ k .1)
+-- ---- the draft of a change
+-- p is the draft of the change in the image at the front of s, of which v tells
+abbrev pub DraftOf : List ℕ → Overview → List ℕ → List ℕ → Bool → Draft → Type 0
+DraftOf s v h body fresh p = (p .old ≡ v) × (p .fresh ≡ fresh) × Drafted (take (old-length v) s) h body p
 
-module _ (s h : List ℕ) (words : ℕ) (counted : (i : Image) → image-from s ≡ ok i → words ≡ length (entries-of i))
-    (there : Bool) (found : (i : Image) → image-from s ≡ ok i → there ≡ is-there (lookup h (entries-of i))) (q : not there ≡ false) where
-  -- where an entry is there, there is one
-  pub delete-some : (n d : ℕ) → AcceptedImage s n d → 1 ≤ words
-  delete-some n d a = rw (counted (a .image) (a .is)) (delete-planned s (a .image) (a .is) h [] (sym (found (a .image) (a .is)) ∙ not-false there q) .1)
+-- what the change asks is what it asks by its draft
+module _ (s : List ℕ) (v : Overview) (h body : List ℕ) (fresh : Bool) (p : Draft) (drafted : DraftOf s v h body fresh p) where
+  -- what is measured is measured of the image that the draft names
+  pub draft-measured : Drafted (take (old-length (p .old)) s) h body p
+  draft-measured = subst (λ (w : Overview). Drafted (take (old-length w) s) h body p) (sym (drafted .0)) (drafted .2)
 
-  -- what the change asks of the plan of a deletion
-  pub delete-ready : (body : List ℕ) (i : Image) → image-from s ≡ ok i → SoundPlan format4 (planned i h body false) × (words - 1 ≡ length (all-entries (planned i h body false .runs)))
-  delete-ready body i got =
-      let k = delete-planned s i got h body (sym (found i got) ∙ not-false there q) in
-      (k .0, ap (λ (n : ℕ). n - 1) (counted i got) ∙ k .2)
+  -- which is inside the slice
+  pub draft-inside : old-length v ≤ length s → old-length (p .old) ≤ length s
+  draft-inside = subst (λ (w : Overview). old-length w ≤ length s) (sym (drafted .0))
+
+  -- its free blocks are marked
+  pub draft-marked : (ms : List Bool) → FreeMarked (take (old-length v) s) ms → FreeMarked (take (old-length (p .old)) s) ms
+  draft-marked ms = subst (λ (w : Overview). FreeMarked (take (old-length w) s) ms) (sym (drafted .0))
+
+  -- the plan's entries are counted
+  draft-counted : (words : ℕ) → PlanCounted (take (old-length v) s) h body fresh words → PlanCounted (take (old-length (p .old)) s) h body (p .fresh) words
+  draft-counted words g =
+      subst (λ (b : Bool). PlanCounted (take (old-length (p .old)) s) h body b words) (sym (drafted .1))
+      (subst (λ (w : Overview). PlanCounted (take (old-length w) s) h body fresh words) (sym (drafted .0)) g)
+
+  -- and what it comes to is what the change of the image comes to
+  draft-changed : (r : Ending) (s′ : List ℕ) → Changed s (old-length (p .old)) h body (p .fresh) r s′ → Changed s (old-length v) h body fresh r s′
+  draft-changed r s′ g =
+      subst (λ (w : Overview). Changed s (old-length w) h body fresh r s′) (drafted .0)
+      (subst (λ (b : Bool). Changed s (old-length (p .old)) h body b r s′) (drafted .1) g)
+
+-- ---- what the change asks of its plan
+-- of an insertion
+pub insert-ready : (s : List ℕ) (v : Overview) → AcceptedImage (take (old-length v) s) v → (h : List ℕ) (w : Bool) → w ≡ headword-ok h → not w ≡ false
+    → (t : List ℕ) (x : Bool) → x ≡ text-ok t → not x ≡ false → (b : ℕ) (y : Bool) → y ≡ attribute-ok b → not y ≡ false
+    → (body : List ℕ) → body ≡ b ∷ t → (p : Draft) → DraftOf s v h body true p → (words : ℕ) → words ≡ words-after (v .words) (p .found)
+    → PlanCounted (take (old-length (p .old)) s) h body (p .fresh) words
+insert-ready s v a h w e₁ q₁ t x e₂ q₂ b y e₃ q₃ body made p drafted words e =
+    draft-counted s v h body true p drafted words λ i got.
+    let k = insert-planned (take (old-length v) s) i got h b t (sym e₁ ∙ not-false w q₁) (sym e₂ ∙ not-false x q₂) (sym e₃ ∙ not-false y q₃) in
+    rw made (k .0, e ∙ ap₂ words-after (words-in (take (old-length v) s) v a i got) (drafted .2 .found-is i got) ∙ k .1)
+
+-- of a deletion
+module _ (s : List ℕ) (v : Overview) (a : AcceptedImage (take (old-length v) s) v) (h body : List ℕ) (p : Draft) (drafted : DraftOf s v h body false p) (q : not (p .found) ≡ false) where
+  -- the entry is there
+  there : (i : Image) → image-from (take (old-length v) s) ≡ ok i → is-there (lookup h (entries-of i)) ≡ true
+  there i got = sym (drafted .2 .found-is i got) ∙ not-false (p .found) q
+
+  -- so there is one
+  pub delete-some : 1 ≤ v .words
+  delete-some = rw (a .words-are) (delete-planned (take (old-length v) s) (a .image) (a .is) h body (there (a .image) (a .is)) .1)
+
+  -- and one less is left
+  pub delete-ready : (words : ℕ) → words ≡ v .words - 1 → PlanCounted (take (old-length (p .old)) s) h body (p .fresh) words
+  delete-ready words e =
+      draft-counted s v h body false p drafted words λ i got.
+      let k = delete-planned (take (old-length v) s) i got h body (there i got) in
+      (k .0, e ∙ ap (λ (n : ℕ). n - 1) (words-in (take (old-length v) s) v a i got) ∙ k .2)
 
 -- ---- the returns
 -- what a look up tells by its test
@@ -170,21 +232,29 @@ unfolding Claim.is-there
 there-some none q = absurd (false≢true q)
 there-some (some e) q = (e, refl)
 
-module _ (s : List ℕ) (L : ℕ) (work : List ℕ) (p₁ : 256 ≤ L) (p₂ : L % 256 ≡ 0) (p₃ : L ≤ length s) (p₄ : length s ≤ length work) (n d : ℕ) (a : AcceptedImage (take L s) n d)
-    (v : Bool) (version : v ≡ writable layout4 s) (h : List ℕ) where
+module _ (s work : List ℕ) (v : Overview) (a : AcceptedImage (take (old-length v) s) v) (inside : old-length v ≤ length s) (enough : length s ≤ length work)
+    (u : Bool) (version : u ≡ writable (layout-named s) s) (h : List ℕ) where
+  -- the bytes of the image
+  abbrev L : ℕ
+  L = old-length v
+
+  -- which are whole blocks
+  blocks : L % 256 ≡ 0
+  blocks = whole-blocks (take L s) v a
+
   -- row 11
-  pub insert-eleven : not v ≡ true → (b : ℕ) (t : List ℕ) → Inserts s L work h b t (LengthAnswer.Refused 11) s
+  pub insert-eleven : not u ≡ true → (b : ℕ) (t : List ℕ) → Inserts s L work h b t (LengthAnswer.Refused 11) s
   unfolding Calls.insert-plan
-  insert-eleven q b t = insert-refuses s L work h b t 11 (rw (change-eleven s L work p₁ p₂ p₃ p₄ n d a v version q))
+  insert-eleven q b t = insert-refuses s L work h b t 11 (rw (change-eleven s L work (omega arith) blocks inside enough v a u version q))
 
-  pub delete-eleven : not v ≡ true → Deletes s L work h (DeleteAnswer.Refused 11) s
+  pub delete-eleven : not u ≡ true → Deletes s L work h (DeleteAnswer.Refused 11) s
   unfolding Calls.delete-plan
-  delete-eleven q = delete-refuses s L work h 11 (rw (change-eleven s L work p₁ p₂ p₃ p₄ n d a v version q))
+  delete-eleven q = delete-refuses s L work h 11 (rw (change-eleven s L work (omega arith) blocks inside enough v a u version q))
 
-  module _ (may : not v ≡ false) (w : Bool) (head : w ≡ headword-ok h) where
+  module _ (may : not u ≡ false) (w : Bool) (head : w ≡ headword-ok h) where
     -- the image may be changed
     image-ok : changeable s L work ≡ ok (a .image)
-    image-ok = change-may s L work p₁ p₂ p₃ p₄ n d a v version may
+    image-ok = change-may s L work (omega arith) blocks inside enough v a u version may
 
     -- row 12
     pub insert-twelve : not w ≡ true → (b : ℕ) (t : List ℕ) → Inserts s L work h b t (LengthAnswer.Refused 12) s
@@ -212,54 +282,66 @@ module _ (s : List ℕ) (L : ℕ) (work : List ℕ) (p₁ : 256 ≤ L) (p₂ : L
         module _ (sure : not y ≡ false) (body : List ℕ) (made : body ≡ b ∷ t) where
           -- the plan decides
           insert-by : insert-plan s L work h b t ≡ fitting s (planned (a .image) h body true)
-          unfolding Calls.insert-plan EntrySpec.entry-of Header.format4
+          unfolding Calls.insert-plan EntrySpec.entry-of
           insert-by =
-              let e : planned (a .image) h (b ∷ t) true ≡ plan-change format4 (a .image) h (replace (below-of 0) (entry-of h b t)) = merged-replace (take L s) (a .image) (a .is) h (b ∷ t) in
-              rw (image-ok, ← head, good, ← rule, not-false x fits, ← attribute, sure, made, e, accepted-frame (take L s) n d a)
+              let F : Format = a .image .frame .format in
+              let e : planned (a .image) h (b ∷ t) true ≡ plan-change F (a .image) h (replace (F .below) (entry-of h b t)) = merged-replace (take L s) (a .image) (a .is) h (b ∷ t) in
+              rw (image-ok, ← head, good, ← rule, not-false x fits, ← attribute, sure, made, e)
 
-          module _ (r : ℕ) (s′ : List ℕ) (left : Changed s L h body true r s′) where
+          module _ (p : Draft) (drafted : DraftOf s v h body true p) (r : Ending) (s′ : List ℕ) (left : Changed s (old-length (p .old)) h body (p .fresh) r s′) where
+            -- what is left is the change of the image
+            left-of : (y : Ending) → r ≡ y → Changed s L h body true y s′
+            left-of y z = subst (λ (x : Ending). Changed s L h body true x s′) z (draft-changed s v h body true p drafted r s′ left)
+
             -- row 15
-            pub insert-fifteen : r ≡ 0 → Inserts s L work h b t (LengthAnswer.Refused 15) s′
+            pub insert-fifteen : r ≡ Ending.Full → Inserts s L work h b t (LengthAnswer.Refused 15) s′
             unfolding Calls.fitting
             insert-fifteen z =
-                let (k, l) = left (a .image) (a .is) .0 z in
+                let (k, l) = left-of Ending.Full z (a .image) (a .is) in
                 rw l (insert-refuses s L work h b t 15 (rw (insert-by, k)))
 
             -- the insertion: the image is the plan written
-            pub insert-done : (r ≡ 0 → ⊥) → Inserts s L work h b t (LengthAnswer.Done r) s′
+            pub insert-done : (len : ℕ) → r ≡ Ending.Done len → Inserts s L work h b t (LengthAnswer.Done len) s′
             unfolding Calls.insert Calls.insert-result Calls.fitting Calls.changed Answers.length-answer
-            insert-done z =
-                let (k, l, m) = left (a .image) (a .is) .1 (omega arith) in
+            insert-done len z =
+                let (k, l, m) = left-of (Ending.Done len) z (a .image) (a .is) in
                 (sym (rw (insert-by, k, ← l)), sym (rw (insert-by, k, ← m)))
 
     -- Delete
-    module _ (good : not w ≡ false) (there : Bool) (found : (i : Image) → image-from (take L s) ≡ ok i → there ≡ is-there (lookup h (entries-of i))) where
-      -- no entry has the headword
-      pub delete-absent : not there ≡ true → Deletes s L work h DeleteAnswer.Absent s
+    module _ (good : not w ≡ false) (body : List ℕ) (p : Draft) (drafted : DraftOf s v h body false p) where
+      -- whether an entry has the headword
+      found : is-there (lookup h (entries-of (a .image))) ≡ p .found
+      found = sym (drafted .2 .found-is (a .image) (a .is))
+
+      -- no entry has it
+      pub delete-absent : not (p .found) ≡ true → Deletes s L work h DeleteAnswer.Absent s
       unfolding Calls.delete Calls.delete-plan Calls.delete-result Calls.changed Answers.delete-answer
       delete-absent q =
-          let e : lookup h (entries-of (a .image)) ≡ none = there-none (lookup h (entries-of (a .image))) (sym (found (a .image) (a .is)) ∙ not-true there q) in
+          let e : lookup h (entries-of (a .image)) ≡ none = there-none (lookup h (entries-of (a .image))) (found ∙ not-true (p .found) q) in
           (sym (rw (image-ok, ← head, good, e)), sym (rw (image-ok, ← head, good, e)))
 
-      module _ (stands : not there ≡ false) (body : List ℕ) where
+      module _ (stands : not (p .found) ≡ false) (r : Ending) (s′ : List ℕ) (left : Changed s (old-length (p .old)) h body (p .fresh) r s′) where
         -- the plan decides
         delete-by : delete-plan s L work h ≡ (fitting s (planned (a .image) h body false) >>= λ p. ok (some p))
-        unfolding Calls.delete-plan Header.format4
+        unfolding Calls.delete-plan
         delete-by =
-            let (e, o) = there-some (lookup h (entries-of (a .image))) (sym (found (a .image) (a .is)) ∙ not-false there stands) in
-            rw (image-ok, ← head, good, o, merged-remove (take L s) (a .image) (a .is) h body, accepted-frame (take L s) n d a)
+            let (e, o) = there-some (lookup h (entries-of (a .image))) (found ∙ not-false (p .found) stands) in
+            rw (image-ok, ← head, good, o, merged-remove (take L s) (a .image) (a .is) h body)
 
-        module _ (r : ℕ) (s′ : List ℕ) (left : Changed s L h body false r s′) where
-          -- row 15
-          pub delete-fifteen : r ≡ 0 → Deletes s L work h (DeleteAnswer.Refused 15) s′
-          unfolding Calls.fitting
-          delete-fifteen z =
-              let (k, l) = left (a .image) (a .is) .0 z in
-              rw l (delete-refuses s L work h 15 (rw (delete-by, k)))
+        -- what is left is the change of the image
+        left-without : (y : Ending) → r ≡ y → Changed s L h body false y s′
+        left-without y z = subst (λ (x : Ending). Changed s L h body false x s′) z (draft-changed s v h body false p drafted r s′ left)
 
-          -- the deletion: the image is the plan written
-          pub delete-done : (r ≡ 0 → ⊥) → Deletes s L work h (DeleteAnswer.Removed r) s′
-          unfolding Calls.delete Calls.delete-result Calls.fitting Calls.changed Answers.delete-answer
-          delete-done z =
-              let (k, l, m) = left (a .image) (a .is) .1 (omega arith) in
-              (sym (rw (delete-by, k, ← l)), sym (rw (delete-by, k, ← m)))
+        -- row 15
+        pub delete-fifteen : r ≡ Ending.Full → Deletes s L work h (DeleteAnswer.Refused 15) s′
+        unfolding Calls.fitting
+        delete-fifteen z =
+            let (k, l) = left-without Ending.Full z (a .image) (a .is) in
+            rw l (delete-refuses s L work h 15 (rw (delete-by, k)))
+
+        -- the deletion: the image is the plan written
+        pub delete-done : (len : ℕ) → r ≡ Ending.Done len → Deletes s L work h (DeleteAnswer.Removed len) s′
+        unfolding Calls.delete Calls.delete-result Calls.fitting Calls.changed Answers.delete-answer
+        delete-done len z =
+            let (k, l, m) = left-without (Ending.Done len) z (a .image) (a .is) in
+            (sym (rw (delete-by, k, ← l)), sym (rw (delete-by, k, ← m)))

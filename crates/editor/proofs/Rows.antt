@@ -1,19 +1,18 @@
 -- What the returns of the changing calls show, in the terms of the code: rows 1 to 11, the working slice, create and optimise.
-use Prim.Native.Nat.{ℕ, _+_, _-_, _*_, _%_, _^_, _<_, _≤_}
+use Prim.Native.Nat.{ℕ, _%_, _^_, _<_, _≤_}
 use mathlib.Core.Path.{_≡_, refl, sym, ap, subst, _∙_}
 use mathlib.Core.Bool.{Bool, true, false, not}
 use mathlib.Core.List.{List}
 use native.Mathlib.Omega.{arith}
 use lib.ListN.{length, getD, take}
-use lib.Seq.{length-take-le, take-length}
+use lib.Seq.{length-take-le, take-length, take-take}
 use lib.Dec.{T, eqb}
 use lib.Pow.{areBytes}
 use borrow.Author.Tests.{lt-ltb, le-ltb, eqb-true, eq-eqb, not-true, not-false}
 use Rattle.spec.specs.Outcome.{refused, ok, accepted, _>>=_, _>>_, refuse_when_}
 use Rattle.spec.specs.Bytes as Bytes
 use Rattle.spec.specs.Bytes.{from-little-endian, write, zeros, bytes-at}
-use Rattle.spec.specs.Header as Header
-use Rattle.spec.specs.Header.{layout4, format4, empty-image, get, writable}
+use Rattle.spec.specs.Header.{Layout, layout4, empty-image, get, writable}
 use Rattle.spec.specs.Blocks.{run-blocks}
 use Rattle.spec.specs.Check as Check
 use Rattle.spec.specs.Check.{Frame, Image, slice-ok, image-from, image-in, all-entries, entries-of}
@@ -32,17 +31,16 @@ use Rattle.spec.specs.declared.DeleteAnswer.{DeleteAnswer}
 use Rattle.spec.proofs.ListsLaws.{and-left}
 use Rattle.spec.proofs.BytesLaws.{small-of, bytes-of, small-take, small-at, from-small, small-part}
 use Rattle.spec.proofs.PartLaws.{length-bytes-at}
-use Rattle.spec.proofs.ReadLaws.{ImageTold, image-told}
 use Rattle.spec.proofs.SlicesLaws.{work-after-calls}
 use Rattle.spec.proofs.CallRowsLaws.{first-numbers}
 use Rattle.spec.proofs.ClaimLaws.{packed-room}
-use Rattle.header.proofs.Laws.{read-nword, slice-refused, slice-accepted, slice-has-header, slice-in-blocks, slice-holds}
-use Rattle.inspect.specs.Overview.{overview, viewed, index-end, AcceptedImage}
-use Rattle.inspect.specs.declared.Inspected.{Inspected}
-use Rattle.inspect.proofs.Laws.{overview-refused}
-use Rattle.inspect.proofs.Accepted.{accepted-frame, accepted-whole, front-header}
+use Rattle.header.specs.Form.{layout-named}
+use Rattle.header.proofs.Laws.{read-nword, layout-kept, slice-refused, slice-accepted, slice-has-header, slice-in-blocks, slice-holds}
+use Rattle.inspect.specs.Overview.{AcceptedImage}
+use Rattle.inspect.specs.declared.Overview.{Overview}
+use Rattle.inspect.proofs.Accepted.{accepted-told, accepted-whole, front-header}
 use Rattle.parts.proofs.PartLaws.{copied-front}
-use Rattle.change.proofs.FinishLaws.{front-blocks}
+use Rattle.change.specs.Ready.{old-length}
 
 -- ---- create
 -- row 1
@@ -91,21 +89,36 @@ all-bytes s h = bytes-of s (rw (take-length s) at (small-part s h (length s) 0))
 abbrev pub Tested : List ℕ → ℕ → List ℕ → Type 0
 Tested s L work = (256 ≤ L) × (L % 256 ≡ 0) × (L ≤ length s) × (length s ≤ length work)
 
--- an image has no more entries than four bytes count
-pub words-few : (s : List ℕ) (L : ℕ) → L ≤ length s → 256 ≤ L → ((k : ℕ) → getD s k 0 < 256) → (n d : ℕ) (a : AcceptedImage (take L s) n d) (w : ℕ)
-    → ((i : Image) → image-from (take L s) ≡ ok i → w ≡ length (entries-of i))
-    → w < 4294967296
-unfolding Check.image-from Header.format-of Check.counts-ok Check.entries-of Header.format4
-words-few s L p q bytes n d a w counted =
+-- ---- the image at the front of a slice
+-- it is of whole blocks
+pub front-blocks : (s : List ℕ) (L : ℕ) → L ≤ length s → L % 256 ≡ 0 → length (take L s) % 256 ≡ 0
+front-blocks s L p q = ap (λ (x : ℕ). x % 256) (length-take-le L s p) ∙ q
+
+-- its header names the layout that the slice's does
+front-layout : (s : List ℕ) (L : ℕ) → 256 ≤ L → layout-named (take L s) ≡ layout-named s
+front-layout s L p = layout-kept (take L s) s (take-take 256 L s p)
+
+-- by what is told of it, it is the whole that was tested
+pub front-whole : (s : List ℕ) (L : ℕ) → L ≤ length s → L % 256 ≡ 0 → (v : Overview) → AcceptedImage (take L s) v → old-length v ≡ L
+front-whole s L p q v a = accepted-whole (take L s) v a (front-blocks s L p q) ∙ length-take-le L s p
+
+-- an accepted image is of whole blocks
+pub whole-blocks : (s : List ℕ) (v : Overview) → AcceptedImage s v → old-length v % 256 ≡ 0
+whole-blocks s v a = omega (arith, a .good .3)
+
+-- it has no more entries than four bytes count
+pub words-few : (s : List ℕ) (L : ℕ) → L ≤ length s → 256 ≤ L → ((k : ℕ) → getD s k 0 < 256) → (v : Overview) → AcceptedImage (take L s) v → v .words < 4294967296
+unfolding Check.counts-ok Check.entries-of
+words-few s L p q bytes v a =
     let x : List ℕ = take L s in
-    let told : ImageTold format4 x (a .image) = image-told format4 x (a .image) (a .is) in
-    let c = and-left (eqb (get (layout4 .nword) x) (length (all-entries (a .image .runs)))) (eqb (get (layout4 .nblock2) x) (run-blocks (a .image .runs))) (told .counts) in
-    let e : get (layout4 .nword) x ≡ length (entries-of (a .image)) = eqb-true (get (layout4 .nword) x) (length (all-entries (a .image .runs))) c in
-    let g : from-little-endian (bytes-at 160 4 x) ≡ get (layout4 .nword) x = read-nword x (from-little-endian (bytes-at 160 4 x)) refl in
+    let told = accepted-told x v a in
+    let c = and-left (eqb (get (layout-named x .nword) x) (length (all-entries (a .image .runs)))) (eqb (get (layout-named x .nblock2) x) (run-blocks (a .image .runs))) (told .counts) in
+    let e : get (layout-named x .nword) x ≡ length (entries-of (a .image)) = eqb-true (get (layout-named x .nword) x) (length (all-entries (a .image .runs))) c in
+    let g : from-little-endian (bytes-at 160 4 x) ≡ get (layout-named x .nword) x = read-nword x (from-little-endian (bytes-at 160 4 x)) refl in
     let l : length (bytes-at 160 4 x) ≡ 4 = length-bytes-at x 160 4 (omega (arith, front-header s L p q)) in
     let b : from-little-endian (bytes-at 160 4 x) < 256 ^ 4 = subst (λ (k : ℕ). from-little-endian (bytes-at 160 4 x) < 256 ^ k) l
     (from-small (bytes-at 160 4 x) (small-at 160 4 x (small-take L s (small-of s (all-bytes s bytes))))) in
-    rw (counted (a .image) (a .is) ∙ sym e ∙ sym g) b
+    rw (a .words-are ∙ sym e ∙ sym g) b
 
 -- a copy of the image in front of another slice
 module _ (s : List ℕ) (L : ℕ) (p : L ≤ length s) (w w′ : List ℕ) (copied : w′ ≡ write 0 (bytes-at 0 L s) w) where
@@ -121,21 +134,17 @@ module _ (s : List ℕ) (L : ℕ) (p : L ≤ length s) (w w′ : List ℕ) (copi
   pub copy-inside : length (take L w′) ≤ length s
   copy-inside = rw copy-long p
 
+  -- of whole blocks
+  pub copy-blocks : L % 256 ≡ 0 → length (take L w′) % 256 ≡ 0
+  copy-blocks m = ap (λ (x : ℕ). x % 256) copy-long ∙ m
+
+  -- the slice starts with it
+  pub copy-front : take (length (take L w′)) s ≡ take L w′
+  copy-front = ap (λ (n : ℕ). take n s) copy-long ∙ sym copy-is
+
   -- it is accepted
-  pub copy-accepted : (n d : ℕ) → AcceptedImage (take L s) n d → AcceptedImage (take L w′) n d
-  copy-accepted n d a = rw copy-is a
-
-  -- its blocks are all of it
-  pub copy-whole : (n d : ℕ) → AcceptedImage (take L s) n d → L % 256 ≡ 0 → 256 + 256 * n + 256 * d ≡ length (take L w′)
-  copy-whole n d a m = rw copy-is (accepted-whole (take L s) n d a (front-blocks s L p m))
-
-  -- its elements end where the image's do
-  pub copy-end : (n x : ℕ) → x ≡ index-end (take L s) n → x ≡ index-end (take L w′) n
-  copy-end n x h = rw copy-is h
-
-  -- it has as many entries
-  pub copy-words : (k : ℕ) → ((i : Image) → image-from (take L s) ≡ ok i → k ≡ length (entries-of i)) → (i : Image) → image-from (take L w′) ≡ ok i → k ≡ length (entries-of i)
-  copy-words k h i o = h i (ap image-from (sym copy-is) ∙ o)
+  pub copy-accepted : (v : Overview) → AcceptedImage (take L s) v → AcceptedImage (take L w′) v
+  copy-accepted v a = rw copy-is a
 
 module _ (s : List ℕ) (L : ℕ) (work : List ℕ) where
   module _ (t : Bool) (slice : t ≡ accepted (slice-ok s L)) where
@@ -232,11 +241,10 @@ module _ (s : List ℕ) (L : ℕ) (work : List ℕ) where
     change-refused j e = change-read ∙ rw e
 
     -- an accepted image
-    module _ (n d : ℕ) (a : AcceptedImage (take L s) n d) (t : Bool) (version : t ≡ writable layout4 s) where
+    module _ (v : Overview) (a : AcceptedImage (take L s) v) (t : Bool) (version : t ≡ writable (layout-named s) s) where
       -- the version is tested in the whole slice
       version-of : writable (a .image .frame .format .layout) s ≡ t
-      unfolding Header.format4
-      version-of = ap (λ (f : Frame). writable (f .format .layout) s) (accepted-frame (take L s) n d a) ∙ sym version
+      version-of = ap (λ (f : Frame). writable (f .format .layout) s) (a .frame-is) ∙ ap (λ (o : Layout). writable o s) (front-layout s L p₁) ∙ sym version
 
       -- row 11
       pub change-eleven : not t ≡ true → changeable s L work ≡ refused 11
@@ -246,33 +254,28 @@ module _ (s : List ℕ) (L : ℕ) (work : List ℕ) where
       pub change-may : not t ≡ false → changeable s L work ≡ ok (a .image)
       change-may q = change-read ∙ rw (a .is, version-of, q)
 
-    module _ (k : ℕ) (ms : List Bool) (r : Inspected) (seen : overview r ms ≡ viewed k (image-from (take L s))) where
-      -- the image is refused
-      image-refused : (j : ℕ) → r ≡ Inspected.Refused j → image-from (take L s) ≡ refused j
-      image-refused j h = overview-refused k ms (image-from (take L s)) r seen j h
+    module _ (j : ℕ) (e : image-from (take L s) ≡ refused j) where
+      -- rows 3 to 10 of an insertion
+      pub insert-refused : (h : List ℕ) (b : ℕ) (t : List ℕ) → Inserts s L work h b t (LengthAnswer.Refused j) s
+      unfolding Calls.insert-plan
+      insert-refused h b t = insert-refuses s L work h b t j (rw (change-refused j e))
 
-      module _ (j : ℕ) (e : r ≡ Inspected.Refused j) where
-        -- rows 3 to 10 of an insertion
-        pub insert-refused : (h : List ℕ) (b : ℕ) (t : List ℕ) → Inserts s L work h b t (LengthAnswer.Refused j) s
-        unfolding Calls.insert-plan
-        insert-refused h b t = insert-refuses s L work h b t j (rw (change-refused j (image-refused j e)))
+      -- of a deletion
+      pub delete-refused : (h : List ℕ) → Deletes s L work h (DeleteAnswer.Refused j) s
+      unfolding Calls.delete-plan
+      delete-refused h = delete-refuses s L work h j (rw (change-refused j e))
 
-        -- of a deletion
-        pub delete-refused : (h : List ℕ) → Deletes s L work h (DeleteAnswer.Refused j) s
-        unfolding Calls.delete-plan
-        delete-refused h = delete-refuses s L work h j (rw (change-refused j (image-refused j e)))
-
-        -- of an optimising
-        pub optimise-refused : Optimises s L work (LengthAnswer.Refused j) s
-        unfolding Calls.optimise-plan
-        optimise-refused = optimise-refuses s L work j (rw (change-refused j (image-refused j e)))
+      -- of an optimising
+      pub optimise-refused : Optimises s L work (LengthAnswer.Refused j) s
+      unfolding Calls.optimise-plan
+      optimise-refused = optimise-refuses s L work j (rw (change-refused j e))
 
     -- ---- optimise
-    module _ (n d : ℕ) (a : AcceptedImage (take L s) n d) (t : Bool) (version : t ≡ writable layout4 s) where
+    module _ (v : Overview) (a : AcceptedImage (take L s) v) (t : Bool) (version : t ≡ writable (layout-named s) s) where
       -- row 11
       pub optimise-eleven : not t ≡ true → Optimises s L work (LengthAnswer.Refused 11) s
       unfolding Calls.optimise-plan
-      optimise-eleven q = optimise-refuses s L work 11 (rw (change-eleven n d a t version q))
+      optimise-eleven q = optimise-refuses s L work 11 (rw (change-eleven v a t version q))
 
       module _ (q : not t ≡ false) (bytes : (k : ℕ) → getD s k 0 < 256) where
         -- an optimising has room
@@ -280,7 +283,7 @@ module _ (s : List ℕ) (L : ℕ) (work : List ℕ) where
         unfolding Calls.optimise-plan Calls.fitting Claim.optimise-placing Check.image-in Check.slice-ok
         fits =
             let got : image-in s L ≡ ok (a .image) = rw (le-ltb L 256 p₁, eq-eqb (L % 256) 0 p₂, le-ltb (length s) L p₃, a .is) in
-            rw (change-may n d a t version q, packed-room s L (a .image) got (all-bytes s bytes))
+            rw (change-may v a t version q, packed-room s L (a .image) got (all-bytes s bytes))
 
         -- the new length and the image
         pub optimise-done : (old s′ : List ℕ) → old ≡ take L s → (r : ℕ) → ((i : Image) → image-from old ≡ ok i → r ≡ plan-length (plan-packed (i .frame .format) (i .runs)))

@@ -2,17 +2,23 @@
 ghost use mathlib.Core.Path.{_≡_};
 ghost use Prim.Native.Nat.{_%_, _<_, _≤_};
 ghost use lib.ListN.{length, take};
-ghost use Rattle.spec.specs.Outcome.{ok};
-ghost use Rattle.spec.specs.Check.{Image, image-from, entries-of};
 ghost use Rattle.spec.specs.Calls.{create, insert, delete, optimise};
 ghost use Rattle.spec.specs.Answers.{length-answer, delete-answer};
 ghost use Rattle.marks.specs.Marks.{marks};
-ghost use Rattle.inspect.specs.Overview.{index-end, AcceptedImage};
-ghost use Rattle.change.specs.Drafted.{FreeMarked};
+ghost use Rattle.inspect.specs.Overview.{AcceptedImage, FreeMarked};
+ghost use Rattle.change.specs.Ready.{old-length};
 ghost use Rattle.editor.specs.Entered.{words-after};
+use change::CHANGE_WORDS;
+use change::Ending;
+use header::HEADER;
 use inspect::Inspected;
+use inspect::MARK_WORDS;
+use inspect::Overview;
 use spec::DeleteAnswer;
 use spec::LengthAnswer;
+
+// The most bytes of a body: an attribute and a text.
+const LONGEST_BODY: usize = 3001;
 
 // Create: an empty image.
 pub fn create(image: &mut [u8]) -> LengthAnswer
@@ -36,35 +42,23 @@ fn words_after(words: usize, replaced: bool) -> usize
     words + 1
 }
 
-// Insert in an accepted image, whose elements end at `end` in the index: rows 11, 12, 13 and 15, and the insertion.
+// Insert in an accepted image, of which `v` tells: rows 11, 12, 13 and 15, and the insertion.
 fn insert_in(
     image: &mut [u8],
-    len: usize,
     work: &mut [u8],
-    n: usize,
-    d: usize,
-    end: usize,
-    words: usize,
+    v: Overview,
     free: &mut [u64],
     headword: &[u8],
     attribute: u8,
     text: &[u8],
 ) -> LengthAnswer
-    requires { ⌜ AcceptedImage (take len (now image)) n d ⌝ }
-    requires { ⌜
-        (256 ≤ len)
-        × (len % 256 ≡ 0)
-        × (len ≤ length (now image))
-        × (length (now image) ≤ length (now work))
-        × (length (now free) ≡ 2560)
-        × (end ≡ index-end (take len (now image)) n) ⌝ }
-    requires { ⌜ FreeMarked (take len (now image)) (marks (now free)) ⌝ }
-    requires { ⌜ ((i : Image) → image-from (take len (now image)) ≡ ok i → words ≡ length (entries-of i)) ⌝ }
-    requires { ⌜ words < 4294967296 ⌝ }
-    ensures { λ r. ⌜ length-answer r ≡ insert (now (image .entry)) len (now (work .entry)) (now (headword .entry)) attribute (now (text .entry)) .answer ⌝ }
-    ensures { λ r. ⌜ now (image .exit) ≡ insert (now (image .entry)) len (now (work .entry)) (now (headword .entry)) attribute (now (text .entry)) .image ⌝ }
+    requires { ⌜ AcceptedImage (take (old-length v) (now image)) v × FreeMarked (take (old-length v) (now image)) (marks (now free)) ⌝ }
+    requires { ⌜ (old-length v ≤ length (now image)) × (length (now image) ≤ length (now work)) × (length (now free) ≡ 2560) × (v .words < 4294967296) ⌝ }
+    ensures { λ r. ⌜ length-answer r ≡ insert (now (image .entry)) (old-length v) (now (work .entry)) (now (headword .entry)) attribute (now (text .entry)) .answer ⌝ }
+    ensures { λ r. ⌜ now (image .exit) ≡ insert (now (image .entry)) (old-length v) (now (work .entry)) (now (headword .entry)) attribute (now (text .entry)) .image ⌝ }
     ensures { λ r. ⌜ length (now (work .exit)) ≡ length (now (work .entry)) ⌝ }
 {
+    let len = HEADER + v.form.extended + 256 * v.n + 256 * v.d;
     if !header::writable(image) {
         return LengthAnswer::Refused(11);
     }
@@ -77,17 +71,17 @@ fn insert_in(
     if !runs::attribute_ok(attribute) {
         return LengthAnswer::Refused(13);
     }
-    let mut body = [0u8; 3001];
+    let mut body = [0u8; LONGEST_BODY];
     byteops::write_u8(&mut body, 0, attribute);
     byteops::copy(&mut body, 1, text, 0, text.len());
     let new = &body[..1 + text.len()];
-    let p = change::measure_change(&image[..len], n, d, end, headword, new, true);
-    let all = words_after(words, p.found);
-    let r = change::change(image, len, work, p, free, headword, new, true, all);
-    if r == 0 {
-        return LengthAnswer::Refused(15);
+    let p = change::measure_change(&image[..len], v, headword, new, true);
+    let words = words_after(v.words, p.found);
+    let r = change::change(image, work, p, free, headword, new, words);
+    match r {
+        Ending::Full => LengthAnswer::Refused(15),
+        Ending::Done(l) => LengthAnswer::Done(l),
     }
-    LengthAnswer::Done(r)
 }
 
 // Insert: rows 3 on.
@@ -104,28 +98,11 @@ fn insert_tested(
     ensures { λ r. ⌜ now (image .exit) ≡ insert (now (image .entry)) len (now (work .entry)) (now (headword .entry)) attribute (now (text .entry)) .image ⌝ }
     ensures { λ r. ⌜ length (now (work .exit)) ≡ length (now (work .entry)) ⌝ }
 {
-    let mut free = [0u64; 2560];
+    let mut free = [0u64; CHANGE_WORDS];
     let r = inspect::inspect(&image[..len], &mut free);
     match r {
         Inspected::Refused(k) => LengthAnswer::Refused(k),
-        Inspected::Sound {
-            words,
-            index,
-            area,
-            end,
-        } => insert_in(
-            image,
-            len,
-            work,
-            index,
-            area,
-            end,
-            words,
-            &mut free,
-            headword,
-            attribute,
-            text,
-        ),
+        Inspected::Sound(v) => insert_in(image, work, v, &mut free, headword, attribute, text),
     }
 }
 
@@ -153,32 +130,21 @@ pub fn insert(
     r
 }
 
-// Delete in an accepted image, whose elements end at `end` in the index: rows 11, 12 and 15, and the deletion.
+// Delete in an accepted image, of which `v` tells: rows 11, 12 and 15, and the deletion.
 fn delete_in(
     image: &mut [u8],
-    len: usize,
     work: &mut [u8],
-    n: usize,
-    d: usize,
-    end: usize,
-    words: usize,
+    v: Overview,
     free: &mut [u64],
     headword: &[u8],
 ) -> DeleteAnswer
-    requires { ⌜ AcceptedImage (take len (now image)) n d ⌝ }
-    requires { ⌜
-        (256 ≤ len)
-        × (len % 256 ≡ 0)
-        × (len ≤ length (now image))
-        × (length (now image) ≤ length (now work))
-        × (length (now free) ≡ 2560)
-        × (end ≡ index-end (take len (now image)) n) ⌝ }
-    requires { ⌜ FreeMarked (take len (now image)) (marks (now free)) ⌝ }
-    requires { ⌜ ((i : Image) → image-from (take len (now image)) ≡ ok i → words ≡ length (entries-of i)) ⌝ }
-    ensures { λ r. ⌜ delete-answer r ≡ delete (now (image .entry)) len (now (work .entry)) (now (headword .entry)) .answer ⌝ }
-    ensures { λ r. ⌜ now (image .exit) ≡ delete (now (image .entry)) len (now (work .entry)) (now (headword .entry)) .image ⌝ }
+    requires { ⌜ AcceptedImage (take (old-length v) (now image)) v × FreeMarked (take (old-length v) (now image)) (marks (now free)) ⌝ }
+    requires { ⌜ (old-length v ≤ length (now image)) × (length (now image) ≤ length (now work)) × (length (now free) ≡ 2560) ⌝ }
+    ensures { λ r. ⌜ delete-answer r ≡ delete (now (image .entry)) (old-length v) (now (work .entry)) (now (headword .entry)) .answer ⌝ }
+    ensures { λ r. ⌜ now (image .exit) ≡ delete (now (image .entry)) (old-length v) (now (work .entry)) (now (headword .entry)) .image ⌝ }
     ensures { λ r. ⌜ length (now (work .exit)) ≡ length (now (work .entry)) ⌝ }
 {
+    let len = HEADER + v.form.extended + 256 * v.n + 256 * v.d;
     if !header::writable(image) {
         return DeleteAnswer::Refused(11);
     }
@@ -186,15 +152,16 @@ fn delete_in(
         return DeleteAnswer::Refused(12);
     }
     let none = [0u8; 1];
-    let p = change::measure_change(&image[..len], n, d, end, headword, &none, false);
+    let p = change::measure_change(&image[..len], v, headword, &none, false);
     if !p.found {
         return DeleteAnswer::Absent;
     }
-    let r = change::change(image, len, work, p, free, headword, &none, false, words - 1);
-    if r == 0 {
-        return DeleteAnswer::Refused(15);
+    let words = v.words - 1;
+    let r = change::change(image, work, p, free, headword, &none, words);
+    match r {
+        Ending::Full => DeleteAnswer::Refused(15),
+        Ending::Done(l) => DeleteAnswer::Removed(l),
     }
-    DeleteAnswer::Removed(r)
 }
 
 // Delete: rows 3 on.
@@ -204,26 +171,11 @@ fn delete_tested(image: &mut [u8], len: usize, work: &mut [u8], headword: &[u8])
     ensures { λ r. ⌜ now (image .exit) ≡ delete (now (image .entry)) len (now (work .entry)) (now (headword .entry)) .image ⌝ }
     ensures { λ r. ⌜ length (now (work .exit)) ≡ length (now (work .entry)) ⌝ }
 {
-    let mut free = [0u64; 2560];
+    let mut free = [0u64; CHANGE_WORDS];
     let r = inspect::inspect(&image[..len], &mut free);
     match r {
         Inspected::Refused(k) => DeleteAnswer::Refused(k),
-        Inspected::Sound {
-            words,
-            index,
-            area,
-            end,
-        } => delete_in(
-            image,
-            len,
-            work,
-            index,
-            area,
-            end,
-            words,
-            &mut free,
-            headword,
-        ),
+        Inspected::Sound(v) => delete_in(image, work, v, &mut free, headword),
     }
 }
 
@@ -251,21 +203,16 @@ fn optimise_tested(image: &mut [u8], len: usize, work: &mut [u8]) -> LengthAnswe
     ensures { λ r. ⌜ now (image .exit) ≡ optimise (now (image .entry)) len (now (work .entry)) .image ⌝ }
     ensures { λ r. ⌜ length (now (work .exit)) ≡ length (now (work .entry)) ⌝ }
 {
-    let mut free = [0u64; 1024];
+    let mut free = [0u64; MARK_WORDS];
     let r = inspect::inspect(&image[..len], &mut free);
     match r {
         Inspected::Refused(k) => LengthAnswer::Refused(k),
-        Inspected::Sound {
-            words,
-            index,
-            area,
-            end,
-        } => {
+        Inspected::Sound(v) => {
             if !header::writable(image) {
                 return LengthAnswer::Refused(11);
             }
             byteops::copy(work, 0, image, 0, len);
-            LengthAnswer::Done(pack::pack(image, &work[..len], index, area, end, words))
+            LengthAnswer::Done(pack::pack(image, &work[..len], v))
         }
     }
 }

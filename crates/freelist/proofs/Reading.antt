@@ -65,7 +65,7 @@ module _ (area : List ℕ) (d first n : ℕ) (used₀ free₀ used free : List �
       go true e = sym (unrolled p (ok []) (free-end (suc (v .fuel - 1)) d b area (eqb-true b free-list-end e)) ∙ none-left p)
       go false e = sym (unrolled p (refused 9) (free-off (v .fuel - 1) d b area (eqb-false b free-list-end e) h))
 
-  module _ (few : d ≤ 65536) (p : 0 < left) (h : b < d) (u : ℕ) (ue : u ≡ from-little-endian (bytes-at (256 * b) 2 area)) where
+  module _ (few : d ≤ 0xFFFFFF) (p : 0 < left) (h : b < d) (u : ℕ) (ue : u ≡ from-little-endian (bytes-at (256 * b) 2 area)) where
     -- a block's number is not the end
     goes-on : b ≢ free-list-end
     unfolding free-list-end

@@ -10,23 +10,23 @@ use byteops::LIST_END;
 use byteops::read_u16;
 use byteops::read_u32;
 
-// Whether the list that starts with the block `first` ends after just n blocks. Each block of it is marked in both tables.
+// Whether the list that starts with the block `first` ends after just so many blocks. Each block of it is marked in both tables.
 pub fn read_free_list(
     area: &[u8],
     d: usize,
     first: usize,
-    n: usize,
+    count: usize,
     used: &mut [u64],
     free: &mut [u64],
 ) -> bool
-    requires { ⌜ (256 * d ≤ length (now area)) × (n ≤ d) × (d ≤ 65536) ⌝ }
+    requires { ⌜ (256 * d ≤ length (now area)) × (count ≤ d) × (d ≤ 0xFFFFFF) ⌝ }
     requires { ⌜ (d ≤ 64 * length (now used)) × (d ≤ 64 * length (now free)) ⌝ }
-    ensures { λ r. ⌜ r ≡ has-length n (free-list-from d d first (now (area .entry))) ⌝ }
+    ensures { λ r. ⌜ r ≡ has-length count (free-list-from d d first (now (area .entry))) ⌝ }
     ensures { λ r. ⌜ (r ≡ true → Marked (free-list-from d d first (now (area .entry))) (marks (now (used .entry))) (marks (now (used .exit)))) ⌝ }
     ensures { λ r. ⌜ (r ≡ true → Marked (free-list-from d d first (now (area .entry))) (marks (now (free .entry))) (marks (now (free .exit)))) ⌝ }
 {
     let mut b = first;
-    let mut left = n;
+    let mut left = count;
     while 0 < left {
         if d <= b {
             return false;

@@ -1,6 +1,6 @@
 -- The fields of a header as code reads them, what its tests and its frame show, and what it is after stores.
 use Prim.Native.Nat.{ℕ, _+_, _-_, _*_, _/_, _%_, _<_, _≤_}
-use mathlib.Core.Path.{_≡_, refl, sym, ap, _∙_}
+use mathlib.Core.Path.{_≡_, refl, sym, ap, subst, _∙_}
 use mathlib.Core.Bool.{Bool, true, false, not, _&&_}
 use mathlib.Core.List.{List, [], _∷_, _++_}
 use native.Mathlib.Omega.{arith}
@@ -10,10 +10,32 @@ use lib.Dec.{eqb, ltb, leb}
 use borrow.Author.Tests.{lt-ltb, le-ltb, le-leb, lt-leb, eq-eqb, ne-eqb, ltb-true, ltb-false}
 use Rattle.spec.specs.Outcome.{refused, ok, accepted}
 use Rattle.spec.specs.Bytes.{from-little-endian, to-little-endian, bytes-at, write, zeros}
-use Rattle.spec.specs.Header.{Layout, LawfulLayout, written-fields, Setting, Counts, field-at, get, put, put-all, _holding_, layout4, format4, high-version-of, writable, change-settings, changed-header, empty-image, open-header}
-use Rattle.spec.specs.Check.{slice-ok, kind-ok, options-ok, frame-from, data-start, index-area, data-area}
+use Rattle.spec.specs.Header.{
+  Layout,
+  Format,
+  LawfulLayout,
+  written-fields,
+  Setting,
+  Counts,
+  field-at,
+  get,
+  put,
+  put-all,
+  _holding_,
+  layout4,
+  format-of,
+  format4,
+  high-version-of,
+  writable,
+  change-settings,
+  changed-header,
+  empty-image,
+  open-header,
+}
+use Rattle.spec.specs.Check.{Frame, slice-ok, kind-ok, options-ok, frame-from, data-start, index-area, data-area, image-by, image-from}
 use Rattle.spec.specs.Rows.{SliceRule}
 use Rattle.spec.specs.Lists.{All}
+use Rattle.spec.proofs.ListsLaws.{clash}
 use Rattle.spec.proofs.BytesLaws.{length-to-little-endian, length-zeros}
 use Rattle.spec.proofs.WriteLaws.{length-write, write-left}
 use Rattle.spec.proofs.PartLaws.{bytes-at-cons}
@@ -22,7 +44,9 @@ use Rattle.spec.proofs.OutcomeLaws.{accepted-answer, refused-only}
 use Rattle.spec.proofs.StoredHeaderLaws as Stored
 use Rattle.spec.proofs.StoredHeaderLaws.{slice-stored}
 use Rattle.spec.proofs.ReadLaws.{FrameFits, frame-fits}
-use Rattle.header.specs.Framed.{frame4, framed}
+use Rattle.header.specs.Form.{layout-named, most-of, format-by, frame-by, index-start, area-start, index-part, data-part}
+use Rattle.header.specs.Framed.{framed, FormTold}
+use Rattle.header.specs.declared.Form.{Form}
 use Rattle.header.specs.Empty.{size-settings}
 use Rattle.header.specs.declared.Framed.{Framed}
 
@@ -39,20 +63,20 @@ get-byte o s h = get-at o 1 s ∙ ap from-little-endian (bytes-at-cons s o 0 h) 
 
 -- the fields of four bytes that are answered
 module _ (s : List ℕ) (r : ℕ) where
-  pub read-nindex2 : r ≡ from-little-endian (bytes-at 190 4 s) → r ≡ get (layout4 .nindex2) s
-  unfolding layout4
+  pub read-nindex2 : r ≡ from-little-endian (bytes-at 190 4 s) → r ≡ get (layout-named s .nindex2) s
+  unfolding format-of format4 layout4
   read-nindex2 h = h ∙ sym (get-at 190 4 s)
 
-  pub read-nword : r ≡ from-little-endian (bytes-at 160 4 s) → r ≡ get (layout4 .nword) s
-  unfolding layout4
+  pub read-nword : r ≡ from-little-endian (bytes-at 160 4 s) → r ≡ get (layout-named s .nword) s
+  unfolding format-of format4 layout4
   read-nword h = h ∙ sym (get-at 160 4 s)
 
-  pub read-nblock2 : r ≡ from-little-endian (bytes-at 194 4 s) → r ≡ get (layout4 .nblock2) s
-  unfolding layout4
+  pub read-nblock2 : r ≡ from-little-endian (bytes-at 194 4 s) → r ≡ get (layout-named s .nblock2) s
+  unfolding format-of format4 layout4
   read-nblock2 h = h ∙ sym (get-at 194 4 s)
 
-  pub read-empty-block2 : r ≡ from-little-endian (bytes-at 186 4 s) → r ≡ get (layout4 .empty-block2) s
-  unfolding layout4
+  pub read-empty-block2 : r ≡ from-little-endian (bytes-at 186 4 s) → r ≡ get (layout-named s .empty-block2) s
+  unfolding format-of format4 layout4
   read-empty-block2 h = h ∙ sym (get-at 186 4 s)
 
 -- ---- row 1, test by test: a length under 256, one that is no multiple of 256, and one against the slice's
@@ -75,23 +99,23 @@ module _ (s : List ℕ) (L : ℕ) where
 
 -- ---- row 3, field by field: version, block_size, header_size, attrlen
 module _ (s : List ℕ) (v : ℕ) (ve : v ≡ from-little-endian (bytes-at 140 2 s)) where
-  pub kind-version : (v / 256 ≡ 4 → ⊥) → false ≡ kind-ok layout4 s
-  unfolding kind-ok high-version-of layout4
+  pub kind-version : (v / 256 ≡ 4 → ⊥) → false ≡ kind-ok (layout-named s) s
+  unfolding kind-ok high-version-of format-of format4 layout4
   kind-version a = rw (get-at 140 2 s, ← ve, ne-eqb (v / 256) 4 a)
 
   module _ (a : v / 256 ≡ 4) (b : ℕ) (be : b ≡ from-little-endian (bytes-at 146 2 s)) where
-    pub kind-block : (b ≡ 256 → ⊥) → false ≡ kind-ok layout4 s
-    unfolding kind-ok high-version-of layout4
+    pub kind-block : (b ≡ 256 → ⊥) → false ≡ kind-ok (layout-named s) s
+    unfolding kind-ok high-version-of format-of format4 layout4
     kind-block c = rw (get-at 140 2 s, ← ve, get-at 146 2 s, ← be, eq-eqb (v / 256) 4 a, ne-eqb b 256 c)
 
     module _ (c : b ≡ 256) (h : ℕ) (he : h ≡ from-little-endian (bytes-at 150 2 s)) where
-      pub kind-header : (h ≡ 256 → ⊥) → false ≡ kind-ok layout4 s
-      unfolding kind-ok high-version-of layout4
+      pub kind-header : (h ≡ 256 → ⊥) → false ≡ kind-ok (layout-named s) s
+      unfolding kind-ok high-version-of format-of format4 layout4
       kind-header d = rw (get-at 140 2 s, ← ve, get-at 146 2 s, ← be, get-at 150 2 s, ← he, eq-eqb (v / 256) 4 a, eq-eqb b 256 c, ne-eqb h 256 d)
 
       module _ (d : h ≡ 256) (l : 256 ≤ length s) where
-        pub kind-attribute : (getD s 166 0 ≡ 1 → ⊥) → false ≡ kind-ok layout4 s
-        unfolding kind-ok high-version-of layout4
+        pub kind-attribute : (getD s 166 0 ≡ 1 → ⊥) → false ≡ kind-ok (layout-named s) s
+        unfolding kind-ok high-version-of format-of format4 layout4
         kind-attribute e =
             rw (
               get-at 140 2 s,
@@ -107,8 +131,8 @@ module _ (s : List ℕ) (v : ℕ) (ve : v ≡ from-little-endian (bytes-at 140 2
               ne-eqb (getD s 166 0) 1 e,
             )
 
-        pub kind-whole : getD s 166 0 ≡ 1 → true ≡ kind-ok layout4 s
-        unfolding kind-ok high-version-of layout4
+        pub kind-whole : getD s 166 0 ≡ 1 → true ≡ kind-ok (layout-named s) s
+        unfolding kind-ok high-version-of format-of format4 layout4
         kind-whole e =
             rw (
               get-at 140 2 s,
@@ -127,85 +151,97 @@ module _ (s : List ℕ) (v : ℕ) (ve : v ≡ from-little-endian (bytes-at 140 2
 -- ---- row 4, field by field: dicorder, dictype, os, index_blkbit, extheader
 module _ (s : List ℕ) (l : 256 ≤ length s) where
   -- the row's tests as code makes them
-  options-tests : options-ok layout4 s ≡ eqb (getD s 164 0) 0 && eqb (getD s 165 0) 0 && eqb (getD s 171 0) 0 && eqb (getD s 198 0) 0 && eqb (from-little-endian (bytes-at 182 4 s)) 0
-  unfolding options-ok layout4
+  options-tests : options-ok (layout-named s) s ≡ eqb (getD s 164 0) 0 && eqb (getD s 165 0) 0 && eqb (getD s 171 0) 0 && eqb (getD s 198 0) 0 && eqb (from-little-endian (bytes-at 182 4 s)) 0
+  unfolding options-ok format-of format4 layout4
   options-tests = rw (get-byte 164 s (omega arith), get-byte 165 s (omega arith), get-byte 171 s (omega arith), get-byte 198 s (omega arith), get-at 182 4 s)
 
-  pub options-order : (getD s 164 0 ≡ 0 → ⊥) → false ≡ options-ok layout4 s
+  pub options-order : (getD s 164 0 ≡ 0 → ⊥) → false ≡ options-ok (layout-named s) s
   options-order a = sym (options-tests ∙ rw (ne-eqb (getD s 164 0) 0 a))
 
   module _ (a : getD s 164 0 ≡ 0) where
-    pub options-type : (getD s 165 0 ≡ 0 → ⊥) → false ≡ options-ok layout4 s
+    pub options-type : (getD s 165 0 ≡ 0 → ⊥) → false ≡ options-ok (layout-named s) s
     options-type b = sym (options-tests ∙ rw (eq-eqb (getD s 164 0) 0 a, ne-eqb (getD s 165 0) 0 b))
 
     module _ (b : getD s 165 0 ≡ 0) where
-      pub options-os : (getD s 171 0 ≡ 0 → ⊥) → false ≡ options-ok layout4 s
+      pub options-os : (getD s 171 0 ≡ 0 → ⊥) → false ≡ options-ok (layout-named s) s
       options-os c = sym (options-tests ∙ rw (eq-eqb (getD s 164 0) 0 a, eq-eqb (getD s 165 0) 0 b, ne-eqb (getD s 171 0) 0 c))
 
       module _ (c : getD s 171 0 ≡ 0) where
-        pub options-bits : (getD s 198 0 ≡ 0 → ⊥) → false ≡ options-ok layout4 s
+        pub options-bits : (getD s 198 0 ≡ 0 → ⊥) → false ≡ options-ok (layout-named s) s
         options-bits d = sym (options-tests ∙ rw (eq-eqb (getD s 164 0) 0 a, eq-eqb (getD s 165 0) 0 b, eq-eqb (getD s 171 0) 0 c, ne-eqb (getD s 198 0) 0 d))
 
-        pub options-extension : (x : ℕ) → getD s 198 0 ≡ 0 → x ≡ from-little-endian (bytes-at 182 4 s) → eqb x 0 ≡ options-ok layout4 s
+        pub options-extension : (x : ℕ) → getD s 198 0 ≡ 0 → x ≡ from-little-endian (bytes-at 182 4 s) → eqb x 0 ≡ options-ok (layout-named s) s
         options-extension x d e = sym (options-tests ∙ rw (eq-eqb (getD s 164 0) 0 a, eq-eqb (getD s 165 0) 0 b, eq-eqb (getD s 171 0) 0 c, eq-eqb (getD s 198 0) 0 d, ← e))
 
 -- ---- rows 3 to 5 as `frame` takes them: kind, options, too many index blocks, index past the end, too many data blocks, none of these
-module _ (s : List ℕ) (k : Bool) (ke : k ≡ kind-ok layout4 s) where
-  pub frame-kind : not k ≡ true → framed (Framed.Refused 3) ≡ frame-from format4 s
-  unfolding framed frame-from format4
+module _ (s : List ℕ) (k : Bool) (ke : k ≡ kind-ok (layout-named s) s) where
+  pub frame-kind : not k ≡ true → framed (layout-named s) (Framed.Refused 3) ≡ frame-from (format-of s) s
+  unfolding framed frame-from format-of format4 layout4
   frame-kind h = rw (← ke, h)
 
-  module _ (kt : not k ≡ false) (o : Bool) (oe : o ≡ options-ok layout4 s) where
-    pub frame-options : not o ≡ true → framed (Framed.Refused 4) ≡ frame-from format4 s
-    unfolding framed frame-from format4
+  module _ (kt : not k ≡ false) (o : Bool) (oe : o ≡ options-ok (layout-named s) s) where
+    pub frame-options : not o ≡ true → framed (layout-named s) (Framed.Refused 4) ≡ frame-from (format-of s) s
+    unfolding framed frame-from format-of format4 layout4
     frame-options h = rw (← ke, kt, ← oe, h)
 
     module _ (ot : not o ≡ false) (n : ℕ) (ne : n ≡ from-little-endian (bytes-at 148 2 s)) where
       -- the number of index blocks as code reads it
-      got : get (layout4 .index-block) s ≡ n
-      unfolding layout4
+      got : get (layout-named s .index-block) s ≡ n
+      unfolding format-of format4 layout4
       got = get-at 148 2 s ∙ sym ne
 
-      pub frame-index : 32767 < n → framed (Framed.Refused 5) ≡ frame-from format4 s
-      unfolding framed frame-from format4
+      pub frame-index : 32767 < n → framed (layout-named s) (Framed.Refused 5) ≡ frame-from (format-of s) s
+      unfolding framed frame-from format-of format4 layout4
       frame-index h = rw (← ke, kt, ← oe, ot, got, lt-ltb 32767 n h)
 
       module _ (nt : n ≤ 32767) where
-        pub frame-past : length s < 256 + 256 * n → framed (Framed.Refused 5) ≡ frame-from format4 s
-        unfolding framed frame-from format4
+        pub frame-past : length s < 256 + 256 * n → framed (layout-named s) (Framed.Refused 5) ≡ frame-from (format-of s) s
+        unfolding framed frame-from format-of format4 layout4
         frame-past h = rw (← ke, kt, ← oe, ot, got, le-ltb 32767 n nt, lt-ltb (length s) (256 + 256 * n) h)
 
         module _ (lt : 256 + 256 * n ≤ length s) where
-          pub frame-data : 65536 < (length s - (256 + 256 * n)) / 256 → framed (Framed.Refused 5) ≡ frame-from format4 s
-          unfolding framed frame-from format4
+          pub frame-data : 65536 < (length s - (256 + 256 * n)) / 256 → framed (layout-named s) (Framed.Refused 5) ≡ frame-from (format-of s) s
+          unfolding framed frame-from format-of format4 layout4
           frame-data h = rw (← ke, kt, ← oe, ot, got, le-ltb 32767 n nt, le-ltb (length s) (256 + 256 * n) lt, lt-ltb 65536 ((length s - (256 + 256 * n)) / 256) h)
 
-          pub frame-whole : (length s - (256 + 256 * n)) / 256 ≤ 65536 → framed (Framed.Blocks n ((length s - (256 + 256 * n)) / 256)) ≡ frame-from format4 s
-          unfolding framed frame-from format4
+          pub frame-whole : (length s - (256 + 256 * n)) / 256 ≤ 65536
+              → framed (layout-named s) (Framed.Blocks (record { extended = 0; width = 2; order = 0; limit = 1_024 }) n ((length s - (256 + 256 * n)) / 256)) ≡ frame-from (format-of s) s
+          unfolding framed frame-from format-of format4 layout4
           frame-whole h = rw (← ke, kt, ← oe, ot, got, le-ltb 32767 n nt, le-ltb (length s) (256 + 256 * n) lt, le-ltb 65536 ((length s - (256 + 256 * n)) / 256) h)
+
+-- a refusal tells no form, and the one form of document 01 is one that the code takes
+pub no-form : (k : ℕ) → FormTold (Framed.Refused k)
+no-form k f n d e = clash cc
+
+pub one-form : (n d : ℕ) → FormTold (Framed.Blocks (record { extended = 0; width = 2; order = 0; limit = 1_024 }) n d)
+one-form n d f n′ d′ e =
+    let w : 2 ≡ f .width = cc in
+    let l : 1_024 ≡ f .limit = cc in
+    let x : 0 ≡ f .extended = cc in
+    ((omega arith, omega arith, rw (← w)), omega arith, omega arith, rw (← x))
 
 -- ---- row 11
 -- the low byte of the version
-pub version-writable : (s : List ℕ) (v : ℕ) → v ≡ from-little-endian (bytes-at 140 2 s) → ltb (v % 256) 16 ≡ writable layout4 s
-unfolding writable layout4
+pub version-writable : (s : List ℕ) (v : ℕ) → v ≡ from-little-endian (bytes-at 140 2 s) → ltb (v % 256) 16 ≡ writable (layout-named s) s
+unfolding writable format-of format4 layout4
 version-writable s v e = rw (get-at 140 2 s, ← e)
 
 -- ---- stores
 -- one more update
-pub update-raised : (s : List ℕ) (n r : ℕ) → n ≡ from-little-endian (bytes-at 208 4 s) → r ≡ (n + 1) % 4294967296 → r ≡ (get (layout4 .update-count) s + 1) % 4294967296
-unfolding layout4
+pub update-raised : (s : List ℕ) (n r : ℕ) → n ≡ from-little-endian (bytes-at 208 4 s) → r ≡ (n + 1) % 4294967296 → r ≡ (get (layout-named s .update-count) s + 1) % 4294967296
+unfolding format-of format4 layout4
 update-raised s n r e p = p ∙ rw (e, get-at 208 4 s)
 
 -- the six stores of a change
 pub counts-stored : (s s₁ s₂ s₃ s₄ s₅ s₆ : List ℕ) (index words first elements blocks update : ℕ)
-    → update ≡ (get (layout4 .update-count) s + 1) % 4294967296
+    → update ≡ (get (layout-named s .update-count) s + 1) % 4294967296
     → s₁ ≡ write 208 (to-little-endian 4 update) s
     → s₂ ≡ write 194 (to-little-endian 4 blocks) s₁
     → s₃ ≡ write 190 (to-little-endian 4 elements) s₂
     → s₄ ≡ write 186 (to-little-endian 4 first) s₃
     → s₅ ≡ write 160 (to-little-endian 4 words) s₄
     → s₆ ≡ write 148 (to-little-endian 2 index) s₅
-    → s₆ ≡ changed-header layout4 (record { index-blocks = index; entries = words; first-free = first; elements = elements; run-blocks = blocks }) s
+    → s₆ ≡ changed-header (layout-named s) (record { index-blocks = index; entries = words; first-free = first; elements = elements; run-blocks = blocks }) s
 unfolding open-header
 counts-stored s s₁ s₂ s₃ s₄ s₅ s₆ index words first elements blocks update e p₁ p₂ p₃ p₄ p₅ p₆ = rw (p₆, p₅, p₄, p₃, p₂, p₁, e)
 
@@ -318,48 +354,64 @@ module _ (s : List ℕ) (L : ℕ) where
     pub slice-holds : L ≤ length s
     slice-holds = rule .in-slice
 
+-- the layout that a header names stands in its first 256 bytes
+pub layout-kept : (s t : List ℕ) → take 256 s ≡ take 256 t → layout-named s ≡ layout-named t
+unfolding format-of
+layout-kept s t h = refl
+
 -- what an answer of `frame` tells
-module _ (s : List ℕ) (r : Framed) (e : framed r ≡ frame-from format4 s) where
+module _ (s : List ℕ) (r : Framed) (e : framed (layout-named s) r ≡ frame-from (format-of s) s) where
   -- a refusal is that of rows 3 to 5
-  pub frame-refused : (k : ℕ) → r ≡ Framed.Refused k → frame-from format4 s ≡ refused k
+  pub frame-refused : (k : ℕ) → r ≡ Framed.Refused k → frame-from (format-of s) s ≡ refused k
   unfolding framed
   frame-refused k h = sym (rw h at e)
 
-  -- numbers of blocks are the frame's
-  pub frame-read : (n d : ℕ) → r ≡ Framed.Blocks n d → frame-from format4 s ≡ ok (frame4 n d)
+  -- form and numbers of blocks are the frame's
+  pub frame-read : (f : Form) (n d : ℕ) → r ≡ Framed.Blocks f n d → frame-from (format-of s) s ≡ ok (frame-by (layout-named s) f n d)
   unfolding framed
-  frame-read n d h = sym (rw h at e)
+  frame-read f n d h = sym (rw h at e)
 
 -- what a frame of n index blocks and d data blocks tells of its image
-module _ (s : List ℕ) (n d : ℕ) (read : frame-from format4 s ≡ ok (frame4 n d)) where
-  fits : FrameFits format4 s (frame4 n d)
-  fits = frame-fits format4 s (frame4 n d) read
+module _ (s : List ℕ) (f : Form) (n d : ℕ) (read : frame-from (format-of s) s ≡ ok (frame-by (layout-named s) f n d)) where
+  fits : FrameFits (format-of s) s (frame-by (layout-named s) f n d)
+  fits = frame-fits (format-of s) s (frame-by (layout-named s) f n d) read
 
-  -- at most 32,767 index blocks,
+  -- its format is the one of this form,
+  pub frame-format : format-of s ≡ format-by (layout-named s) f
+  frame-format = sym (ap (λ (g : Frame). g .format) (fits .is))
+
+  -- by which the frame and the image are read,
+  pub frame-by-form : frame-from (format-by (layout-named s) f) s ≡ ok (frame-by (layout-named s) f n d)
+  frame-by-form = subst (λ (F : Format). frame-from F s ≡ ok (frame-by (layout-named s) f n d)) frame-format read
+
+  pub image-by-form : image-from s ≡ image-by (format-by (layout-named s) f) s
+  unfolding image-from
+  image-by-form = ap (λ (F : Format). image-by F s) frame-format
+
+  -- it has at most 32,767 index blocks,
   pub frame-index-few : n ≤ 32767
   frame-index-few = fits .index-few
 
   -- which lie in the image,
-  pub frame-index-inside : 256 + 256 * n ≤ length s
-  unfolding format4
-  frame-index-inside = fits .index-inside
+  pub frame-index-inside : area-start f n ≤ length s
+  frame-index-inside = subst (λ (F : Format). F .header-bytes + 256 * n ≤ length s) frame-format (fits .index-inside)
 
-  -- at most 65,536 data blocks,
-  pub frame-data-few : d ≤ 65536
-  unfolding format4
-  frame-data-few = fits .data-few
+  -- no more data blocks than row 5 allows,
+  pub frame-data-few : d ≤ most-of (f .width)
+  frame-data-few = subst (λ (F : Format). d ≤ F .most-blocks) frame-format (fits .data-few)
 
   -- and these are all that follows
-  pub frame-length-is : length s % 256 ≡ 0 → 256 + 256 * n + 256 * d ≡ length s
-  unfolding format4
-  frame-length-is w = omega (arith, fits .index-inside, fits .data-are)
+  pub frame-length-is : length s % 256 ≡ 0 → f .extended % 256 ≡ 0 → area-start f n + 256 * d ≡ length s
+  frame-length-is w x =
+      let k : d ≡ (length s - area-start f n) / 256 = subst (λ (F : Format). d ≡ (length s - (F .header-bytes + 256 * n)) / 256) frame-format (fits .data-are) in
+      omega (arith, frame-index-inside)
 
 -- the index area as code takes it
-pub index-slice : (s : List ℕ) (n d : ℕ) → index-area (frame4 n d) s ≡ take (256 + 256 * n - 256) (drop 256 s)
-unfolding index-area bytes-at format4
-index-slice s n d = let e : 256 * n ≡ 256 + 256 * n - 256 = omega arith in ap (λ (k : ℕ). take k (drop 256 s)) e
+pub index-slice : (o : Layout) (f : Form) (s : List ℕ) (n d : ℕ) → index-area (frame-by o f n d) s ≡ index-part f s n
+unfolding index-area bytes-at
+index-slice o f s n d = let e : 256 * n ≡ area-start f n - index-start f = omega arith in ap (λ (k : ℕ). take k (drop (index-start f) s)) e
 
 -- the data area as code takes it
-pub data-slice : (s : List ℕ) (n d : ℕ) → data-area (frame4 n d) s ≡ take (length s - (256 + 256 * n)) (drop (256 + 256 * n) s)
-unfolding data-area data-start format4
-data-slice s n d = sym (take-all (length s - (256 + 256 * n)) (drop (256 + 256 * n) s) (omega (arith, length-drop (256 + 256 * n) s)))
+pub data-slice : (o : Layout) (f : Form) (s : List ℕ) (n d : ℕ) → data-area (frame-by o f n d) s ≡ data-part f s n
+unfolding data-area data-start
+data-slice o f s n d = sym (take-all (length s - area-start f n) (drop (area-start f n) s) (omega (arith, length-drop (area-start f n) s)))

@@ -4,11 +4,14 @@ ghost use Prim.Native.Nat.{_+_, _≤_, _<_, _%_};
 ghost use lib.ListN.{length};
 ghost use Rattle.spec.specs.Outcome.{accepted};
 ghost use Rattle.spec.specs.Bytes.{write};
-ghost use Rattle.spec.specs.Header.{layout4, format4, get, put-all, writable, changed-header, empty-image};
+ghost use Rattle.spec.specs.Header.{layout4, format-of, get, put-all, writable, changed-header, empty-image};
 ghost use Rattle.spec.specs.Check.{slice-ok, kind-ok, options-ok, frame-from};
-ghost use Rattle.header.specs.Framed.{framed};
+ghost use Rattle.header.specs.Form.{layout-named};
+ghost use Rattle.header.specs.Framed.{framed, FormTold};
 ghost use Rattle.header.specs.Empty.{size-settings};
 use byteops::LIST_END;
+use byteops::LONGEST_HEADWORD;
+use byteops::LONGEST_TEXT;
 use byteops::read_u16;
 use byteops::read_u32;
 use byteops::write_u8;
@@ -52,9 +55,32 @@ const INDEX_BLKBIT: usize = 198;
 
 const UPDATE_COUNT: usize = 208;
 
-// How many blocks the index and the data area of an image have, or the first of rows 3 to 5 that it breaks.
+// Bytes of the header itself, and the most blocks of an index and of a data area.
+pub const HEADER: usize = 256;
+
+pub const MOST_INDEX_BLOCKS: usize = 32767;
+
+pub const MOST_BLOCKS: usize = 65536;
+
+// The bytes that a part may take when a list is cut.
+const RUN_LIMIT: usize = 1024;
+
+// What a file fixes by its header for all that stands behind: the bytes of the extended header, the bytes of a block number in the
+// index, the order of headwords, and the bytes that a part may take when a list is cut.
+pub struct Form {
+    pub extended: usize,
+    pub width: usize,
+    pub order: usize,
+    pub limit: usize,
+}
+
+// The form of an image, and how many blocks its index and its data area have; or the first of rows 3 to 5 that it breaks.
 pub enum Framed {
-    Blocks { index: usize, data: usize },
+    Blocks {
+        form: Form,
+        index: usize,
+        data: usize,
+    },
     Refused(u32),
 }
 
@@ -62,7 +88,7 @@ pub enum Framed {
 pub fn slice_ok(s: &[u8], len: usize) -> bool
     ensures { λ r. ⌜ r ≡ accepted (slice-ok (now (s .entry)) len) ⌝ }
 {
-    if len < 256 {
+    if len < HEADER {
         return false;
     }
     if len % 256 != 0 {
@@ -74,7 +100,7 @@ pub fn slice_ok(s: &[u8], len: usize) -> bool
 // The number of index elements.
 pub fn nindex2(s: &[u8]) -> usize
     requires { ⌜ 256 ≤ length (now s) ⌝ }
-    ensures { λ r. ⌜ r ≡ get (layout4 .nindex2) (now (s .entry)) ⌝ }
+    ensures { λ r. ⌜ r ≡ get (layout-named (now (s .entry)) .nindex2) (now (s .entry)) ⌝ }
     ensures { λ r. ⌜ r < 4294967296 ⌝ }
 {
     read_u32(s, NINDEX2)
@@ -83,7 +109,7 @@ pub fn nindex2(s: &[u8]) -> usize
 // The number of entries.
 pub fn nword(s: &[u8]) -> usize
     requires { ⌜ 256 ≤ length (now s) ⌝ }
-    ensures { λ r. ⌜ r ≡ get (layout4 .nword) (now (s .entry)) ⌝ }
+    ensures { λ r. ⌜ r ≡ get (layout-named (now (s .entry)) .nword) (now (s .entry)) ⌝ }
     ensures { λ r. ⌜ r < 4294967296 ⌝ }
 {
     read_u32(s, NWORD)
@@ -92,7 +118,7 @@ pub fn nword(s: &[u8]) -> usize
 // The number of data blocks in runs.
 pub fn nblock2(s: &[u8]) -> usize
     requires { ⌜ 256 ≤ length (now s) ⌝ }
-    ensures { λ r. ⌜ r ≡ get (layout4 .nblock2) (now (s .entry)) ⌝ }
+    ensures { λ r. ⌜ r ≡ get (layout-named (now (s .entry)) .nblock2) (now (s .entry)) ⌝ }
     ensures { λ r. ⌜ r < 4294967296 ⌝ }
 {
     read_u32(s, NBLOCK2)
@@ -101,7 +127,7 @@ pub fn nblock2(s: &[u8]) -> usize
 // The first free block.
 pub fn empty_block2(s: &[u8]) -> usize
     requires { ⌜ 256 ≤ length (now s) ⌝ }
-    ensures { λ r. ⌜ r ≡ get (layout4 .empty-block2) (now (s .entry)) ⌝ }
+    ensures { λ r. ⌜ r ≡ get (layout-named (now (s .entry)) .empty-block2) (now (s .entry)) ⌝ }
     ensures { λ r. ⌜ r < 4294967296 ⌝ }
 {
     read_u32(s, EMPTY_BLOCK2)
@@ -110,7 +136,7 @@ pub fn empty_block2(s: &[u8]) -> usize
 // Whether the header is of this kind of file: row 3.
 fn kind_ok(s: &[u8]) -> bool
     requires { ⌜ 256 ≤ length (now s) ⌝ }
-    ensures { λ r. ⌜ r ≡ kind-ok layout4 (now (s .entry)) ⌝ }
+    ensures { λ r. ⌜ r ≡ kind-ok (layout-named (now (s .entry))) (now (s .entry)) ⌝ }
 {
     if read_u16(s, VERSION) / 256 != 4 {
         return false;
@@ -130,7 +156,7 @@ fn kind_ok(s: &[u8]) -> bool
 // Whether the header asks for nothing that is left out: row 4.
 fn options_ok(s: &[u8]) -> bool
     requires { ⌜ 256 ≤ length (now s) ⌝ }
-    ensures { λ r. ⌜ r ≡ options-ok layout4 (now (s .entry)) ⌝ }
+    ensures { λ r. ⌜ r ≡ options-ok (layout-named (now (s .entry))) (now (s .entry)) ⌝ }
 {
     if s[DICORDER] != 0 {
         return false;
@@ -150,7 +176,8 @@ fn options_ok(s: &[u8]) -> bool
 // The frame of the image in all bytes of `s`: rows 3 to 5.
 pub fn frame(s: &[u8]) -> Framed
     requires { ⌜ 256 ≤ length (now s) ⌝ }
-    ensures { λ r. ⌜ framed r ≡ frame-from format4 (now (s .entry)) ⌝ }
+    ensures { λ r. ⌜ framed (layout-named (now (s .entry))) r ≡ frame-from (format-of (now (s .entry))) (now (s .entry)) ⌝ }
+    ensures { λ r. ⌜ FormTold r ⌝ }
 {
     if !kind_ok(s) {
         return Framed::Refused(3);
@@ -158,25 +185,34 @@ pub fn frame(s: &[u8]) -> Framed
     if !options_ok(s) {
         return Framed::Refused(4);
     }
-    let n = read_u16(s, INDEX_BLOCK);
-    let start = 256 + 256 * n;
-    if 32767 < n {
+    let index = read_u16(s, INDEX_BLOCK);
+    let start = HEADER + 256 * index;
+    if MOST_INDEX_BLOCKS < index {
         return Framed::Refused(5);
     }
     if s.len() < start {
         return Framed::Refused(5);
     }
-    let d = (s.len() - start) / 256;
-    if 65536 < d {
+    let data = (s.len() - start) / 256;
+    if MOST_BLOCKS < data {
         return Framed::Refused(5);
     }
-    Framed::Blocks { index: n, data: d }
+    Framed::Blocks {
+        form: Form {
+            extended: 0,
+            width: 2,
+            order: 0,
+            limit: RUN_LIMIT,
+        },
+        index: index,
+        data: data,
+    }
 }
 
 // Whether the image may be changed: row 11.
 pub fn writable(s: &[u8]) -> bool
     requires { ⌜ 256 ≤ length (now s) ⌝ }
-    ensures { λ r. ⌜ r ≡ writable layout4 (now (s .entry)) ⌝ }
+    ensures { λ r. ⌜ r ≡ writable (layout-named (now (s .entry))) (now (s .entry)) ⌝ }
 {
     read_u16(s, VERSION) % 256 < 16
 }
@@ -184,7 +220,7 @@ pub fn writable(s: &[u8]) -> bool
 // The update count with one added; it goes from 4,294,967,295 to 0.
 fn next_update(s: &[u8]) -> usize
     requires { ⌜ 256 ≤ length (now s) ⌝ }
-    ensures { λ r. ⌜ r ≡ (get (layout4 .update-count) (now (s .entry)) + 1) % 4294967296 ⌝ }
+    ensures { λ r. ⌜ r ≡ (get (layout-named (now (s .entry)) .update-count) (now (s .entry)) + 1) % 4294967296 ⌝ }
 {
     let count = read_u32(s, UPDATE_COUNT) as u32;
     std::num::wrapping_add_u32(count, 1) as usize
@@ -200,7 +236,8 @@ pub fn write_counts(
     blocks: usize,
 )
     requires { ⌜ 256 ≤ length (now s) ⌝ }
-    ensures { λ _. ⌜ now (s .exit) ≡ changed-header layout4 (record { index-blocks = index; entries = words; first-free = first; elements = elements; run-blocks = blocks }) (now (s .entry)) ⌝ }
+    ensures { λ _. ⌜ now (s .exit) ≡ changed-header (layout-named (now (s .entry)))
+        (record { index-blocks = index; entries = words; first-free = first; elements = elements; run-blocks = blocks }) (now (s .entry)) ⌝ }
     ensures { λ _. ⌜ length (now (s .exit)) ≡ length (now (s .entry)) ⌝ }
 {
     let update = next_update(s);
@@ -220,9 +257,9 @@ fn write_sizes(s: &mut [u8])
 {
     write_u16(s, HEADER_SIZE, 256);
     write_u16(s, BLOCK_SIZE, 256);
-    write_u16(s, LJAPA, 3000);
-    write_u16(s, LWORD, 248);
-    write_u16(s, VERSION, 1024);
+    write_u16(s, LJAPA, LONGEST_TEXT);
+    write_u16(s, LWORD, LONGEST_HEADWORD);
+    write_u16(s, VERSION, 0x0400);
 }
 
 // Stores the empty image.
@@ -231,7 +268,7 @@ pub fn write_empty(s: &mut [u8])
     ensures { λ _. ⌜ now (s .exit) ≡ write 0 (empty-image layout4) (now (s .entry)) ⌝ }
     ensures { λ _. ⌜ length (now (s .exit)) ≡ length (now (s .entry)) ⌝ }
 {
-    byteops::fill_zero(s, 0, 256);
+    byteops::fill_zero(s, 0, HEADER);
     write_u32(s, EMPTY_BLOCK2, LIST_END);
     write_u16(s, EMPTY_BLOCK, 0xFFFF);
     write_u8(s, ATTRLEN, 1);

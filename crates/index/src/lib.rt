@@ -7,6 +7,7 @@ ghost use Rattle.spec.specs.Outcome.{accepted};
 ghost use Rattle.spec.specs.Order.{below-of};
 ghost use Rattle.spec.specs.Index.{elements-from};
 ghost use Rattle.index.specs.Elements.{element-end, elements-end, ended, Inside, concerned-from};
+use byteops::LONGEST_HEADWORD;
 
 // An element of the index: where it starts, and how many elements there are from it on.
 pub struct Place {
@@ -21,38 +22,39 @@ pub enum Ended {
 }
 
 // Where the zero byte of the element at `at` is.
-pub fn element_end(index: &[u8], at: usize) -> usize
-    requires { ⌜ at + 2 ≤ length (now index) ⌝ }
-    ensures { λ r. ⌜ r ≡ element-end (now (index .entry)) at ⌝ }
-    ensures { λ r. ⌜ (at + 2 ≤ r) × (r ≤ length (now (index .entry))) ⌝ }
+pub fn element_end(width: usize, index: &[u8], at: usize) -> usize
+    requires { ⌜ at + width ≤ length (now index) ⌝ }
+    ensures { λ r. ⌜ r ≡ element-end width (now (index .entry)) at ⌝ }
+    ensures { λ r. ⌜ (at + width ≤ r) × (r ≤ length (now (index .entry))) ⌝ }
 {
-    scans::first_zero(index, at + 2, index.len())
+    scans::first_zero(index, at + width, index.len())
 }
 
-// Where n elements of the index end, if they stand there by their rules, and then zeros, at least four, up to its end: row 6.
-pub fn read_elements(index: &[u8], n: usize) -> Ended
-    ensures { λ r. ⌜ r ≡ ended (accepted (elements-from 2 (below-of 0) n [] (now (index .entry)))) (elements-end (now (index .entry)) 0 n) ⌝ }
+// Where so many elements of the index end, if they stand there by their rules, and then zeros, at least four, up to its end: row 6.
+pub fn read_elements(width: usize, order: usize, index: &[u8], elements: usize) -> Ended
+    requires { ⌜ 1 ≤ width ⌝ }
+    ensures { λ r. ⌜ r ≡ ended (accepted (elements-from width (below-of order) elements [] (now (index .entry)))) (elements-end width (now (index .entry)) 0 elements) ⌝ }
 {
     let mut at = 0;
-    let mut left = n;
+    let mut left = elements;
     // the headword before stands from `start` up to `end`
     let mut start = 0;
     let mut end = 0;
     while 0 < left {
-        if index.len() - at < 2 {
+        if index.len() - at < width {
             return Ended::Broken;
         }
-        let zero = element_end(index, at);
+        let zero = element_end(width, index, at);
         if index.len() <= zero {
             return Ended::Broken;
         }
-        if 248 < zero - (at + 2) {
+        if LONGEST_HEADWORD < zero - (at + width) {
             return Ended::Broken;
         }
-        if !scans::is_below(0, &index[start..end], &index[at + 2..zero]) {
+        if !scans::is_below(order, &index[start..end], &index[at + width..zero]) {
             return Ended::Broken;
         }
-        start = at + 2;
+        start = at + width;
         end = zero;
         at = zero + 1;
         left -= 1;
@@ -67,20 +69,20 @@ pub fn read_elements(index: &[u8], n: usize) -> Ended
 }
 
 // The element of the run concerned: the last whose headword is not above `h`, else the first.
-pub fn concerned(index: &[u8], n: usize, h: &[u8]) -> Place
-    requires { ⌜ 1 ≤ n ⌝ }
-    requires { ⌜ Inside (now index) 0 n ⌝ }
-    ensures { λ r. ⌜ r ≡ concerned-from (below-of 0) (now (index .entry)) (now (h .entry)) 0 (n - 1) ⌝ }
-    ensures { λ r. ⌜ (1 ≤ r .left) × Inside (now (index .entry)) (r .at) (r .left) ⌝ }
+pub fn concerned(width: usize, order: usize, index: &[u8], elements: usize, h: &[u8]) -> Place
+    requires { ⌜ 1 ≤ elements ⌝ }
+    requires { ⌜ Inside width (now index) 0 elements ⌝ }
+    ensures { λ r. ⌜ r ≡ concerned-from width (below-of order) (now (index .entry)) (now (h .entry)) 0 (elements - 1) ⌝ }
+    ensures { λ r. ⌜ (1 ≤ r .left) × Inside width (now (index .entry)) (r .at) (r .left) ⌝ }
 {
     let mut at = 0;
-    let mut left = n;
+    let mut left = elements;
     // where the zero byte of the element at `at` is
-    let mut end = element_end(index, 0);
+    let mut end = element_end(width, index, 0);
     while 1 < left {
         let next = end + 1;
-        let zero = element_end(index, next);
-        if scans::is_below(0, h, &index[next + 2..zero]) {
+        let zero = element_end(width, index, next);
+        if scans::is_below(order, h, &index[next + width..zero]) {
             return Place { at: at, left: left };
         }
         at = next;

@@ -1,121 +1,127 @@
 -- What an accepted image tells of its parts, as the code cuts them out.
-use Prim.Native.Nat.{ℕ, _+_, _-_, _*_, _%_, _≤_}
-use mathlib.Core.Path.{_≡_, sym, ap, ap₂, subst, _∙_}
+use Prim.Native.Nat.{ℕ, _+_, _*_, _%_, _≤_}
+use mathlib.Core.Path.{_≡_, sym, ap, _∙_}
 use mathlib.Core.Bool.{Bool, false}
-use mathlib.Core.List.{List, [], _++_}
+use mathlib.Core.List.{List, []}
 use mathlib.Core.Option.{Option}
-use lib.ListN.{length, take, replicate}
+use native.Mathlib.Omega.{arith}
+use lib.ListN.{length, take}
 use lib.Seq.{length-take-le}
 use Rattle.spec.specs.Outcome.{ok}
-use Rattle.spec.specs.Order.{below-of}
-use Rattle.spec.specs.Header as HeaderSpec
-use Rattle.spec.specs.Header.{layout4, format4, get}
+use Rattle.spec.specs.Order.{HeadwordOrder, below-of}
+use Rattle.spec.specs.Header.{format-of, get}
 use Rattle.spec.specs.Entry.{Entry}
 use Rattle.spec.specs.Run.{Run}
 use Rattle.spec.specs.Index.{index-from}
-use Rattle.spec.specs.Blocks.{free-marks}
 use Rattle.spec.specs.Check as CheckSpec
 use Rattle.spec.specs.Check.{Frame, Image, index-area, data-area, frame-from, runs-from, image-from, all-entries, entries-of}
 use Rattle.spec.specs.SortedList.{lookup, successor}
 use Rattle.spec.proofs.OutcomeLaws.{same-value}
 use Rattle.spec.proofs.OrderLaws.{order-of}
-use Rattle.spec.proofs.ReadLaws.{frame-fits, ImageTold, image-told, runs-ascend}
+use Rattle.spec.proofs.ReadLaws.{ImageTold, image-told, runs-ascend}
 use Rattle.spec.proofs.SearchLaws.{exactly, entries-ascend, lookup-by-successor}
 use Rattle.index.specs.Elements.{elements-at, Inside}
-use Rattle.header.specs.Framed.{frame4}
-use Rattle.header.proofs.Laws.{frame-index-inside, frame-data-few, frame-length-is, index-slice, data-slice}
-use Rattle.inspect.specs.Overview.{overview, viewed, index-end, EndTold, AcceptedImage, index-part, data-part}
-use Rattle.inspect.specs.declared.Inspected.{Inspected}
-use Rattle.inspect.proofs.Laws.{index-told, data-long, SoundImage, overview-sound}
+use Rattle.byteops.specs.Width.{Width}
+use Rattle.header.specs.Form.{layout-named, most-of, format-by, frame-by, area-start, index-part, data-part}
+use Rattle.header.proofs.Laws.{frame-format, image-by-form, frame-index-few, frame-index-inside, frame-data-few, frame-length-is, index-slice, data-slice}
+use Rattle.inspect.specs.Overview.{AcceptedImage}
+use Rattle.inspect.specs.declared.Overview.{Overview}
+use Rattle.inspect.proofs.Laws.{index-told, data-long}
 
-module _ (s : List ℕ) (n d : ℕ) (a : AcceptedImage s n d) where
-  told : ImageTold format4 s (a .image)
-  unfolding CheckSpec.image-from HeaderSpec.format-of
-  told = image-told format4 s (a .image) (a .is)
+module _ (s : List ℕ) (v : Overview) (a : AcceptedImage s v) where
+  read : frame-from (format-of s) s ≡ ok (frame-by (layout-named s) (v .form) (v .n) (v .d))
+  unfolding CheckSpec.image-from
+  read = image-told (format-of s) s (a .image) (a .is) .frame ∙ ap ok (a .frame-is)
 
-  -- its frame has these blocks
-  pub accepted-frame : a .image .frame ≡ frame4 n d
-  accepted-frame = frame-fits format4 s (a .image .frame) (told .frame) .is ∙ ap₂ (λ (x y : ℕ). frame4 x y) (sym (a .index-blocks)) (sym (a .data-blocks))
+  -- its format is the one of its form, and the image's own
+  pub accepted-format : format-of s ≡ format-by (layout-named s) (v .form)
+  accepted-format = frame-format s (v .form) (v .n) (v .d) read
 
-  read : frame-from format4 s ≡ ok (frame4 n d)
-  read = told .frame ∙ ap ok accepted-frame
+  pub image-format : a .image .frame .format ≡ format-by (layout-named s) (v .form)
+  image-format = ap (λ (g : Frame). g .format) (a .frame-is)
+
+  -- and its blocks are those of the frame
+  pub accepted-n : v .n ≡ a .image .frame .index-blocks
+  accepted-n = ap (λ (g : Frame). g .index-blocks) (sym (a .frame-is))
+
+  pub accepted-d : v .d ≡ a .image .frame .data-blocks
+  accepted-d = ap (λ (g : Frame). g .data-blocks) (sym (a .frame-is))
+
+  -- what is read of it by the format of its form
+  pub accepted-told : ImageTold (format-by (layout-named s) (v .form)) s (a .image)
+  accepted-told = image-told (format-by (layout-named s) (v .form)) s (a .image) (sym (image-by-form s (v .form) (v .n) (v .d) read) ∙ a .is)
 
   -- the index lies inside the image
-  pub accepted-index : 256 + 256 * n ≤ length s
-  accepted-index = frame-index-inside s n d read
+  pub accepted-index : area-start (v .form) (v .n) ≤ length s
+  accepted-index = frame-index-inside s (v .form) (v .n) (v .d) read
 
-  -- there are no more data blocks than row 5 allows
-  pub accepted-blocks : d ≤ 65_536
-  accepted-blocks = frame-data-few s n d read
+  -- there are no more index blocks and data blocks than row 5 allows
+  pub accepted-few : v .n ≤ 32_767
+  accepted-few = frame-index-few s (v .form) (v .n) (v .d) read
+
+  pub accepted-blocks : v .d ≤ most-of (v .form .width)
+  accepted-blocks = frame-data-few s (v .form) (v .n) (v .d) read
 
   -- the data area behind the index is the rest
-  pub accepted-whole : length s % 256 ≡ 0 → 256 + 256 * n + 256 * d ≡ length s
-  accepted-whole = frame-length-is s n d read
+  pub accepted-whole : length s % 256 ≡ 0 → area-start (v .form) (v .n) + 256 * v .d ≡ length s
+  accepted-whole m = frame-length-is s (v .form) (v .n) (v .d) read m (a .good .3)
 
-  pub accepted-area : length s % 256 ≡ 0 → 256 * d ≡ length (data-part s n)
-  accepted-area m = data-long s n d (accepted-whole m)
+  pub accepted-area : length s % 256 ≡ 0 → 256 * v .d ≡ length (data-part (v .form) s (v .n))
+  accepted-area m = data-long s (v .form) (v .n) (v .d) (accepted-whole m)
 
-  module _ (e : ℕ) (number : e ≡ get (layout4 .nindex2) s) where
-    indexed : index-from 2 (below-of 0) (a .image .frame .index-blocks) e (index-part s n) ≡ ok (told .elements)
-    unfolding HeaderSpec.format4
-    indexed =
-        let x : index-area (a .image .frame) s ≡ index-part s n = ap (λ (g : Frame). index-area g s) accepted-frame ∙ index-slice s n d in
-        rw number (ap (index-from 2 (below-of 0) (a .image .frame .index-blocks) (get (layout4 .nindex2) s)) (sym x) ∙ told .index)
+  -- which four bytes can count
+  pub accepted-short : length s % 256 ≡ 0 → length (data-part (v .form) s (v .n)) ≤ 4_294_967_040
+  accepted-short m = omega (arith, accepted-area m, accepted-blocks)
+
+  -- its block numbers have two or four bytes
+  pub accepted-width : Width (v .form .width)
+  accepted-width = a .good .0
+
+  module _ (e : ℕ) (number : e ≡ get (layout-named s .nindex2) s) where
+    stands : (accepted-told .elements ≡ elements-at (v .form .width) (index-part (v .form) s (v .n)) 0 e) × Inside (v .form .width) (index-part (v .form) s (v .n)) 0 e
+    stands =
+        let x : index-area (a .image .frame) s ≡ index-part (v .form) s (v .n)
+        = ap (λ (g : Frame). index-area g s) (a .frame-is) ∙ index-slice (layout-named s) (v .form) s (v .n) (v .d) in
+        let wide : 1 ≤ v .form .width = omega (arith, a .good .0 .0) in
+        index-told (v .form .width) wide (below-of (v .form .order)) (index-part (v .form) s (v .n)) (a .image .frame .index-blocks) e (accepted-told .elements)
+        (rw number (ap (index-from (v .form .width) (below-of (v .form .order)) (a .image .frame .index-blocks) (get (layout-named s .nindex2) s)) (sym x) ∙ accepted-told .index))
 
     -- its elements stand inside the index
-    pub accepted-inside : Inside (index-part s n) 0 e
-    accepted-inside = index-told (index-part s n) (a .image .frame .index-blocks) e (told .elements) indexed .1
+    pub accepted-inside : Inside (v .form .width) (index-part (v .form) s (v .n)) 0 e
+    accepted-inside = stands .1
 
     -- and their runs are the image's
-    pub accepted-runs : runs-from (below-of 0) d (data-part s n) (elements-at (index-part s n) 0 e) ≡ ok (a .image .runs)
-    unfolding HeaderSpec.format4
+    pub accepted-runs : runs-from (below-of (v .form .order)) (v .d) (data-part (v .form) s (v .n)) (elements-at (v .form .width) (index-part (v .form) s (v .n)) 0 e) ≡ ok (a .image .runs)
     accepted-runs =
-        let p : a .image .frame .data-blocks ≡ d = sym (a .data-blocks) in
-        let q : data-area (a .image .frame) s ≡ data-part s n = ap (λ (g : Frame). data-area g s) accepted-frame ∙ data-slice s n d in
-        rw (← p, ← q, ← index-told (index-part s n) (a .image .frame .index-blocks) e (told .elements) indexed .0) (told .runs)
+        let p : a .image .frame .data-blocks ≡ v .d = ap (λ (g : Frame). g .data-blocks) (a .frame-is) in
+        let q : data-area (a .image .frame) s ≡ data-part (v .form) s (v .n)
+        = ap (λ (g : Frame). data-area g s) (a .frame-is) ∙ data-slice (layout-named s) (v .form) s (v .n) (v .d) in
+        rw (← p, ← q, ← stands .0) (accepted-told .runs)
 
     -- the entry sought in the runs is the one sought in any image that is read from the bytes
     pub accepted-sought : (x : Option Entry) (above : Bool) (h : List ℕ)
-        → ((rs : List Run) → runs-from (below-of 0) d (data-part s n) (elements-at (index-part s n) 0 e) ≡ ok rs → x ≡ successor (below-of 0) above h (all-entries rs))
-        → (i : Image) → image-from s ≡ ok i → x ≡ successor (below-of 0) above h (entries-of i)
+        → ((rs : List Run) → runs-from (below-of (v .form .order)) (v .d) (data-part (v .form) s (v .n)) (elements-at (v .form .width) (index-part (v .form) s (v .n)) 0 e) ≡ ok rs
+        → x ≡ successor (below-of (v .form .order)) above h (all-entries rs))
+        → (i : Image) → image-from s ≡ ok i → x ≡ successor (i .frame .format .below) above h (entries-of i)
     unfolding CheckSpec.entries-of
     accepted-sought x above h sought i o =
         let j : a .image ≡ i = same-value (a .image) i (sym (a .is) ∙ o) in
-        rw (← j) (sought (a .image .runs) accepted-runs)
+        let k : a .image .frame .format .below ≡ below-of (v .form .order) = ap (λ (g : Frame). g .format .below) (a .frame-is) in
+        rw (← j, k) (sought (a .image .runs) accepted-runs)
 
     -- the entry with the headword is the first not below it, if that has it
     pub accepted-lookup : (x : Option Entry) (h : List ℕ)
-        → ((rs : List Run) → runs-from (below-of 0) d (data-part s n) (elements-at (index-part s n) 0 e) ≡ ok rs → x ≡ successor (below-of 0) false h (all-entries rs))
+        → ((rs : List Run) → runs-from (below-of (v .form .order)) (v .d) (data-part (v .form) s (v .n)) (elements-at (v .form .width) (index-part (v .form) s (v .n)) 0 e) ≡ ok rs
+        → x ≡ successor (below-of (v .form .order)) false h (all-entries rs))
         → (i : Image) → image-from s ≡ ok i → lookup h (entries-of i) ≡ exactly h x
-    unfolding CheckSpec.entries-of HeaderSpec.format4
+    unfolding CheckSpec.entries-of
     accepted-lookup x h sought i o =
         let j : a .image ≡ i = same-value (a .image) i (sym (a .is) ∙ o) in
+        let b : HeadwordOrder = below-of (v .form .order) in
         let rs : List Run = a .image .runs in
-        let g = entries-ascend (below-of 0) (order-of 0) rs (runs-ascend (below-of 0) d (data-part s n) (elements-at (index-part s n) 0 e) rs accepted-runs) in
-        rw (← j) (lookup-by-successor (below-of 0) (order-of 0) h [] (all-entries rs) g ∙ ap (exactly h) (sym (sought rs accepted-runs)))
-
--- ---- what the answer tells of the image, for the crates above
-module _ (s : List ℕ) (k : ℕ) (ms : List Bool) (r : Inspected) (seen : overview r ms ≡ viewed k (image-from s)) (w n d x : ℕ) (e : r ≡ Inspected.Sound w n d x) where
-  sound : SoundImage k ms (image-from s) w n d
-  sound = overview-sound k ms (image-from s) r seen w n d x e
-
-  -- it is accepted
-  pub is-accepted : AcceptedImage s n d
-  is-accepted = record { image = sound .image; is = sound .is; index-blocks = sound .index-blocks; data-blocks = sound .data-blocks }
-
-  -- it has that many entries
-  pub words-are : (i : Image) → image-from s ≡ ok i → w ≡ length (entries-of i)
-  words-are i o = sound .words ∙ ap (λ (j : Image). length (entries-of j)) (same-value (sound .image) i (sym (sound .is) ∙ o))
-
-  -- and these free blocks
-  pub free-are : (m : ℕ) → k ≡ m → (i : Image) → image-from s ≡ ok i → ms ≡ free-marks (i .frame .data-blocks) (i .free-list) ++ replicate (m - i .frame .data-blocks) false
-  free-are m long i o =
-      let j : sound .image ≡ i = same-value (sound .image) i (sym (sound .is) ∙ o) in
-      rw (← j, ← long) (sound .free)
-
--- where its elements end
-pub end-is : (s : List ℕ) (r : Inspected) → EndTold s r → (w n d x : ℕ) → r ≡ Inspected.Sound w n d x → x ≡ index-end s n
-end-is s r t w n d x e = subst (EndTold s) e t
+        let g = entries-ascend b (order-of (v .form .order)) rs
+        (runs-ascend b (v .d) (data-part (v .form) s (v .n)) (elements-at (v .form .width) (index-part (v .form) s (v .n)) 0 e) rs accepted-runs) in
+        rw (← j) (lookup-by-successor b (order-of (v .form .order)) h [] (all-entries rs) g ∙ ap (exactly h) (sym (sought rs accepted-runs)))
 
 -- ---- the image at the front of a slice
 -- it is at least a header long

@@ -5,111 +5,109 @@ ghost use Prim.Native.Nat.{_+_, _*_, _%_, _≤_};
 ghost use lib.ListN.{length, replicate};
 ghost use Rattle.spec.specs.Order.{below-of};
 ghost use Rattle.spec.specs.Outcome.{ok, accepted};
-ghost use Rattle.spec.specs.Header.{format4};
+ghost use Rattle.spec.specs.Header.{format-of};
 ghost use Rattle.spec.specs.Index.{index-from};
-ghost use Rattle.spec.specs.Check.{frame-from, image-from};
-ghost use Rattle.header.specs.Framed.{frame4};
+ghost use Rattle.spec.specs.Check.{frame-from};
+ghost use Rattle.header.specs.Form.{layout-named, most-of, frame-by, GoodForm, area-start};
 ghost use Rattle.index.specs.Elements.{elements-end, ended};
 ghost use Rattle.marks.specs.Marks.{marks};
-ghost use Rattle.inspect.specs.Overview.{viewed, overview, index-end, EndTold, RunsRead};
+ghost use Rattle.inspect.specs.Overview.{Told, RunsRead};
+use header::Form;
 use header::Framed;
+use header::HEADER;
 use index::Ended;
 use tally::Runs;
 
-// The entries of an image, its index blocks and data blocks, and where the elements end in its index; or the first of rows 3 to
-// 10 that it breaks.
+// The words of a table that marks every block of a data area.
+pub const MARK_WORDS: usize = 1024;
+
+// What testing an image tells of it: its form, its index blocks and data blocks, its entries, and where the elements end in its
+// index.
+pub struct Overview {
+    pub form: Form,
+    pub n: usize,
+    pub d: usize,
+    pub words: usize,
+    pub end: usize,
+}
+
+// An image that keeps rows 3 to 10, or the first of them that it breaks.
 pub enum Inspected {
-    Sound {
-        words: usize,
-        index: usize,
-        area: usize,
-        end: usize,
-    },
+    Sound(Overview),
     Refused(u32),
 }
 
-// Where the n elements of an index of that many blocks end, if it keeps its rules: row 6.
-fn read_index(index: &[u8], blocks: usize, n: usize) -> Ended
-    ensures { λ r. ⌜ r ≡ ended (accepted (index-from 2 (below-of 0) blocks n (now (index .entry)))) (elements-end (now (index .entry)) 0 n) ⌝ }
+// Where so many elements of an index of n blocks end, if it keeps its rules: row 6.
+fn read_index(form: Form, index: &[u8], n: usize, elements: usize) -> Ended
+    requires { ⌜ 1 ≤ form .width ⌝ }
+    ensures { λ r. ⌜ r ≡ ended (accepted (index-from (form .width) (below-of (form .order)) n elements (now (index .entry))))
+        (elements-end (form .width) (now (index .entry)) 0 elements) ⌝ }
 {
-    if blocks == 0 {
-        if n == 0 {
+    if n == 0 {
+        if elements == 0 {
             return Ended::At(0);
         }
         return Ended::Broken;
     }
-    index::read_elements(index, n)
+    index::read_elements(form.width, form.order, index, elements)
 }
 
-// Rows 9 and 10, where all runs are read: each data block in one run or once on the free list, whose blocks are marked in
-// `free`, and the header's counts. The elements end at `end` in the index.
-fn settle(
-    s: &[u8],
-    n: usize,
-    d: usize,
-    end: usize,
-    words: usize,
-    blocks: usize,
-    used: &mut [u64],
-    free: &mut [u64],
-) -> Inspected
-    requires { ⌜ RunsRead (now s) n d words blocks (marks (now used)) ⌝ }
-    requires { ⌜ (256 + 256 * n + 256 * d ≡ length (now s)) × (d ≤ 65536) × (d ≤ 64 * length (now used)) × (d ≤ 64 * length (now free)) ⌝ }
-    requires { ⌜ end ≡ index-end (now s) n ⌝ }
+// Rows 9 and 10 of an image whose runs are read: so many blocks, which are marked.
+fn settle(s: &[u8], v: Overview, blocks: usize, used: &mut [u64], free: &mut [u64]) -> Inspected
+    requires { ⌜ RunsRead (now s) v blocks (marks (now used)) ⌝ }
+    requires { ⌜ (area-start (v .form) (v .n) + 256 * v .d ≡ length (now s)) × (v .d ≤ 0xFFFFFF) × (v .d ≤ 64 * length (now used)) × (v .d ≤ 64 * length (now free)) ⌝ }
     requires { ⌜ marks (now free) ≡ replicate (64 * length (now free)) false ⌝ }
-    ensures { λ r. ⌜ overview r (marks (now (free .exit))) ≡ viewed (64 * length (now (free .entry))) (image-from (now (s .entry))) ⌝ }
-    ensures { λ r. ⌜ EndTold (now (s .entry)) r ⌝ }
+    ensures { λ r. ⌜ Told (now (s .entry)) (marks (now (free .exit))) r ⌝ }
 {
+    let d = v.d;
     if d < blocks {
         return Inspected::Refused(9);
     }
-    let area = &s[256 + 256 * n..];
+    let start = HEADER + v.form.extended + 256 * v.n;
     let first = header::empty_block2(s);
-    if !freelist::read_free_list(area, d, first, d - blocks, used, free) {
+    if !freelist::read_free_list(&s[start..], d, first, d - blocks, used, free) {
         return Inspected::Refused(9);
     }
     if marks::next_unmarked(used, 0, d) < d {
         return Inspected::Refused(9);
     }
-    if header::nword(s) != words {
+    if header::nword(s) != v.words {
         return Inspected::Refused(10);
     }
     if header::nblock2(s) != blocks {
         return Inspected::Refused(10);
     }
-    Inspected::Sound {
-        words: words,
-        index: n,
-        area: d,
-        end: end,
-    }
+    Inspected::Sound(v)
 }
 
-// Rows 6 to 10 of an image of n index blocks and d data blocks.
-fn inspect_areas(s: &[u8], n: usize, d: usize, free: &mut [u64]) -> Inspected
-    requires { ⌜ frame-from format4 (now s) ≡ ok (frame4 n d) ⌝ }
-    requires { ⌜ (256 + 256 * n + 256 * d ≡ length (now s)) × (n ≤ 32767) × (d ≤ 65536) × (1024 ≤ length (now free)) ⌝ }
+// Rows 6 to 10 of an image of that form, of n index blocks and d data blocks.
+fn inspect_areas(s: &[u8], form: Form, n: usize, d: usize, free: &mut [u64]) -> Inspected
+    requires { ⌜ (frame-from (format-of (now s)) (now s) ≡ ok (frame-by (layout-named (now s)) form n d)) × GoodForm form ⌝ }
+    requires { ⌜ (area-start form n + 256 * d ≡ length (now s)) × (n ≤ 32767) × (d ≤ most-of (form .width)) × (d ≤ 64 * length (now free)) ⌝ }
     requires { ⌜ marks (now free) ≡ replicate (64 * length (now free)) false ⌝ }
-    ensures { λ r. ⌜ overview r (marks (now (free .exit))) ≡ viewed (64 * length (now (free .entry))) (image-from (now (s .entry))) ⌝ }
-    ensures { λ r. ⌜ EndTold (now (s .entry)) r ⌝ }
+    ensures { λ r. ⌜ Told (now (s .entry)) (marks (now (free .exit))) r ⌝ }
 {
-    let start = 256 + 256 * n;
-    let index = &s[256..start];
+    let from = HEADER + form.extended;
+    let start = from + 256 * n;
+    let index = &s[from..start];
     let elements = header::nindex2(s);
-    let ended = read_index(index, n, elements);
+    let ended = read_index(form, index, n, elements);
     match ended {
         Ended::Broken => Inspected::Refused(6),
         Ended::At(end) => {
-            let mut used = [0u64; 1024];
-            let r = tally::read_runs(index, elements, &s[start..], d, &mut used);
+            let mut used = [0u64; MARK_WORDS];
+            let r = tally::read_runs(form, index, elements, &s[start..], d, &mut used);
             match r {
                 Runs::Refused(k) => Inspected::Refused(k),
                 Runs::Read { words, blocks } => settle(
                     s,
-                    n,
-                    d,
-                    end,
-                    words,
+                    Overview {
+                        form: form,
+                        n: n,
+                        d: d,
+                        words: words,
+                        end: end,
+                    },
                     blocks,
                     &mut used,
                     free,
@@ -123,12 +121,11 @@ fn inspect_areas(s: &[u8], n: usize, d: usize, free: &mut [u64]) -> Inspected
 pub fn inspect(s: &[u8], free: &mut [u64]) -> Inspected
     requires { ⌜ (256 ≤ length (now s)) × (length (now s) % 256 ≡ 0) × (1024 ≤ length (now free)) ⌝ }
     requires { ⌜ marks (now free) ≡ replicate (64 * length (now free)) false ⌝ }
-    ensures { λ r. ⌜ overview r (marks (now (free .exit))) ≡ viewed (64 * length (now (free .entry))) (image-from (now (s .entry))) ⌝ }
-    ensures { λ r. ⌜ EndTold (now (s .entry)) r ⌝ }
+    ensures { λ r. ⌜ Told (now (s .entry)) (marks (now (free .exit))) r ⌝ }
 {
     let f = header::frame(s);
     match f {
         Framed::Refused(k) => Inspected::Refused(k),
-        Framed::Blocks { index, data } => inspect_areas(s, index, data, free),
+        Framed::Blocks { form, index, data } => inspect_areas(s, form, index, data, free),
     }
 }

@@ -23,11 +23,16 @@ use Rattle.runs.specs.declared.Step.{Step}
 use Rattle.runs.proofs.Laws.{told-broken, told-end, told-entry, told-no-zero, attribute-in, text-in}
 use Rattle.listing.specs.Lines as LinesSpec
 use Rattle.listing.specs.Lines.{fields-line, RunPrinted}
+use Rattle.listing.specs.declared.Fields.{Fields}
 use Rattle.spec.proofs.WriteLaws.{write-none, write-behind}
 use Rattle.listing.proofs.Lines.{fields-length}
 
+-- the numbers of the line of an entry of the run of n blocks at b
+abbrev line-numbers : ℕ → ℕ → ℕ → ℕ → ℕ → Fields
+line-numbers k b n a t = record { ordinal = k; block = b; blocks = n; attribute = a; text = t }
+
 -- an entry's line by its numbers
-fields-entry : (k : ℕ) (r : Run) (e : Entry) → entry-line k r e ≡ fields-line k (r .block) (r .size) (attribute e) (length (text e)) (e .headword)
+fields-entry : (k : ℕ) (r : Run) (e : Entry) → entry-line k r e ≡ fields-line (line-numbers k (r .block) (r .size) (attribute e) (length (text e))) (e .headword)
 unfolding ListingSpec.entry-line LinesSpec.fields-line LinesSpec.entry-numbers
 fields-entry k r e = refl
 
@@ -63,7 +68,7 @@ module _ (below : HeadwordOrder) (run word : List ℕ) (len pos : ℕ) (r : Run)
       (sym (write-none out at) ∙ (rw l at (v .lines)), omega (arith, v .place, ap (λ (x : List ℕ). length x) l), omega (arith, v .count, ap (λ (x : List Entry). length x) e))
 
   module _ (n z e : ℕ) (q : st ≡ Step.Entry n z e) (body : z + 2 ≤ e) (within : e ≤ length run) (past : pos < e) (at′ : ℕ) (out′ : List ℕ) (fits : at ≤ length out)
-      (stored : out′ ≡ write at (fields-line ordinal (r .block) (r .size) (getD run (z + 1) 0) (e - (z + 2)) (take n word′)) out) (ends : at′ ≡ at + 30 + length (take n word′)) where
+      (stored : out′ ≡ write at (fields-line (line-numbers ordinal (r .block) (r .size) (getD run (z + 1) 0) (e - (z + 2))) (take n word′)) out) (ends : at′ ≡ at + 30 + length (take n word′)) where
     found : Entry
     found = record { headword = take n word′; body = bytes-at (z + 1) (e - (z + 1)) run }
 
@@ -71,7 +76,7 @@ module _ (below : HeadwordOrder) (run word : List ℕ) (len pos : ℕ) (r : Run)
     unfolding found
     text-size = ap (λ (x : List ℕ). length x) (text-in run (take n word′) z e body within) ∙ length-bytes-at run (z + 2) (e - (z + 2)) (omega arith)
 
-    its-line : entry-line ordinal r found ≡ fields-line ordinal (r .block) (r .size) (getD run (z + 1) 0) (e - (z + 2)) (take n word′)
+    its-line : entry-line ordinal r found ≡ fields-line (line-numbers ordinal (r .block) (r .size) (getD run (z + 1) 0) (e - (z + 2))) (take n word′)
     unfolding found
     its-line = fields-entry ordinal r found ∙ rw (attribute-in run (take n word′) z e body within, text-size)
 
@@ -80,8 +85,8 @@ module _ (below : HeadwordOrder) (run word : List ℕ) (len pos : ℕ) (r : Run)
     coming-next =
         let told : read-entry below (take len word) (drop pos run) ≡ ok (some (found, drop e run)) = told-entry below (take len word) (drop pos run) run word′ st step n z e q in
         let (ds, u, w) = entries-more below (v .fuel) (take len word) (drop pos run) (v .entries) (v .read) found (drop e run) told in
-        let x : List ℕ = fields-line ordinal (r .block) (r .size) (getD run (z + 1) 0) (e - (z + 2)) (take n word′) in
-        let lx : length x ≡ 30 + length (take n word′) = fields-length ordinal (r .block) (r .size) (getD run (z + 1) 0) (e - (z + 2)) (take n word′) in
+        let x : List ℕ = fields-line (line-numbers ordinal (r .block) (r .size) (getD run (z + 1) 0) (e - (z + 2))) (take n word′) in
+        let lx : length x ≡ 30 + length (take n word′) = fields-length (line-numbers ordinal (r .block) (r .size) (getD run (z + 1) 0) (e - (z + 2))) (take n word′) in
         let one : ordinal + 1 ≡ suc ordinal = omega arith in
         let y : List ℕ = entry-lines (ordinal + 1) r ds in
         let all : entry-lines ordinal r (v .entries) ≡ x ++ y = ap (entry-lines ordinal r) w ∙ entry-lines-cons ordinal r found ds ∙ rw (its-line, one) in
@@ -157,9 +162,10 @@ module _ (below : HeadwordOrder) (run word : List ℕ) (len pos b n : ℕ) (out�
         printing-room = omega (arith, printing-word, told .5, told .0, told .1, told .2, v .bound, v .kept)
 
         -- one line more
-        pub printing-next : (at′ : ℕ) (out′ : List ℕ) → at′ ≡ at + 30 + length (take l word′) → out′ ≡ write at (fields-line ordinal b n (getD run (z + 1) 0) (e - (z + 2)) (take l word′)) out
+        pub printing-next : (a : ℕ) → a ≡ getD run (z + 1) 0 → (at′ : ℕ) (out′ : List ℕ) → at′ ≡ at + 30 + length (take l word′)
+            → out′ ≡ write at (fields-line (line-numbers ordinal b n a (e - (z + 2))) (take l word′)) out
             → length out′ ≡ length out → Printing below run word′ l e b n out₀ out′ start at′ k (ordinal + 1)
-        printing-next at′ out′ ends stored same′ =
+        printing-next a told-attribute at′ out′ ends stored same′ =
             record {
               inside = told .2;
               buffer = same ∙ v .buffer;
@@ -170,5 +176,5 @@ module _ (below : HeadwordOrder) (run word : List ℕ) (len pos b n : ℕ) (out�
               few = omega (arith, v .few);
               coming =
                   λ r i j h. coming-next below run word len pos r out₀ out start at k ordinal (v .coming r i j h) st word′ step l z e q
-                  (told .1) (told .2) (omega (arith, told .0, told .1)) at′ out′ (omega (arith, v .bound, v .inside, v .kept)) (rw (i, j) stored) ends;
+                  (told .1) (told .2) (omega (arith, told .0, told .1)) at′ out′ (omega (arith, v .bound, v .inside, v .kept)) (rw (i, j, ← told-attribute) stored) ends;
             }

@@ -1,6 +1,6 @@
 -- What is printed of an image, in the terms of the code.
-use Prim.Native.Nat.{ℕ, _+_, _-_, _*_, _%_, _<_, _≤_}
-use mathlib.Core.Path.{_≡_, refl, sym, ap, subst, _∙_}
+use Prim.Native.Nat.{ℕ, _%_, _<_, _≤_}
+use mathlib.Core.Path.{_≡_, refl, sym, ap, _∙_}
 use mathlib.Core.Bool.{Bool, true, false, not}
 use mathlib.Core.List.{List, [], _++_}
 use native.Mathlib.Omega.{arith}
@@ -10,26 +10,25 @@ use borrow.Author.Tests.{lt-ltb, le-ltb, not-true, not-false}
 use Rattle.spec.specs.Order.{below-of}
 use Rattle.spec.specs.Outcome.{refused, ok, accepted}
 use Rattle.spec.specs.Bytes.{write}
-use Rattle.spec.specs.Header as HeaderSpec
-use Rattle.spec.specs.Header.{layout4, format4, get}
-use Rattle.spec.specs.Blocks.{run-blocks, each-once, count-marks}
+use Rattle.spec.specs.Header.{get}
+use Rattle.spec.specs.Blocks.{run-blocks, count-marks}
 use Rattle.spec.specs.Check as CheckSpec
-use Rattle.spec.specs.Check.{Image, slice-ok, runs-from, image-from}
-use Rattle.spec.specs.Calls as CallsSpec
+use Rattle.spec.specs.Check.{Image, data-area, slice-ok, runs-from, image-from}
 use Rattle.spec.specs.Calls.{Figures, figures}
 use Rattle.spec.specs.Listing as ListingSpec
 use Rattle.spec.specs.Listing.{first-line, run-lines, image-lines, listing}
-use Rattle.spec.specs.Lists.{All}
 use Rattle.spec.proofs.CountLaws.{blocks-once}
-use Rattle.spec.proofs.ReadLaws.{free-list-below, image-told, runs-inside}
-use Rattle.index.specs.Elements.{elements-at, Inside}
-use Rattle.header.proofs.Laws.{slice-refused, slice-accepted, slice-has-header, slice-in-blocks}
-use Rattle.inspect.specs.Overview.{viewed, overview, AcceptedImage, index-part, data-part}
-use Rattle.inspect.proofs.Laws.{overview-refused, overview-sound, sound-figures}
-use Rattle.inspect.proofs.Accepted as Parts
-use Rattle.inspect.specs.declared.Inspected.{Inspected}
-use Rattle.listing.specs.Lines.{numbers, Printable, AllPrinted, Accepted, listed}
+use Rattle.spec.proofs.ReadLaws.{ImageTold, free-list-below, runs-inside}
 use Rattle.spec.proofs.WriteLaws.{written-behind}
+use Rattle.index.specs.Elements.{elements-at}
+use Rattle.header.specs.Form.{layout-named, format-by, index-part, data-part}
+use Rattle.header.proofs.Laws.{slice-refused, slice-accepted, slice-has-header, slice-in-blocks}
+use Rattle.inspect.specs.Overview.{Told}
+use Rattle.inspect.specs.declared.Overview.{Overview}
+use Rattle.inspect.specs.declared.Inspected.{Inspected}
+use Rattle.inspect.proofs.Laws.{is-refused, is-accepted, is-marked, sound-figures}
+use Rattle.inspect.proofs.Accepted.{accepted-d, accepted-told, accepted-whole, accepted-runs}
+use Rattle.listing.specs.Lines.{numbers, Printable, AllPrinted, Accepted, listed}
 use Rattle.listing.proofs.Lines.{first-length}
 
 -- the lines of an accepted image
@@ -37,77 +36,57 @@ accepted-list : (s : List ℕ) (i : Image) → image-from s ≡ ok i → image-l
 unfolding ListingSpec.image-lines
 accepted-list s i h = ap image-lines h
 
--- an accepted image with these four numbers
-module _ (s : List ℕ) (w n d f : ℕ) (a : Accepted s (numbers w n d f)) where
-  -- its index and data blocks, as they are told of it
-  parts : AcceptedImage s n d
-  unfolding CallsSpec.figures
-  parts = record { image = a .0; is = a .1; index-blocks = sym (ap (λ (c : Figures). c .index-blocks) (a .2)); data-blocks = sym (ap (λ (c : Figures). c .data-blocks) (a .2)) }
+-- an accepted image, of which v tells, with so many free blocks
+module _ (s : List ℕ) (v : Overview) (free : ℕ) (a : Accepted s v free) where
+  -- what is read of it
+  told : ImageTold (format-by (layout-named s) (v .form)) s (a .0 .image)
+  told = accepted-told s v (a .0)
 
-  -- the index lies in the image
-  pub accepted-index : 256 + 256 * n ≤ length s
-  accepted-index = Parts.accepted-index s n d parts
+  -- its runs have no more blocks than there are
+  few : run-blocks (a .0 .image .runs) ≤ v .d
+  unfolding told
+  few =
+      let i : Image = a .0 .image in
+      let inside = runs-inside (below-of (v .form .order)) (i .frame .data-blocks) (data-area (i .frame) s) (told .elements) (i .runs) (told .runs) in
+      let low = free-list-below _ _ _ _ (i .free-list) (told .free-list) in
+      omega (arith, accepted-d s v (a .0), blocks-once (i .frame .data-blocks) (i .runs) (i .free-list) (told .once) inside low)
 
-  -- the data blocks are all that follows it
-  pub accepted-area : length s % 256 ≡ 0 → 256 * d ≡ length (data-part s n)
-  accepted-area = Parts.accepted-area s n d parts
-
-  module _ (e : ℕ) (number : e ≡ get (layout4 .nindex2) s) where
-    -- its elements stand in the index
-    pub accepted-inside : Inside (index-part s n) 0 e
-    accepted-inside = Parts.accepted-inside s n d parts e number
-
-    runs-read : runs-from (below-of 0) d (data-part s n) (elements-at (index-part s n) 0 e) ≡ ok (a .0 .runs)
-    unfolding parts
-    runs-read = Parts.accepted-runs s n d parts e number
-
-    its-once : each-once d (a .0 .runs) (a .0 .free-list) ≡ true
-    unfolding CheckSpec.image-from HeaderSpec.format-of CallsSpec.figures
-    its-once =
-        let p : a .0 .frame .data-blocks ≡ d = ap (λ (c : Figures). c .data-blocks) (a .2) in
-        let t : each-once (a .0 .frame .data-blocks) (a .0 .runs) (a .0 .free-list) ≡ true = image-told format4 s (a .0) (a .1) .once in
-        subst (λ (x : ℕ). each-once x (a .0 .runs) (a .0 .free-list) ≡ true) p t
-
-    free-below : All (λ b. b < d) (a .0 .free-list)
-    unfolding CheckSpec.image-from HeaderSpec.format-of CallsSpec.figures
-    free-below =
-        let p : a .0 .frame .data-blocks ≡ d = ap (λ (c : Figures). c .data-blocks) (a .2) in
-        subst (λ (x : ℕ). All (λ b. b < x) (a .0 .free-list)) p (free-list-below _ _ _ _ (a .0 .free-list) (image-told format4 s (a .0) (a .1) .free-list))
-
-    few : run-blocks (a .0 .runs) ≤ d
-    few = omega (arith, blocks-once d (a .0 .runs) (a .0 .free-list) its-once (runs-inside (below-of 0) d (data-part s n) (elements-at (index-part s n) 0 e) (a .0 .runs) runs-read) free-below)
+  module _ (e : ℕ) (number : e ≡ get (layout-named s .nindex2) s) where
+    -- the runs that its elements name
+    runs-read : runs-from (below-of (v .form .order)) (v .d) (data-part (v .form) s (v .n)) (elements-at (v .form .width) (index-part (v .form) s (v .n)) 0 e) ≡ ok (a .0 .image .runs)
+    runs-read = accepted-runs s v (a .0) e number
 
     -- the lines of its runs have room
-    pub accepted-room : (start room : ℕ) → start ≡ 25 → length s % 256 ≡ 0 → length s ≤ 65_536 → (room′ : ℕ) → room′ ≡ room → 4_000_000 ≤ room
-        → Printable (below-of 0) d (data-part s n) (elements-at (index-part s n) 0 e) start room′
-    accepted-room start room z m small room′ k p = (a .0 .runs, runs-read, omega (arith, few, Parts.accepted-whole s n d parts m))
+    pub listed-room : (start room : ℕ) → start ≡ 25 → length s % 256 ≡ 0 → length s ≤ 65_536 → (room′ : ℕ) → room′ ≡ room → 4_000_000 ≤ room
+        → Printable (below-of (v .form .order)) (v .d) (data-part (v .form) s (v .n)) (elements-at (v .form .width) (index-part (v .form) s (v .n)) 0 e) start room′
+    listed-room start room z m small room′ k p = (a .0 .image .runs, runs-read, omega (arith, few, accepted-whole s v (a .0) m))
 
     -- its first line and the lines of its runs are its list:
-    module _ (start : ℕ) (out out₁ out₂ : List ℕ) (r : ℕ) (z : start ≡ 25) (p : out₁ ≡ write 0 (first-line (numbers w n d f)) out)
-        (q : AllPrinted (below-of 0) d (data-part s n) (elements-at (index-part s n) 0 e) start out₁ out₂ r) where
+    module _ (start : ℕ) (out out₁ out₂ : List ℕ) (r : ℕ) (z : start ≡ 25) (p : out₁ ≡ write 0 (first-line (numbers (v .words) (v .n) (v .d) free)) out)
+        (q : AllPrinted (below-of (v .form .order)) (v .d) (data-part (v .form) s (v .n)) (elements-at (v .form .width) (index-part (v .form) s (v .n)) 0 e) start out₁ out₂ r) where
       first : List ℕ
-      first = first-line (numbers w n d f)
+      first = first-line (numbers (v .words) (v .n) (v .d) free)
 
       others : List ℕ
-      others = run-lines 1 (a .0 .runs)
+      others = run-lines 1 (a .0 .image .runs)
 
       first-long : 25 ≡ length first
       unfolding first
-      first-long = first-length w n d f
+      first-long = first-length (v .words) (v .n) (v .d) free
 
       whole : image-lines (image-from s) ≡ first ++ others
       unfolding first others
-      whole = accepted-list s (a .0) (a .1) ∙ ap (λ (c : Figures). first-line c ++ run-lines 1 (a .0 .runs)) (a .2)
+      whole = accepted-list s (a .0 .image) (a .0 .is) ∙ ap (λ (c : Figures). first-line c ++ run-lines 1 (a .0 .image .runs)) (a .1)
 
       -- where it ends
-      pub accepted-end : r ≡ length (image-lines (image-from s))
+      pub listed-end : r ≡ length (image-lines (image-from s))
       unfolding others
-      accepted-end = rw whole (omega (arith, z, first-long, length-append first others, q (a .0 .runs) runs-read .1))
+      listed-end = rw whole (omega (arith, z, first-long, length-append first others, q (a .0 .image .runs) runs-read .1))
 
       -- its bytes
-      pub accepted-printed : out₂ ≡ write 0 (image-lines (image-from s)) out
+      pub listed-printed : out₂ ≡ write 0 (image-lines (image-from s)) out
       unfolding first others
-      accepted-printed = rw whole (written-behind out out₁ out₂ first others 0 start (omega arith) (omega (arith, z, first-long)) p (q (a .0 .runs) runs-read .0))
+      listed-printed = rw whole (written-behind out out₁ out₂ first others 0 start (omega arith) (omega (arith, z, first-long)) p (q (a .0 .image .runs) runs-read .0))
 
 -- ---- the list of any input
 module _ (s : List ℕ) where
@@ -160,13 +139,13 @@ pub list-stored : (x y out out′ : List ℕ) → x ≡ y → out′ ≡ write 0
 list-stored x y out out′ h p = rw h p
 
 -- ---- what inspecting an image tells
-module _ (s : List ℕ) (ms : List Bool) (k : ℕ) (r : Inspected) (h : overview r ms ≡ viewed k (image-from s)) where
-  -- the four numbers of an accepted image
-  pub told-sound : (w n d f e : ℕ) → r ≡ Inspected.Sound w n d e → f ≡ count-marks ms → Accepted s (numbers w n d f)
-  told-sound w n d f e q c =
-      let v = overview-sound k ms (image-from s) r h w n d e q in
-      (v .image, v .is, sound-figures k ms (image-from s) w n d v f c)
+module _ (s : List ℕ) (ms : List Bool) (r : Inspected) (told : Told s ms r) where
+  -- an accepted image and its free blocks
+  pub told-sound : (v : Overview) → r ≡ Inspected.Sound v → (free : ℕ) → free ≡ count-marks ms → Accepted s v free
+  told-sound v q free c =
+      let a = is-accepted s ms r told v q in
+      (a, sound-figures s ms v a (is-marked s ms r told v q) free c)
 
   -- the refusal of another
-  pub told-refused : (n : ℕ) → r ≡ Inspected.Refused n → image-lines (image-from s) ≡ image-lines (refused n)
-  told-refused n q = ap image-lines (overview-refused k ms (image-from s) r h n q)
+  pub told-refused : (k : ℕ) → r ≡ Inspected.Refused k → image-lines (image-from s) ≡ image-lines (refused k)
+  told-refused k q = ap image-lines (is-refused s ms r told k q)

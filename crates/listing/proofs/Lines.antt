@@ -17,6 +17,7 @@ use Rattle.spec.specs.Ascii.{ascii}
 use Rattle.spec.specs.Outcome.{refused}
 use Rattle.listing.specs.Lines as LinesSpec
 use Rattle.listing.specs.Lines.{entry-numbers, fields-line, numbers}
+use Rattle.listing.specs.declared.Fields.{Fields}
 use Rattle.spec.proofs.WriteLaws.{write-none, written-behind, write-ahead}
 use Rattle.byteops.proofs.Stores.{one-stored}
 
@@ -109,45 +110,57 @@ first-by d d₁ d₂ d₃ d₄ d₅ w i a f p₁ p₂ p₃ p₄ p₅ =
     written-behind d d₄ d₅ x₄ (10 ∷ []) 0 24 (omega arith) (omega arith) q₄ p₅
 
 -- the numbers of an entry's line have 28 bytes
-numbers-length : (k b n a t : ℕ) → length (entry-numbers k b n a t) ≡ 28
+numbers-length : (f : Fields) → length (entry-numbers f) ≡ 28
 unfolding LinesSpec.entry-numbers
-numbers-length k b n a t = rw (length-append, length-append, length-append, length-append, column-length 6 k, column-length 6 b, column-length 6 n, column-length 4 a, column-length 6 t)
+numbers-length f =
+    rw (
+      length-append,
+      length-append,
+      length-append,
+      length-append,
+      column-length 6 (f .ordinal),
+      column-length 6 (f .block),
+      column-length 6 (f .blocks),
+      column-length 4 (f .attribute),
+      column-length 6 (f .text),
+    )
 
 -- stored one after the other
-pub numbers-by : (d d₁ d₂ d₃ d₄ d₅ : List ℕ) (at k b n a t : ℕ) → at + 28 ≤ length d → d₁ ≡ write at (column 6 k) d → d₂ ≡ write (at + 6) (column 6 b) d₁ → d₃ ≡ write (at + 12) (column 6 n) d₂
-    → d₄ ≡ write (at + 18) (column 4 a) d₃ → d₅ ≡ write (at + 22) (column 6 t) d₄ → d₅ ≡ write at (entry-numbers k b n a t) d
+pub numbers-by : (d d₁ d₂ d₃ d₄ d₅ : List ℕ) (at : ℕ) (f : Fields) → at + 28 ≤ length d → d₁ ≡ write at (column 6 (f .ordinal)) d
+    → d₂ ≡ write (at + 6) (column 6 (f .block)) d₁ → d₃ ≡ write (at + 12) (column 6 (f .blocks)) d₂
+    → d₄ ≡ write (at + 18) (column 4 (f .attribute)) d₃ → d₅ ≡ write (at + 22) (column 6 (f .text)) d₄ → d₅ ≡ write at (entry-numbers f) d
 unfolding LinesSpec.entry-numbers
-numbers-by d d₁ d₂ d₃ d₄ d₅ at k b n a t fits p₁ p₂ p₃ p₄ p₅ =
-    let x₁ : List ℕ = column 6 k in
-    let x₂ : List ℕ = x₁ ++ column 6 b in
-    let x₃ : List ℕ = x₂ ++ column 6 n in
-    let x₄ : List ℕ = x₃ ++ column 4 a in
-    let l₁ : length x₁ ≡ 6 = column-length 6 k in
-    let l₂ : length x₂ ≡ 12 = length-append x₁ (column 6 b) ∙ omega (arith, column-length 6 b) in
-    let l₃ : length x₃ ≡ 18 = length-append x₂ (column 6 n) ∙ omega (arith, column-length 6 n) in
-    let l₄ : length x₄ ≡ 22 = length-append x₃ (column 4 a) ∙ omega (arith, column-length 4 a) in
-    let q₂ : d₂ ≡ write at x₂ d = written-behind d d₁ d₂ x₁ (column 6 b) at (at + 6) (omega arith) (omega arith) p₁ p₂ in
-    let q₃ : d₃ ≡ write at x₃ d = written-behind d d₂ d₃ x₂ (column 6 n) at (at + 12) (omega arith) (omega arith) q₂ p₃ in
-    let q₄ : d₄ ≡ write at x₄ d = written-behind d d₃ d₄ x₃ (column 4 a) at (at + 18) (omega arith) (omega arith) q₃ p₄ in
-    written-behind d d₄ d₅ x₄ (column 6 t) at (at + 22) (omega arith) (omega arith) q₄ p₅
+numbers-by d d₁ d₂ d₃ d₄ d₅ at f fits p₁ p₂ p₃ p₄ p₅ =
+    let x₁ : List ℕ = column 6 (f .ordinal) in
+    let x₂ : List ℕ = x₁ ++ column 6 (f .block) in
+    let x₃ : List ℕ = x₂ ++ column 6 (f .blocks) in
+    let x₄ : List ℕ = x₃ ++ column 4 (f .attribute) in
+    let l₁ : length x₁ ≡ 6 = column-length 6 (f .ordinal) in
+    let l₂ : length x₂ ≡ 12 = length-append x₁ (column 6 (f .block)) ∙ omega (arith, column-length 6 (f .block)) in
+    let l₃ : length x₃ ≡ 18 = length-append x₂ (column 6 (f .blocks)) ∙ omega (arith, column-length 6 (f .blocks)) in
+    let l₄ : length x₄ ≡ 22 = length-append x₃ (column 4 (f .attribute)) ∙ omega (arith, column-length 4 (f .attribute)) in
+    let q₂ : d₂ ≡ write at x₂ d = written-behind d d₁ d₂ x₁ (column 6 (f .block)) at (at + 6) (omega arith) (omega arith) p₁ p₂ in
+    let q₃ : d₃ ≡ write at x₃ d = written-behind d d₂ d₃ x₂ (column 6 (f .blocks)) at (at + 12) (omega arith) (omega arith) q₂ p₃ in
+    let q₄ : d₄ ≡ write at x₄ d = written-behind d d₃ d₄ x₃ (column 4 (f .attribute)) at (at + 18) (omega arith) (omega arith) q₃ p₄ in
+    written-behind d d₄ d₅ x₄ (column 6 (f .text)) at (at + 22) (omega arith) (omega arith) q₄ p₅
 
 -- an entry's line has 30 bytes and those of its headword
-pub fields-length : (k b n a t : ℕ) (h : List ℕ) → length (fields-line k b n a t h) ≡ 30 + length h
+pub fields-length : (f : Fields) (h : List ℕ) → length (fields-line f h) ≡ 30 + length h
 unfolding LinesSpec.fields-line ListingSpec.line
-fields-length k b n a t h = rw (length-append, length-append, numbers-length k b n a t) (omega arith)
+fields-length f h = rw (length-append, length-append, numbers-length f) (omega arith)
 
 -- stored behind its numbers: a space, the headword and a line feed
-pub fields-by : (d d₁ d₂ d₃ d₄ : List ℕ) (at k b n a a′ t : ℕ) (h : List ℕ) → a ≡ a′ → at + 30 + length h ≤ length d → d₁ ≡ write at (entry-numbers k b n a t) d
-    → d₂ ≡ write (at + 28) (32 ∷ []) d₁ → d₃ ≡ write (at + 29) (bytes-at 0 (length h) h) d₂ → d₄ ≡ write (at + 29 + length h) (10 ∷ []) d₃ → d₄ ≡ write at (fields-line k b n a′ t h) d
+pub fields-by : (d d₁ d₂ d₃ d₄ : List ℕ) (at : ℕ) (f : Fields) (h : List ℕ) → at + 30 + length h ≤ length d → d₁ ≡ write at (entry-numbers f) d
+    → d₂ ≡ write (at + 28) (32 ∷ []) d₁ → d₃ ≡ write (at + 29) (bytes-at 0 (length h) h) d₂ → d₄ ≡ write (at + 29 + length h) (10 ∷ []) d₃ → d₄ ≡ write at (fields-line f h) d
 unfolding LinesSpec.fields-line ListingSpec.line BytesSpec.bytes-at
-fields-by d d₁ d₂ d₃ d₄ at k b n a a′ t h same fits p₁ p₂ p₃ p₄ =
-    let x₁ : List ℕ = entry-numbers k b n a t in
+fields-by d d₁ d₂ d₃ d₄ at f h fits p₁ p₂ p₃ p₄ =
+    let x₁ : List ℕ = entry-numbers f in
     let x₂ : List ℕ = x₁ ++ 32 ∷ [] in
     let x₃ : List ℕ = x₁ ++ 32 ∷ h in
-    let l₁ : length x₁ ≡ 28 = numbers-length k b n a t in
+    let l₁ : length x₁ ≡ 28 = numbers-length f in
     let l₂ : length x₂ ≡ 29 = length-append x₁ (32 ∷ []) ∙ omega arith in
     let l₃ : length x₃ ≡ 29 + length h = length-append x₁ (32 ∷ h) ∙ omega arith in
     let q₂ : d₂ ≡ write at x₂ d = written-behind d d₁ d₂ x₁ (32 ∷ []) at (at + 28) (omega arith) (omega arith) p₁ p₂ in
     let r₃ : d₃ ≡ write (at + 29) h d₂ = p₃ ∙ ap (λ (l : List ℕ). write (at + 29) l d₂) (take-length h) in
     let q₃ : d₃ ≡ write at x₃ d = written-behind d d₂ d₃ x₂ h at (at + 29) (omega arith) (omega arith) q₂ r₃ ∙ ap (λ (l : List ℕ). write at l d) (append-assoc x₁ (32 ∷ []) h) in
-    rw (← same) (written-behind d d₃ d₄ x₃ (10 ∷ []) at (at + 29 + length h) (omega arith) (omega arith) q₃ p₄)
+    written-behind d d₃ d₄ x₃ (10 ∷ []) at (at + 29 + length h) (omega arith) (omega arith) q₃ p₄

@@ -11,18 +11,21 @@ use Rattle.spec.specs.Bytes.{write}
 use Rattle.spec.specs.Run.{Run, entries-from}
 use Rattle.spec.specs.Index.{Element}
 use Rattle.spec.specs.Blocks.{run-blocks}
-use Rattle.spec.specs.Check.{Image, image-from, runs-from}
+use Rattle.spec.specs.Check.{runs-from}
 use Rattle.spec.specs.Calls.{Figures, figures}
 use Rattle.spec.specs.Listing.{column, line, entry-lines, run-lines, listing}
+use Rattle.inspect.specs.Overview.{AcceptedImage}
+use Rattle.inspect.specs.declared.Overview.{Overview}
 use Rattle.listing.specs.declared.Printed.{Printed}
+use Rattle.listing.specs.declared.Fields.{Fields}
 
--- the numbers of an entry's line: ordinal, run's block, run's blocks, attribute, text length
-unfoldable pub entry-numbers : ℕ → ℕ → ℕ → ℕ → ℕ → List ℕ
-entry-numbers k b n a t = column 6 k ++ column 6 b ++ column 6 n ++ column 4 a ++ column 6 t
+-- the numbers of an entry's line in their columns
+unfoldable pub entry-numbers : Fields → List ℕ
+entry-numbers f = column 6 (f .ordinal) ++ column 6 (f .block) ++ column 6 (f .blocks) ++ column 4 (f .attribute) ++ column 6 (f .text)
 
 -- the line, by these and the headword
-unfoldable pub fields-line : ℕ → ℕ → ℕ → ℕ → ℕ → List ℕ → List ℕ
-fields-line k b n a t h = line (entry-numbers k b n a t ++ 32 ∷ h)
+unfoldable pub fields-line : Fields → List ℕ → List ℕ
+fields-line f h = line (entry-numbers f ++ 32 ∷ h)
 
 -- four numbers: headwords, index blocks, data blocks, free blocks
 abbrev pub numbers : ℕ → ℕ → ℕ → ℕ → Figures
@@ -44,9 +47,9 @@ Printable below D area es start room = (rs : List Run) × (runs-from below D are
 abbrev pub AllPrinted : HeadwordOrder → ℕ → List ℕ → List Element → ℕ → List ℕ → List ℕ → ℕ → Type 0
 AllPrinted below D area es start out out′ end = (rs : List Run) → runs-from below D area es ≡ ok rs → (out′ ≡ write start (run-lines 1 rs) out) × (end ≡ start + length (run-lines 1 rs))
 
--- an accepted image with these four numbers
-abbrev pub Accepted : List ℕ → Figures → Type 0
-Accepted s c = (i : Image) × (image-from s ≡ ok i) × (figures i ≡ c)
+-- an accepted image, of which v tells, with so many free blocks: its four numbers
+abbrev pub Accepted : List ℕ → Overview → ℕ → Type 0
+Accepted s v free = (a : AcceptedImage s v) × (figures (a .image) ≡ numbers (v .words) (v .n) (v .d) free)
 
 -- what is stored for an input in a slice: its list, if the slice has the 4,000,000 bytes that the longest may take, else nothing
 unfoldable pub listed : List ℕ → List ℕ → List ℕ

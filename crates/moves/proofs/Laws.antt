@@ -18,7 +18,10 @@ use Rattle.index.proofs.Laws.{elements-next}
 use Rattle.marks.specs.Marks.{with-range}
 use Rattle.placing.specs.Spread.{Spread, placed-first, spread}
 use Rattle.placing.proofs.SpreadLaws.{spread-grows}
-use Rattle.moves.specs.Moved.{noted, starts, size-at, freed, tabled, moved-written}
+use Rattle.runs.specs.Size.{size-told, SizeInside}
+use Rattle.runs.specs.declared.Size.{Size}
+use Rattle.runs.proofs.SizeLaws.{blocks-told}
+use Rattle.moves.specs.Moved.{noted, starts, size-counts, size-at, freed, tabled, moved-written}
 
 -- ---- the table noted
 -- a block below g is noted
@@ -42,46 +45,44 @@ abbrev pub blocks : List Element → List ℕ
 blocks es = map (λ e. e .block) es
 
 -- one element noted, the others are still to be noted
-pub note-turn : (index : List ℕ) (g at left b end : ℕ) (T T₁ R : List ℕ) → noted g (blocks (elements-at index at left)) T ≡ R → 0 < left
-    → b ≡ from-little-endian (bytes-at at 2 index) → T₁ ≡ noted g (b ∷ []) T → end ≡ element-end index at
-    → noted g (blocks (elements-at index (end + 1) (left - 1))) T₁ ≡ R
+pub note-turn : (w : ℕ) (index : List ℕ) (g at left b end : ℕ) (T T₁ R : List ℕ) → noted g (blocks (elements-at w index at left)) T ≡ R → 0 < left
+    → b ≡ from-little-endian (bytes-at at w index) → T₁ ≡ noted g (b ∷ []) T → end ≡ element-end w index at
+    → noted g (blocks (elements-at w index (end + 1) (left - 1))) T₁ ≡ R
 unfolding element-at
-note-turn index g at left b end T T₁ R inv p e n f =
-    rw (f, n, e) (sym (noted-append g (from-little-endian (bytes-at at 2 index) ∷ []) (blocks (elements-at index (element-end index at + 1) (left - 1))) T)
-    ∙ rw (elements-next index at left p) at inv)
+note-turn w index g at left b end T T₁ R inv p e n f =
+    rw (f, n, e) (sym (noted-append g (from-little-endian (bytes-at at w index) ∷ []) (blocks (elements-at w index (element-end w index at + 1) (left - 1))) T)
+    ∙ rw (elements-next w index at left p) at inv)
 
 -- all are noted
-pub note-end : (index : List ℕ) (g at left : ℕ) (T R : List ℕ) → noted g (blocks (elements-at index at left)) T ≡ R → left ≤ 0 → T ≡ R
+pub note-end : (w : ℕ) (index : List ℕ) (g at left : ℕ) (T R : List ℕ) → noted g (blocks (elements-at w index at left)) T ≡ R → left ≤ 0 → T ≡ R
 unfolding elements-at noted
-note-end index g at left T R inv p =
+note-end w index g at left T R inv p =
     let e : left ≡ 0 = omega arith in
     rw e at inv
 
 -- ---- the size of a run
--- a run that starts behind the blocks
-pub size-behind : (area : List ℕ) (d b : ℕ) → d ≤ b → 1 ≡ size-at area d b
-unfolding size-at
-size-behind area d b h = omega arith
+-- a block that no run may start at
+pub size-broken : (area : List ℕ) (d b : ℕ) (r : Size) → r ≡ size-told d area b → r ≡ Size.Broken → 1 ≡ size-at area d b
+unfolding size-at size-counts
+size-broken area d b r told e = rw (← told, e)
 
--- a run by its count
-pub size-none : (area : List ℕ) (d b n : ℕ) → n ≡ from-little-endian (bytes-at (256 * b) 2 area) → n ≡ 0 → 1 ≡ size-at area d b
-unfolding size-at
-size-none area d b n e h = omega arith
+-- a run by its size
+pub size-by : (area : List ℕ) (d b n : ℕ) (r : Size) → r ≡ size-told d area b → r ≡ Size.Blocks n → n ≡ size-at area d b
+unfolding size-at size-counts
+size-by area d b n r told e = rw (← told, e)
 
--- one whose count is more than the blocks there are
-pub size-over : (area : List ℕ) (d b n : ℕ) → n ≡ from-little-endian (bytes-at (256 * b) 2 area) → b < d → d - b < n → d - b ≡ size-at area d b
-unfolding size-at
-size-over area d b n e h k = omega arith
-
--- any other
-pub size-count : (area : List ℕ) (d b n : ℕ) → n ≡ from-little-endian (bytes-at (256 * b) 2 area) → (n ≡ 0 → ⊥) → n ≤ d - b → n ≡ size-at area d b
-unfolding size-at
-size-count area d b n e h k = omega arith
+-- how many blocks that are at least, at most, and where they end
+pub size-bounds : (d b n : ℕ) (r : Size) → SizeInside d b r → r ≡ Size.Blocks n → (1 ≤ n) × (n ≤ 32_767) × (b + n ≤ max d (b + 1))
+size-bounds d b n r i e = let v = i n e in (v .0, v .1, omega arith)
 
 -- a run that starts among the blocks lies inside them
 pub size-inside : (area : List ℕ) (d b : ℕ) → b < d → b + size-at area d b ≤ d
-unfolding size-at
-size-inside area d b h = omega arith
+unfolding size-at size-counts
+size-inside area d b h = go (size-told d area b) refl
+  where
+    go : (r : Size) → r ≡ size-told d area b → b + size-counts r ≤ d
+    go Size.Broken e = omega arith
+    go (Size.Blocks n) e = blocks-told d area b (Size.Blocks n) e n refl .4
 
 -- ---- the blocks of the table at which runs start
 -- no run starts at b

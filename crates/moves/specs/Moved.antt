@@ -1,10 +1,12 @@
 -- The runs that start among the first g blocks, by a table of these blocks.
-use Prim.Native.Nat.{ℕ, zero, suc, _-_, _*_, min, max}
+use Prim.Native.Nat.{ℕ, zero, suc, _*_}
 use mathlib.Core.Bool.{Bool, true, false}
 use mathlib.Core.List.{List, [], _∷_, map}
 use lib.ListN.{getD, set}
 use lib.Dec.{ltb, eqb}
-use Rattle.spec.specs.Bytes.{from-little-endian, bytes-at, write}
+use Rattle.spec.specs.Bytes.{bytes-at, write}
+use Rattle.runs.specs.Size.{size-told}
+use Rattle.runs.specs.declared.Size.{Size}
 use Rattle.marks.specs.Marks.{with-range}
 use Rattle.placing.specs.Spread.{Spread, spread}
 
@@ -18,9 +20,14 @@ unfoldable pub starts : ℕ → ℕ → List ℕ → List ℕ
 starts b zero T = []
 starts b (suc k) T = elim (eqb (getD T b 0) 0) [ true ↦ starts (suc b) k T | false ↦ b ∷ starts (suc b) k T ]
 
--- the number of blocks of the run at block b of D: its count, at least 1 and no more than there are
+-- how many blocks a size stands for: a block that no run may start at counts as one
+unfoldable pub size-counts : Size → ℕ
+size-counts Size.Broken = 1
+size-counts (Size.Blocks n) = n
+
+-- the number of blocks of the run at block b of D
 unfoldable pub size-at : List ℕ → ℕ → ℕ → ℕ
-size-at area D b = max 1 (min (from-little-endian (bytes-at (256 * b) 2 area)) (D - b))
+size-at area D b = size-counts (size-told D area b)
 
 -- the marks with the blocks of the runs at these blocks free
 unfoldable pub freed : List ℕ → ℕ → List ℕ → List Bool → List Bool
@@ -44,5 +51,5 @@ moved-written area D T (b ∷ bs) dst = moved-written area D T bs (write (256 * 
 
 -- names all definitions of this module: who unfolds it unfolds them
 unfoldable pub open-moved : Unit {0}
-unfolding noted starts size-at freed tabled moved-written
+unfolding noted starts size-counts size-at freed tabled moved-written
 open-moved = tt

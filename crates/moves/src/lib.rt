@@ -2,15 +2,18 @@
 // 0 where no run starts, else the run's new place.
 ghost use mathlib.Core.Path.{_≡_};
 ghost use mathlib.Core.List.{[], _∷_, map};
-ghost use Prim.Native.Nat.{_+_, _*_, _≤_, _<_};
+ghost use Prim.Native.Nat.{_+_, _*_, _≤_, _<_, max};
 ghost use lib.ListN.{length, getD};
+ghost use Rattle.byteops.specs.Width.{Width};
 ghost use Rattle.index.specs.Elements.{elements-at, Inside};
 ghost use Rattle.marks.specs.Marks.{marks};
 ghost use Rattle.placing.specs.Spread.{Within};
 ghost use Rattle.spec.specs.Lists.{All};
 ghost use Rattle.moves.specs.Moved.{noted, starts, size-at, freed, moved-to, tabled, moved-written};
-use byteops::read_u16;
+use byteops::read_number;
+use index::Place;
 use index::element_end;
+use runs::Size;
 
 // Notes in the table that a run starts at block b, where that is below g.
 fn note(numbers: &mut [u32], g: usize, b: usize)
@@ -23,44 +26,39 @@ fn note(numbers: &mut [u32], g: usize, b: usize)
     }
 }
 
-// Notes where the runs of the n elements from `from` on start, of those that start below g.
-pub fn note_starts(index: &[u8], from: usize, n: usize, numbers: &mut [u32], g: usize)
-    requires { ⌜ Inside (now index) from n ⌝ }
+// Notes where the runs of the elements from a place of the index on start, of those that start below g.
+pub fn note_starts(width: usize, index: &[u8], from: Place, numbers: &mut [u32], g: usize)
+    requires { ⌜ Width width × Inside width (now index) (from .at) (from .left) ⌝ }
     requires { ⌜ g ≤ length (now numbers) ⌝ }
-    ensures { λ _. ⌜ now (numbers .exit) ≡ noted g (map (λ e. e .block) (elements-at (now (index .entry)) from n)) (now (numbers .entry)) ⌝ }
+    ensures { λ _. ⌜ now (numbers .exit) ≡ noted g (map (λ e. e .block) (elements-at width (now (index .entry)) (from .at) (from .left))) (now (numbers .entry)) ⌝ }
     ensures { λ _. ⌜ length (now (numbers .exit)) ≡ length (now (numbers .entry)) ⌝ }
 {
-    let mut at = from;
-    let mut left = n;
+    let mut at = from.at;
+    let mut left = from.left;
     while 0 < left {
-        note(numbers, g, read_u16(index, at));
-        at = element_end(index, at) + 1;
+        note(numbers, g, read_number(index, at, width));
+        at = element_end(width, index, at) + 1;
         left -= 1;
     }
 }
 
-// The number of blocks of the run at block b, at least 1 and no more than there are.
+// The number of blocks of the run at block b; 1 where it breaks row 7.
 fn size_at(area: &[u8], d: usize, b: usize) -> usize
-    requires { ⌜ (256 * d ≤ length (now area)) × (d ≤ 65536) × (b < 65536) ⌝ }
+    requires { ⌜ (256 * d ≤ length (now area)) × (d ≤ 16777215) ⌝ }
     ensures { λ r. ⌜ r ≡ size-at (now (area .entry)) d b ⌝ }
-    ensures { λ r. ⌜ (1 ≤ r) × (r ≤ 65536) × (b + r ≤ 65536) ⌝ }
+    ensures { λ r. ⌜ (1 ≤ r) × (r ≤ 32767) × (b + r ≤ max d (b + 1)) ⌝ }
 {
-    if d <= b {
-        return 1;
+    let size = runs::run_size(area, d, b);
+    match size {
+        Size::Broken => 1,
+        Size::Blocks(blocks) => blocks,
     }
-    let n = read_u16(area, 256 * b);
-    if n == 0 {
-        return 1;
-    }
-    if d - b < n {
-        return d - b;
-    }
-    n
 }
 
 // Marks the blocks of the run at block b as free, if one starts there.
 fn free_one(area: &[u8], d: usize, numbers: &[u32], b: usize, free: &mut [u64])
-    requires { ⌜ (256 * d ≤ length (now area)) × (d ≤ 65536) × (b < 65536) × (b < length (now numbers)) × (1024 ≤ length (now free)) ⌝ }
+    requires { ⌜ (256 * d ≤ length (now area)) × (d ≤ 16777215) × (b < length (now numbers)) ⌝ }
+    requires { ⌜ (d ≤ 64 * length (now free)) × (b < 64 * length (now free)) ⌝ }
     ensures { λ _. ⌜ marks (now (free .exit)) ≡ freed (now (area .entry)) d (starts b 1 (now (numbers .entry))) (marks (now (free .entry))) ⌝ }
     ensures { λ _. ⌜ length (now (free .exit)) ≡ length (now (free .entry)) ⌝ }
 {
@@ -72,7 +70,8 @@ fn free_one(area: &[u8], d: usize, numbers: &[u32], b: usize, free: &mut [u64])
 
 // Marks the blocks of all displaced runs as free.
 pub fn free_moved(area: &[u8], d: usize, numbers: &[u32], g: usize, free: &mut [u64])
-    requires { ⌜ (256 * d ≤ length (now area)) × (d ≤ 65536) × (g ≤ 32767) × (g ≤ length (now numbers)) × (1024 ≤ length (now free)) ⌝ }
+    requires { ⌜ (256 * d ≤ length (now area)) × (d ≤ 16777215) × (g ≤ length (now numbers)) ⌝ }
+    requires { ⌜ (d ≤ 64 * length (now free)) × (g ≤ 64 * length (now free)) ⌝ }
     ensures { λ _. ⌜ marks (now (free .exit)) ≡ freed (now (area .entry)) d (starts 0 g (now (numbers .entry))) (marks (now (free .entry))) ⌝ }
     ensures { λ _. ⌜ length (now (free .exit)) ≡ length (now (free .entry)) ⌝ }
 {
@@ -93,8 +92,8 @@ fn place_one(
     free: &mut [u64],
     end: usize,
 ) -> usize
-    requires { ⌜ (256 * d ≤ length (now area)) × (d ≤ 65536) × (b < g) × (g ≤ 32767) × (g ≤ length (now numbers)) ⌝ }
-    requires { ⌜ (g ≤ end) × (end ≤ 98304) × (2560 ≤ length (now free)) ⌝ }
+    requires { ⌜ (256 * d ≤ length (now area)) × (d ≤ 16777215) × (b < g) × (g ≤ length (now numbers)) ⌝ }
+    requires { ⌜ (g ≤ end) × (end ≤ 16777215) × (end + 32767 ≤ 64 * length (now free)) ⌝ }
     ensures { λ r. ⌜ r ≡ moved-to (now (area .entry)) d g end (marks (now (free .entry))) (starts b 1 (now (numbers .entry))) .end ⌝ }
     ensures { λ r. ⌜ marks (now (free .exit)) ≡ moved-to (now (area .entry)) d g end (marks (now (free .entry))) (starts b 1 (now (numbers .entry))) .free ⌝ }
     ensures { λ r. ⌜ now (numbers .exit) ≡ tabled (starts b 1 (now (numbers .entry)))
@@ -104,10 +103,10 @@ fn place_one(
     if numbers[b] == 0 {
         return end;
     }
-    let n = size_at(area, d, b);
-    let p = placing::place(free, g, end, n);
+    let size = size_at(area, d, b);
+    let p = placing::place(free, g, end, size);
     numbers[b] = p as u32;
-    placing::larger(end, p + n)
+    placing::larger(end, p + size)
 }
 
 // Places all displaced runs in order of their old numbers; answers the end then. Stops where that passes the limit.
@@ -120,8 +119,8 @@ pub fn place_moved(
     end: usize,
     limit: usize,
 ) -> usize
-    requires { ⌜ (256 * d ≤ length (now area)) × (d ≤ 65536) × (g ≤ 32767) × (g ≤ length (now numbers)) ⌝ }
-    requires { ⌜ (g ≤ end) × (end ≤ limit) × (limit ≤ 98304) × (2560 ≤ length (now free)) ⌝ }
+    requires { ⌜ (256 * d ≤ length (now area)) × (d ≤ 16777215) × (g ≤ length (now numbers)) ⌝ }
+    requires { ⌜ (g ≤ end) × (end ≤ limit) × (limit ≤ 16777215) × (limit + 32767 ≤ 64 * length (now free)) ⌝ }
     ensures { λ r. ⌜ Within limit (moved-to (now (area .entry)) d g end (marks (now (free .entry))) (starts 0 g (now (numbers .entry)))) r (marks (now (free .exit))) ⌝ }
     ensures { λ r. ⌜ (r ≤ limit → now (numbers .exit) ≡ tabled (starts 0 g (now (numbers .entry)))
         (moved-to (now (area .entry)) d g end (marks (now (free .entry))) (starts 0 g (now (numbers .entry))) .places) (now (numbers .entry))) ⌝ }
@@ -141,7 +140,7 @@ pub fn place_moved(
 
 // Copies the run at block b of the old data area to its new place, if one starts there.
 fn copy_one(dst: &mut [u8], area: &[u8], d: usize, numbers: &[u32], b: usize)
-    requires { ⌜ (256 * d ≤ length (now area)) × (d ≤ 65536) × (b < length (now numbers)) ⌝ }
+    requires { ⌜ (256 * d ≤ length (now area)) × (d ≤ 16777215) × (b < length (now numbers)) ⌝ }
     requires { ⌜ All (λ a. (a < d) × (256 * (getD (now numbers) a 0 + size-at (now area) d a) ≤ length (now dst))) (starts b 1 (now numbers)) ⌝ }
     ensures { λ _. ⌜ now (dst .exit) ≡ moved-written (now (area .entry)) d (now (numbers .entry)) (starts b 1 (now (numbers .entry))) (now (dst .entry)) ⌝ }
     ensures { λ _. ⌜ length (now (dst .exit)) ≡ length (now (dst .entry)) ⌝ }
@@ -155,7 +154,7 @@ fn copy_one(dst: &mut [u8], area: &[u8], d: usize, numbers: &[u32], b: usize)
 
 // Copies all displaced runs from the old data area to their new places.
 pub fn copy_moved(dst: &mut [u8], area: &[u8], d: usize, numbers: &[u32], g: usize)
-    requires { ⌜ (256 * d ≤ length (now area)) × (d ≤ 65536) × (g ≤ length (now numbers)) ⌝ }
+    requires { ⌜ (256 * d ≤ length (now area)) × (d ≤ 16777215) × (g ≤ length (now numbers)) ⌝ }
     requires { ⌜ All (λ b. (b < d) × (256 * (getD (now numbers) b 0 + size-at (now area) d b) ≤ length (now dst))) (starts 0 g (now numbers)) ⌝ }
     ensures { λ _. ⌜ now (dst .exit) ≡ moved-written (now (area .entry)) d (now (numbers .entry)) (starts 0 g (now (numbers .entry))) (now (dst .entry)) ⌝ }
     ensures { λ _. ⌜ length (now (dst .exit)) ≡ length (now (dst .entry)) ⌝ }

@@ -8,6 +8,7 @@ use Rattle.spec.specs.Entry.{Entry}
 use Rattle.spec.specs.Run.{run-size}
 use Rattle.spec.specs.Index.{elements-bytes}
 use Rattle.spec.specs.Place.{cut, element-of}
+use Rattle.encoder.specs.Limits.{longest-run}
 use Rattle.placing.specs.Spread.{Spread, spread}
 use Rattle.plan.specs.Written.{part-runs, parts-written}
 
@@ -15,19 +16,20 @@ use Rattle.plan.specs.Written.{part-runs, parts-written}
 abbrev pub sizes-of : ℕ → List Entry → List ℕ
 sizes-of limit es = map run-size (cut limit es)
 
--- the parts placed in order among the blocks g to d − 1, or from d on
+-- the parts placed in order among the blocks g to end − 1, or from `end` on
 abbrev pub laid : ℕ → ℕ → ℕ → List Bool → List Entry → Spread
-laid limit g d ms es = spread g d ms (sizes-of limit es)
+laid limit g end ms es = spread g end ms (sizes-of limit es)
 
 -- how many bytes their index elements take, where they have these places
 abbrev pub elements-long : ℕ → ℕ → ℕ → List ℕ → List Entry → ℕ
 elements-long width limit g places es = length (elements-bytes width (map element-of (part-runs g places (cut limit es))))
 
--- A slice of that length has room for the parts, counted from `start` on, and for their elements from `at` on.
-abbrev pub PartsFit : ℕ → ℕ → ℕ → ℕ → ℕ → ℕ → List Bool → List Entry → ℕ → Type 0
-PartsFit width limit start at g end ms es long =
+-- So many marks reach a longest run past the parts, and a slice of that length has room for the parts, counted from `start` on, and for their
+-- elements from `at` on.
+abbrev pub PartsFit : ℕ → ℕ → ℕ → ℕ → ℕ → ℕ → List Bool → List Entry → ℕ → ℕ → Type 0
+PartsFit width limit start at g end ms es blocks long =
     let s : Spread = laid limit g end ms es in
-    ((s .end ≤ 98_304) × (start + 256 * s .end ≤ long)) × (at + elements-long width limit g (s .places) es ≤ long)
+    ((s .end + longest-run ≤ blocks) × (start + 256 * s .end ≤ long)) × (at + elements-long width limit g (s .places) es ≤ long)
 
 -- The parts and their elements are written over the slice s, which leaves s′; the elements end at r, and ms′ are the marks then.
 abbrev pub PartsPut : ℕ → ℕ → ℕ → ℕ → ℕ → ℕ → List Bool → List Entry → List ℕ → List ℕ → ℕ → List Bool → Type 0

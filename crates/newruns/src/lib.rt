@@ -1,85 +1,110 @@
 // The new runs of a change, one for each part: placed on the marks, and written with their index elements.
 ghost use mathlib.Core.Path.{_≡_};
 ghost use mathlib.Core.Bool.{true};
-ghost use Prim.Native.Nat.{_≤_};
+ghost use Prim.Native.Nat.{_+_, _*_, _≤_};
 ghost use lib.ListN.{length};
 ghost use Rattle.spec.specs.Entry.{headword-ok};
+ghost use Rattle.byteops.specs.Width.{Width};
 ghost use Rattle.marks.specs.Marks.{marks};
 ghost use Rattle.placing.specs.Spread.{Within};
+ghost use Rattle.encoder.specs.Limits.{longest-body, longest-run};
 ghost use Rattle.parts.specs.Merge.{changed-entries};
+ghost use Rattle.parts.specs.Room.{largest-limit};
 ghost use Rattle.newruns.specs.Laid.{laid, PartsFit, PartsPut};
+use header::Form;
+use parts::Edit;
+use parts::PART;
+use runs::WORD;
 
-// Places all parts of the changed run, and answers the end of the blocks then. Stops where that passes the limit.
+// Where new runs go: among the blocks g to end - 1, or from `end` on.
+pub struct Room {
+    pub g: usize,
+    pub end: usize,
+}
+
+// Where new runs are written: their places are counted from `start` on, their index elements stand from `at` on.
+pub struct Site {
+    pub start: usize,
+    pub at: usize,
+    pub room: Room,
+}
+
+// Places all parts of the changed run, and answers the end of the blocks then. Stops where that passes `most`.
 pub fn plan_parts(
+    edit: Edit,
     run: &[u8],
     h: &[u8],
     body: &[u8],
-    fresh: bool,
     free: &mut [u64],
-    g: usize,
-    end: usize,
-    limit: usize,
+    room: Room,
+    most: usize,
 ) -> usize
-    requires { ⌜ (headword-ok (now h) ≡ true) × (length (now body) ≤ 3001) × (length (now run) ≤ 8388608) ⌝ }
-    requires { ⌜ (g ≤ end) × (end ≤ limit) × (limit ≤ 98304) × (2560 ≤ length (now free)) ⌝ }
-    ensures { λ r. ⌜ Within limit (laid 1024 g end (marks (now (free .entry))) (changed-entries (now (run .entry)) (now (h .entry)) (now (body .entry)) fresh)) r (marks (now (free .exit))) ⌝ }
-    ensures { λ r. ⌜ (end ≤ r) × (r ≤ 98404) × (length (now (free .exit)) ≡ length (now (free .entry))) ⌝ }
+    requires { ⌜ (headword-ok (now h) ≡ true) × (length (now body) ≤ longest-body) × (length (now run) ≤ 8388608) × (edit .form .limit ≤ largest-limit) ⌝ }
+    requires { ⌜ (room .g ≤ room .end) × (room .end ≤ most) × (most ≤ 0xFFFFFFFF) × (most + longest-run ≤ 64 * length (now free)) ⌝ }
+    ensures { λ r. ⌜ Within most (laid (edit .form .limit) (room .g) (room .end) (marks (now (free .entry)))
+        (changed-entries (edit .form .order) (now (run .entry)) (now (h .entry)) (now (body .entry)) (edit .fresh))) r (marks (now (free .exit))) ⌝ }
+    ensures { λ r. ⌜ (room .end ≤ r) × (r ≤ most + longest-run) × (length (now (free .exit)) ≡ length (now (free .entry))) ⌝ }
 {
-    let mut word = [0u8; 256];
-    let mut part = [0u8; 3328];
-    let mut cur = parts::advance(run, 0, &mut word, 0, fresh);
-    let mut d = end;
+    let form: Form = edit.form;
+    let fresh = edit.fresh;
+    let g = room.g;
+    let mut word = [0u8; WORD];
+    let mut part = [0u8; PART];
+    let mut cur = parts::advance(form.order, run, 0, &mut word, 0, fresh);
+    let mut last = room.end;
     loop {
-        let p = parts::encode_part(run, cur, &mut word, h, body, &mut part);
+        let p = parts::encode_part(form, run, cur, &mut word, h, body, &mut part);
         if p.used == 0 {
-            return d;
+            return last;
         }
-        let n = encoder::run_blocks(p.used);
-        d = placing::larger(d, placing::place(free, g, d, n) + n);
-        if limit < d {
-            return d;
+        let size = encoder::run_blocks(p.used);
+        last = placing::larger(last, placing::place(free, g, last, size) + size);
+        if most < last {
+            return last;
         }
         cur = p.cursor;
     }
 }
 
-// Writes all parts of the changed run, each at its place, counted from `start` on, and their elements from `at` on, with
-// numbers g lower; answers where the elements end.
+// Writes all parts of the changed run, each at its place, and their elements, with numbers g lower; answers where the elements end.
 pub fn write_parts(
+    edit: Edit,
     image: &mut [u8],
-    start: usize,
-    at: usize,
+    to: Site,
     run: &[u8],
     h: &[u8],
     body: &[u8],
-    fresh: bool,
     free: &mut [u64],
-    g: usize,
-    end: usize,
 ) -> usize
-    requires { ⌜ (headword-ok (now h) ≡ true) × (length (now body) ≤ 3001) × (length (now run) ≤ 8388608) ⌝ }
-    requires { ⌜ (g ≤ end) × (2560 ≤ length (now free)) ⌝ }
-    requires { ⌜ PartsFit 2 1024 start at g end (marks (now free)) (changed-entries (now run) (now h) (now body) fresh) (length (now image)) ⌝ }
-    ensures { λ r. ⌜ PartsPut 2 1024 start at g end (marks (now (free .entry))) (changed-entries (now (run .entry)) (now (h .entry)) (now (body .entry)) fresh)
+    requires { ⌜ (headword-ok (now h) ≡ true) × (length (now body) ≤ longest-body) × (length (now run) ≤ 8388608) ⌝ }
+    requires { ⌜ Width (edit .form .width) × (edit .form .limit ≤ largest-limit) × (to .room .g ≤ to .room .end) ⌝ }
+    requires { ⌜ PartsFit (edit .form .width) (edit .form .limit) (to .start) (to .at) (to .room .g) (to .room .end) (marks (now free))
+        (changed-entries (edit .form .order) (now run) (now h) (now body) (edit .fresh)) (64 * length (now free)) (length (now image)) ⌝ }
+    ensures { λ r. ⌜ PartsPut (edit .form .width) (edit .form .limit) (to .start) (to .at) (to .room .g) (to .room .end) (marks (now (free .entry)))
+        (changed-entries (edit .form .order) (now (run .entry)) (now (h .entry)) (now (body .entry)) (edit .fresh))
         (now (image .entry)) (now (image .exit)) r (marks (now (free .exit))) ⌝ }
     ensures { λ r. ⌜ (length (now (image .exit)) ≡ length (now (image .entry))) × (length (now (free .exit)) ≡ length (now (free .entry))) ⌝ }
 {
-    let mut word = [0u8; 256];
-    let mut part = [0u8; 3328];
-    let mut cur = parts::advance(run, 0, &mut word, 0, fresh);
-    let mut d = end;
-    let mut out = at;
+    let form: Form = edit.form;
+    let fresh = edit.fresh;
+    let start = to.start;
+    let g = to.room.g;
+    let mut word = [0u8; WORD];
+    let mut part = [0u8; PART];
+    let mut cur = parts::advance(form.order, run, 0, &mut word, 0, fresh);
+    let mut last = to.room.end;
+    let mut out = to.at;
     loop {
-        let p = parts::encode_part(run, cur, &mut word, h, body, &mut part);
+        let p = parts::encode_part(form, run, cur, &mut word, h, body, &mut part);
         if p.used == 0 {
             return out;
         }
-        let n = encoder::run_blocks(p.used);
-        let b = placing::place(free, g, d, n);
-        d = placing::larger(d, b + n);
+        let size = encoder::run_blocks(p.used);
+        let b = placing::place(free, g, last, size);
+        last = placing::larger(last, b + size);
         encoder::write_run(&mut image[start + 256 * b..], &part[..p.used]);
-        let e = parts::head_end(&part, p.used);
-        out = elements::put_element(image, out, b - g, &part[3..e]);
+        let end = 3 + parts::head_length(&part, p.used);
+        out = elements::put_element(form.width, image, out, b - g, &part[3..end]);
         cur = p.cursor;
     }
 }

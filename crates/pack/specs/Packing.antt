@@ -13,10 +13,10 @@ use Rattle.spec.specs.Check.{runs-from}
 use Rattle.spec.specs.Place.{element-of, packed}
 use Rattle.index.specs.Elements.{elements-at}
 
--- how many blocks an index of n elements needs, which take so many bytes
+-- how many blocks an index of so many elements needs, which take so many bytes
 unfoldable pub blocks-needed : ℕ → ℕ → ℕ
 blocks-needed zero bytes = 0
-blocks-needed (suc n) bytes = blocks-for (bytes + 4)
+blocks-needed (suc k) bytes = blocks-for (bytes + 4)
 
 -- the bytes of runs one after the other
 unfoldable pub runs-bytes : List Run → List ℕ
@@ -24,18 +24,18 @@ runs-bytes [] = []
 runs-bytes (r ∷ rs) = r .bytes ++ runs-bytes rs
 
 -- the elements of runs that stand one after the other from block b on
-unfoldable pub packed-elements : ℕ → List Run → List ℕ
-packed-elements b rs = elements-bytes 2 (map element-of (packed b rs))
+unfoldable pub packed-elements : ℕ → ℕ → List Run → List ℕ
+packed-elements width b rs = elements-bytes width (map element-of (packed b rs))
 
--- a slice with runs written one after the other from `base` on, and their elements behind the header
-unfoldable pub runs-packed : ℕ → List Run → List ℕ → List ℕ
-runs-packed base rs s = write 256 (packed-elements 0 rs) (write base (runs-bytes rs) s)
+-- a slice with runs written one after the other from `base` on, and their elements from `front` on
+unfoldable pub runs-packed : ℕ → ℕ → ℕ → List Run → List ℕ → List ℕ
+runs-packed width front base rs s = write front (packed-elements width 0 rs) (write base (runs-bytes rs) s)
 
--- the runs of an index and a data area are read; their elements fit in front of `base`, and they from there on in a slice of that length
-pub record RunsFit (index area : List ℕ) (n d base long : ℕ) : Type 0 where
+-- the runs of an index and a data area are read; their elements fit between `front` and `base`, and they from there on in a slice of that length
+pub record RunsFit (width order : ℕ) (index area : List ℕ) (elements d front base long : ℕ) : Type 0 where
   pub runs : List Run
-  pub read : runs-from (below-of 0) d area (elements-at index 0 n) ≡ ok runs
-  pub index-room : 256 + length (elements-bytes 2 (elements-at index 0 n)) ≤ base
+  pub read : runs-from (below-of order) d area (elements-at width index 0 elements) ≡ ok runs
+  pub index-room : front + length (elements-bytes width (elements-at width index 0 elements)) ≤ base
   pub area-room : base + 256 * run-blocks runs ≤ long
 
 -- names all definitions of this module: who unfolds it unfolds them

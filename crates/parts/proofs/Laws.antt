@@ -14,7 +14,7 @@ use Rattle.spec.specs.Bytes.{to-little-endian, write, bytes-at, no-zero}
 use Rattle.spec.specs.Order.{below-of, common-prefix, HeadwordOrder}
 use Rattle.spec.specs.Entry.{Entry, headword-ok, headword-suffix, shared-front, field-bytes, entry-bytes}
 use Rattle.spec.specs.Run.{read-entry, entries-bytes}
-use Rattle.spec.proofs.ListsLaws.{all-map, one, or-right}
+use Rattle.spec.proofs.ListsLaws.{all-map, clash, one, or-right}
 use Rattle.spec.proofs.RunLaws.{body-short, headword-by}
 use Rattle.spec.proofs.WriteLaws.{bytes-at-take}
 use Rattle.scans.specs.declared.Comparison.{Comparison}
@@ -26,10 +26,34 @@ use Rattle.runs.specs.Step.{step-entry, Inside}
 use Rattle.runs.specs.declared.Step.{Step}
 use Rattle.runs.proofs.Laws.{told-broken, told-end, told-entry, told-no-zero}
 use Rattle.parts.specs.declared.Cursor.{Cursor}
+use Rattle.parts.specs.declared.Fit.{Fit}
 use Rattle.parts.specs.declared.Turn.{Turn}
 use Rattle.parts.specs.Merge.{entries-left, merge, ahead, todo, changed-entries, turn-of, CursorOk}
 use Rattle.parts.specs.Part.{has-room, Appended}
-use Rattle.parts.proofs.MergeLaws.{left-refused, left-none, left-some, left-ok, left-few, merge-few, merge-all, ahead-none, ahead-some, taken, todo-done, todo-skip, todo-old, todo-new, turn-skips, turn-keeps, turn-enters, skip-some, old-some, new-fresh}
+use Rattle.parts.specs.Room.{largest-limit}
+use Rattle.encoder.specs.Limits.{longest-headword, longest-body, longest-entry}
+use Rattle.parts.proofs.MergeLaws.{
+  left-refused,
+  left-none,
+  left-some,
+  left-ok,
+  left-few,
+  merge-few,
+  merge-all,
+  ahead-none,
+  ahead-some,
+  taken,
+  todo-done,
+  todo-skip,
+  todo-old,
+  todo-new,
+  turn-skips,
+  turn-keeps,
+  turn-enters,
+  skip-some,
+  old-some,
+  new-fresh,
+}
 use Rattle.parts.proofs.MeasureLaws.{parts-in, bytes-in, blocks-in, parts-few, bytes-few, blocks-few, Counting, counting-start}
 use Rattle.parts.proofs.PartLaws.{Short, copied-front, Filling, Filled, filling-end, filling-full, filling-more}
 
@@ -38,93 +62,98 @@ pub first-bytes : (s : List ℕ) (n : ℕ) → n ≤ length s → n ≡ length (
 first-bytes s n h = sym (length-take-le n s h)
 
 -- ---- advance
-module _ (run word word′ : List ℕ) (at n : ℕ) (fresh : Bool) (st : Step) (told : step-entry run word′ st ≡ read-entry (below-of 0) (take n word) (drop at run)) where
+module _ (order : ℕ) (run word word′ : List ℕ) (at held : ℕ) (fresh : Bool) (st : Step) (told : step-entry run word′ st ≡ read-entry (below-of order) (take held word) (drop at run)) where
   -- a broken entry ends the run
-  pub broken-ahead : st ≡ Step.Broken → ahead run word′ (record { length = 0; zero = 0; next = 0; fresh = fresh }) ≡ entries-left (below-of 0) (take n word) (drop at run)
+  pub broken-ahead : st ≡ Step.Broken → ahead order run word′ (record { length = 0; zero = 0; next = 0; fresh = fresh }) ≡ entries-left (below-of order) (take held word) (drop at run)
   unfolding ahead
-  broken-ahead q = sym (left-refused (below-of 0) (take n word) (drop at run) 8 (told-broken (below-of 0) (take n word) (drop at run) run word′ st told q))
+  broken-ahead q = sym (left-refused (below-of order) (take held word) (drop at run) 8 (told-broken (below-of order) (take held word) (drop at run) run word′ st told q))
 
   -- so do the end marks
-  pub end-ahead : st ≡ Step.End → ahead run word′ (record { length = 0; zero = 0; next = 0; fresh = fresh }) ≡ entries-left (below-of 0) (take n word) (drop at run)
+  pub end-ahead : st ≡ Step.End → ahead order run word′ (record { length = 0; zero = 0; next = 0; fresh = fresh }) ≡ entries-left (below-of order) (take held word) (drop at run)
   unfolding ahead
-  end-ahead q = sym (left-none (below-of 0) (take n word) (drop at run) (told-end (below-of 0) (take n word) (drop at run) run word′ st told q))
+  end-ahead q = sym (left-none (below-of order) (take held word) (drop at run) (told-end (below-of order) (take held word) (drop at run) run word′ st told q))
 
   module _ (k z e : ℕ) (q : st ≡ Step.Entry k z e) (inside : Inside at run st) where
     -- an entry, and those behind it
-    pub entry-ahead : ahead run word′ (record { length = k; zero = z; next = e; fresh = fresh }) ≡ entries-left (below-of 0) (take n word) (drop at run)
+    pub entry-ahead : ahead order run word′ (record { length = k; zero = z; next = e; fresh = fresh }) ≡ entries-left (below-of order) (take held word) (drop at run)
     entry-ahead =
         let i = inside k z e q in
-        ahead-some run word′ (record { length = k; zero = z; next = e; fresh = fresh }) (ne-eqb k 0 (λ w. omega arith))
-        ∙ sym (left-some (below-of 0) (take n word) (drop at run) _ _ (told-entry (below-of 0) (take n word) (drop at run) run word′ st told k z e q))
+        ahead-some order run word′ (record { length = k; zero = z; next = e; fresh = fresh }) (ne-eqb k 0 (λ w. omega arith))
+        ∙ sym (left-some (below-of order) (take held word) (drop at run) _ _ (told-entry (below-of order) (take held word) (drop at run) run word′ st told k z e q))
 
     -- and the cursor stands at it
-    pub entry-cursor : length word′ ≡ length word → 248 ≤ length word → CursorOk run word′ (record { length = k; zero = z; next = e; fresh = fresh })
+    pub entry-cursor : length word′ ≡ length word → longest-headword ≤ length word → CursorOk run word′ (record { length = k; zero = z; next = e; fresh = fresh })
     entry-cursor l r =
         let i = inside k z e q in
         record {
           room = omega arith;
           short = i .5;
-          clean = told-no-zero (below-of 0) (take n word) (drop at run) run word′ st told k z e q;
+          clean = told-no-zero (below-of order) (take held word) (drop at run) run word′ st told k z e q;
           inside = i .2;
           body = λ h. i .1;
-          body-short = i .3;
+          body-short = omega (arith, i .3);
         }
 
 -- a cursor at the end
-pub end-cursor : (run word word₀ : List ℕ) (fresh : Bool) → length word ≡ length word₀ → 248 ≤ length word₀ → CursorOk run word (record { length = 0; zero = 0; next = 0; fresh = fresh })
+pub end-cursor : (run word word₀ : List ℕ) (fresh : Bool) → length word ≡ length word₀ → longest-headword ≤ length word₀ → CursorOk run word (record { length = 0; zero = 0; next = 0; fresh = fresh })
 unfolding no-zero all
 end-cursor run word word₀ fresh e h = record { room = omega arith; short = omega arith; clean = refl; inside = omega arith; body = λ k. absurd (omega arith); body-short = omega arith }
 
 -- ---- next_turn
-module _ (below : HeadwordOrder) (h word : List ℕ) (n : ℕ) (fresh : Bool) where
+module _ (below : HeadwordOrder) (h word : List ℕ) (held : ℕ) (fresh : Bool) where
   -- no old entry is left: the new one comes, if it is still to come
-  pub last-new : n ≡ 0 → fresh ≡ true → Turn.New ≡ turn-of below h fresh n word
+  pub last-new : held ≡ 0 → fresh ≡ true → Turn.New ≡ turn-of below h fresh held word
   unfolding turn-of
   last-new p f = rw (p, f)
 
   -- else nothing
-  pub last-done : n ≡ 0 → fresh ≡ false → Turn.Done ≡ turn-of below h fresh n word
+  pub last-done : held ≡ 0 → fresh ≡ false → Turn.Done ≡ turn-of below h fresh held word
   unfolding turn-of
   last-done p f = rw (p, f)
 
-  module _ (c : Comparison) (e : c ≡ comparison below (take n word) h) (p : n ≡ 0 → ⊥) where
-    some-left : eqb n 0 ≡ false
-    some-left = ne-eqb n 0 p
+  module _ (c : Comparison) (e : c ≡ comparison below (take held word) h) (p : held ≡ 0 → ⊥) where
+    some-left : eqb held 0 ≡ false
+    some-left = ne-eqb held 0 p
 
     -- an old entry below the new one is kept
-    pub below-old : c ≡ Below → Turn.Old ≡ turn-of below h fresh n word
+    pub below-old : c ≡ Below → Turn.Old ≡ turn-of below h fresh held word
     unfolding turn-of
-    below-old q = sym (turn-keeps below h word n fresh some-left (sym e ∙ q))
+    below-old q = sym (turn-keeps below h word held fresh some-left (sym e ∙ q))
 
     -- one with its headword is dropped
-    pub same-skip : c ≡ Same → Turn.Skip ≡ turn-of below h fresh n word
-    same-skip q = sym (turn-skips below h word n fresh some-left (sym e ∙ q))
+    pub same-skip : c ≡ Same → Turn.Skip ≡ turn-of below h fresh held word
+    same-skip q = sym (turn-skips below h word held fresh some-left (sym e ∙ q))
 
     -- before one above it the new one enters
-    pub above-new : c ≡ Above → fresh ≡ true → Turn.New ≡ turn-of below h fresh n word
-    above-new q f = sym (turn-enters below h word n fresh some-left (sym e ∙ q) ∙ rw f)
+    pub above-new : c ≡ Above → fresh ≡ true → Turn.New ≡ turn-of below h fresh held word
+    above-new q f = sym (turn-enters below h word held fresh some-left (sym e ∙ q) ∙ rw f)
 
     -- or the old one is kept, if the new one is not to come
-    pub above-old : c ≡ Above → fresh ≡ false → Turn.Old ≡ turn-of below h fresh n word
-    above-old q f = sym (turn-enters below h word n fresh some-left (sym e ∙ q) ∙ rw f)
+    pub above-old : c ≡ Above → fresh ≡ false → Turn.Old ≡ turn-of below h fresh held word
+    above-old q f = sym (turn-enters below h word held fresh some-left (sym e ∙ q) ∙ rw f)
 
 -- ---- append
-module _ (used n : ℕ) (prev h b part part′ last′ : List ℕ) (size : n ≡ length (entry-bytes prev (record { headword = h; body = b }))) where
+module _ (limit used size : ℕ) (prev h b part part′ last′ : List ℕ) (long : size ≡ length (entry-bytes prev (record { headword = h; body = b }))) where
   -- no room
-  pub append-full : 0 < used → 1020 < used + n → Appended used prev (record { headword = h; body = b }) part part last′ 0
+  pub append-full : 0 < used → limit < used + size + 4 → Appended limit used prev (record { headword = h; body = b }) part part last′ Fit.Full
   unfolding has-room
   append-full p q =
-      (λ z. (rw (ne-eqb used 0 (λ w. omega arith), lt-leb (4 + (used + length (entry-bytes prev (record { headword = h; body = b })))) 1_024 (omega arith)), refl), λ z. absurd (omega arith))
+      (λ z. (rw (ne-eqb used 0 (λ w. omega arith), lt-leb (4 + (used + length (entry-bytes prev (record { headword = h; body = b })))) limit (omega arith)), refl), λ u z. clash (cc))
 
-  room-by : (used ≡ 0) ⊎ (used + n ≤ 1020) → has-room 1_024 used prev (record { headword = h; body = b }) ≡ true
+  room-by : (used ≡ 0) ⊎ (used + size + 4 ≤ limit) → has-room limit used prev (record { headword = h; body = b }) ≡ true
   unfolding has-room
   room-by (inl z) = rw (eq-eqb used 0 z)
-  room-by (inr k) = rw (le-leb (4 + (used + length (entry-bytes prev (record { headword = h; body = b })))) 1_024 (omega arith)) (or-right (eqb used 0) true refl)
+  room-by (inr k) = rw (le-leb (4 + (used + length (entry-bytes prev (record { headword = h; body = b })))) limit (omega arith)) (or-right (eqb used 0) true refl)
 
   -- the entry behind those that stand there
-  pub append-done : (used ≡ 0) ⊎ (used + n ≤ 1020) → 4 ≤ n → part′ ≡ write used (entry-bytes prev (record { headword = h; body = b })) part → take (length h) last′ ≡ h
-      → Appended used prev (record { headword = h; body = b }) part part′ last′ (used + n)
-  append-done c p w k = (λ z. absurd (omega arith), λ z. (room-by c, ap (λ (x : ℕ). used + x) size, w, k))
+  pub append-done : (used ≡ 0) ⊎ (used + size + 4 ≤ limit) → used + size ≤ longest-entry → part′ ≡ write used (entry-bytes prev (record { headword = h; body = b })) part → take (length h) last′ ≡ h
+      → Appended limit used prev (record { headword = h; body = b }) part part′ last′ (Fit.Used (used + size))
+  append-done c p w k = (
+    λ z. clash (cc),
+    λ u z.
+        let e : used + size ≡ u = cc in
+        (room-by c, sym e ∙ ap (λ (x : ℕ). used + x) long, w, k, omega arith),
+  )
 
 -- a headword that was copied to the front of a buffer is there
 pub last-renewed : (h last last′ : List ℕ) → last′ ≡ write 0 (bytes-at 0 (length h) h) last → take (length h) last′ ≡ h
@@ -132,117 +161,122 @@ last-renewed h last last′ l = copied-front h last last′ (length h) l (omega 
 
 -- ---- encode_part
 -- how much is to do: the old entries, and the new one
-abbrev pub work : List ℕ → List ℕ → Cursor → ℕ
-work run word c = length (ahead run word c) + one (c .fresh)
+abbrev pub work : ℕ → List ℕ → List ℕ → Cursor → ℕ
+work order run word c = length (ahead order run word c) + one (c .fresh)
 
 -- what is to do behind an old entry
-todo-behind : (run word h body : List ℕ) (c : Cursor) (fresh : Bool) (es : List Entry) → ahead run word c ≡ es → c .fresh ≡ fresh
-    → todo run word h body c ≡ merge (below-of 0) (record { headword = h; body = body }) fresh es
+todo-behind : (order : ℕ) (run word h body : List ℕ) (c : Cursor) (fresh : Bool) (es : List Entry) → ahead order run word c ≡ es → c .fresh ≡ fresh
+    → todo order run word h body c ≡ merge (below-of order) (record { headword = h; body = body }) fresh es
 unfolding todo
-todo-behind run word h body c fresh es p f = rw (p, f)
+todo-behind order run word h body c fresh es p f = rw (p, f)
 
-module _ (es₀ : List Entry) (part₀ run word h body part prev : List ℕ) (used : ℕ) (c : Cursor) (t : Turn)
-    (told : t ≡ turn-of (below-of 0) h (c .fresh) (c .length) word) (filling : Filling es₀ part₀ (todo run word h body c) part prev used) where
+module _ (order limit : ℕ) (es₀ : List Entry) (part₀ run word h body part prev : List ℕ) (used : ℕ) (c : Cursor) (t : Turn)
+    (told : t ≡ turn-of (below-of order) h (c .fresh) (c .length) word) (filling : Filling limit es₀ part₀ (todo order run word h body c) part prev used) where
   -- nothing is left
-  pub part-done : t ≡ Turn.Done → Filled es₀ part₀ (todo run word h body c) part used
+  pub part-done : t ≡ Turn.Done → Filled limit es₀ part₀ (todo order run word h body c) part used
   part-done q =
-      let e : todo run word h body c ≡ [] = todo-done run word h body c (sym told ∙ q) in
-      rw e (filling-end es₀ part₀ part prev used (rw e at filling))
+      let e : todo order run word h body c ≡ [] = todo-done order run word h body c (sym told ∙ q) in
+      rw e (filling-end limit es₀ part₀ part prev used (rw e at filling))
 
   -- an old entry is dropped
-  pub part-skips : (word′ : List ℕ) (c′ : Cursor) → t ≡ Turn.Skip → ahead run word′ c′ ≡ entries-left (below-of 0) (take (c .length) word) (drop (c .next) run) → c′ .fresh ≡ c .fresh
-      → Filling es₀ part₀ (todo run word′ h body c′) part prev used
+  pub part-skips : (word′ : List ℕ) (c′ : Cursor) → t ≡ Turn.Skip → ahead order run word′ c′ ≡ entries-left (below-of order) (take (c .length) word) (drop (c .next) run) → c′ .fresh ≡ c .fresh
+      → Filling limit es₀ part₀ (todo order run word′ h body c′) part prev used
   part-skips word′ c′ q p f =
-      let e = todo-skip run word h body c (sym told ∙ q) in
-      rw (todo-behind run word′ h body c′ (c .fresh) _ p f) (rw e at filling)
+      let e = todo-skip order run word h body c (sym told ∙ q) in
+      rw (todo-behind order run word′ h body c′ (c .fresh) _ p f) (rw e at filling)
 
-  module _ (part′ last′ : List ℕ) (u : ℕ) where
+  module _ (part′ last′ : List ℕ) (r : Fit) where
     -- an old entry has no room
-    pub part-full-old : t ≡ Turn.Old → Appended used prev (record { headword = take (c .length) word; body = take (c .next - (c .zero + 1)) (drop (c .zero + 1) run) }) part part′ last′ u → u ≡ 0
-        → Filled es₀ part₀ (todo run word h body c) part′ used
+    pub part-full-old : t ≡ Turn.Old → Appended limit used prev (record { headword = take (c .length) word; body = take (c .next - (c .zero + 1)) (drop (c .zero + 1) run) }) part part′ last′ r
+        → r ≡ Fit.Full
+        → Filled limit es₀ part₀ (todo order run word h body c) part′ used
     unfolding bytes-at
     part-full-old q a z =
-        let e = todo-old run word h body c (sym told ∙ q) in
-        let (r, s) = a .0 z in
-        rw (s, e) (filling-full es₀ part₀ part prev used _ _ (rw e at filling) r)
+        let e = todo-old order run word h body c (sym told ∙ q) in
+        let (full, s) = a .0 z in
+        rw (s, e) (filling-full limit es₀ part₀ part prev used _ _ (rw e at filling) full)
 
     -- it is kept
     pub part-keeps : (word′ : List ℕ) (c′ : Cursor) → t ≡ Turn.Old
-        → Appended used prev (record { headword = take (c .length) word; body = take (c .next - (c .zero + 1)) (drop (c .zero + 1) run) }) part part′ last′ u
-        → (u ≡ 0 → ⊥) → used ≤ length part → c .length ≤ length word → ahead run word′ c′ ≡ entries-left (below-of 0) (take (c .length) word) (drop (c .next) run) → c′ .fresh ≡ c .fresh
-        → Filling es₀ part₀ (todo run word′ h body c′) part′ (take (c .length) last′) u
+        → Appended limit used prev (record { headword = take (c .length) word; body = take (c .next - (c .zero + 1)) (drop (c .zero + 1) run) }) part part′ last′ r
+        → (u : ℕ) → r ≡ Fit.Used u → used ≤ length part → c .length ≤ length word → ahead order run word′ c′ ≡ entries-left (below-of order) (take (c .length) word) (drop (c .next) run)
+        → c′ .fresh ≡ c .fresh
+        → Filling limit es₀ part₀ (todo order run word′ h body c′) part′ (take (c .length) last′) u
     unfolding bytes-at
-    part-keeps word′ c′ q a z l m p f =
-        let e = todo-old run word h body c (sym told ∙ q) in
-        let (r, s, w, k) = a .1 (omega arith) in
+    part-keeps word′ c′ q a u z l m p f =
+        let e = todo-old order run word h body c (sym told ∙ q) in
+        let (room, long, w, k, b) = a .1 u z in
         let n : length (take (c .length) word) ≡ c .length = length-take-le (c .length) word m in
         let k′ : take (c .length) last′ ≡ take (c .length) word = ap (λ (x : ℕ). take x last′) (sym n) ∙ k in
-        rw (todo-behind run word′ h body c′ (c .fresh) _ p f, k′) (filling-more es₀ part₀ part prev used _ _ (rw e at filling) part′ u r s w l)
+        rw (todo-behind order run word′ h body c′ (c .fresh) _ p f, k′) (filling-more limit es₀ part₀ part prev used _ _ (rw e at filling) part′ u room long w l)
 
     -- the new entry has no room
-    pub part-full-new : t ≡ Turn.New → Appended used prev (record { headword = h; body = body }) part part′ last′ u → u ≡ 0 → Filled es₀ part₀ (todo run word h body c) part′ used
+    pub part-full-new : t ≡ Turn.New → Appended limit used prev (record { headword = h; body = body }) part part′ last′ r → r ≡ Fit.Full
+        → Filled limit es₀ part₀ (todo order run word h body c) part′ used
     part-full-new q a z =
-        let e = todo-new run word h body c (sym told ∙ q) in
-        let (r, s) = a .0 z in
-        rw (s, e) (filling-full es₀ part₀ part prev used _ _ (rw e at filling) r)
+        let e = todo-new order run word h body c (sym told ∙ q) in
+        let (full, s) = a .0 z in
+        rw (s, e) (filling-full limit es₀ part₀ part prev used _ _ (rw e at filling) full)
 
     -- it enters
-    pub part-enters : t ≡ Turn.New → Appended used prev (record { headword = h; body = body }) part part′ last′ u → (u ≡ 0 → ⊥) → used ≤ length part
-        → Filling es₀ part₀ (todo run word h body (taken c)) part′ (take (length h) last′) u
-    part-enters q a z l =
-        let e = todo-new run word h body c (sym told ∙ q) in
-        let (r, s, w, k) = a .1 (omega arith) in
-        rw k (filling-more es₀ part₀ part prev used _ _ (rw e at filling) part′ u r s w l)
+    pub part-enters : t ≡ Turn.New → Appended limit used prev (record { headword = h; body = body }) part part′ last′ r → (u : ℕ) → r ≡ Fit.Used u → used ≤ length part
+        → Filling limit es₀ part₀ (todo order run word h body (taken c)) part′ (take (length h) last′) u
+    part-enters q a u z l =
+        let e = todo-new order run word h body c (sym told ∙ q) in
+        let (room, long, w, k, b) = a .1 u z in
+        rw k (filling-more limit es₀ part₀ part prev used _ _ (rw e at filling) part′ u room long w l)
 
 -- ---- the turns take work away
-module _ (run word h : List ℕ) (c : Cursor) (t : Turn) (told : t ≡ turn-of (below-of 0) h (c .fresh) (c .length) word) where
+module _ (order : ℕ) (run word h : List ℕ) (c : Cursor) (t : Turn) (told : t ≡ turn-of (below-of order) h (c .fresh) (c .length) word) where
   module _ (word′ : List ℕ) (c′ : Cursor) where
     -- an old entry dropped
-    pub skip-less : t ≡ Turn.Skip → ahead run word′ c′ ≡ entries-left (below-of 0) (take (c .length) word) (drop (c .next) run) → c′ .fresh ≡ c .fresh → work run word′ c′ < work run word c
-    skip-less q p f = rw (ahead-some run word c (skip-some run word h [] c (sym told ∙ q)), p, f) (omega arith)
+    pub skip-less : t ≡ Turn.Skip → ahead order run word′ c′ ≡ entries-left (below-of order) (take (c .length) word) (drop (c .next) run) → c′ .fresh ≡ c .fresh
+        → work order run word′ c′ < work order run word c
+    skip-less q p f = rw (ahead-some order run word c (skip-some order run word h [] c (sym told ∙ q)), p, f) (omega arith)
 
     -- an old entry kept
-    pub old-less : t ≡ Turn.Old → ahead run word′ c′ ≡ entries-left (below-of 0) (take (c .length) word) (drop (c .next) run) → c′ .fresh ≡ c .fresh → work run word′ c′ < work run word c
-    old-less q p f = rw (ahead-some run word c (old-some run word h [] c (sym told ∙ q)), p, f) (omega arith)
+    pub old-less : t ≡ Turn.Old → ahead order run word′ c′ ≡ entries-left (below-of order) (take (c .length) word) (drop (c .next) run) → c′ .fresh ≡ c .fresh
+        → work order run word′ c′ < work order run word c
+    old-less q p f = rw (ahead-some order run word c (old-some order run word h [] c (sym told ∙ q)), p, f) (omega arith)
 
   -- the new entry
-  pub new-less : t ≡ Turn.New → work run word (taken c) < work run word c
+  pub new-less : t ≡ Turn.New → work order run word (taken c) < work order run word c
   unfolding ahead
-  new-less q = omega (arith, ap one (new-fresh run word h [] c (sym told ∙ q)))
+  new-less q = omega (arith, ap one (new-fresh order run word h [] c (sym told ∙ q)))
 
 -- the old entry that is kept has a headword
-pub old-length : (word h : List ℕ) (fresh : Bool) (n : ℕ) (t : Turn) → t ≡ turn-of (below-of 0) h fresh n word → t ≡ Turn.Old → 1 ≤ n
-old-length word h fresh n t told q = omega (arith, eqb-false n 0 (old-some [] word h [] (record { length = n; zero = 0; next = 0; fresh = fresh }) (sym told ∙ q)))
+pub old-length : (order : ℕ) (word h : List ℕ) (fresh : Bool) (held : ℕ) (t : Turn) → t ≡ turn-of (below-of order) h fresh held word → t ≡ Turn.Old → 1 ≤ held
+old-length order word h fresh held t told q = omega (arith, eqb-false held 0 (old-some order [] word h [] (record { length = held; zero = 0; next = 0; fresh = fresh }) (sym told ∙ q)))
 
 -- ---- the entries to do keep the bounds of their lengths
 -- the body of an old entry is not too long
-pub body-few : (run : List ℕ) (z e : ℕ) → e ≤ z + 3002 → length (take (e - (z + 1)) (drop (z + 1) run)) ≤ 3001
+pub body-few : (run : List ℕ) (z e : ℕ) → e ≤ z + 1 + longest-body → length (take (e - (z + 1)) (drop (z + 1) run)) ≤ longest-body
 body-few run z e h = omega (arith, length-take (e - (z + 1)) (drop (z + 1) run))
 
-ahead-short : (run word : List ℕ) (c : Cursor) → CursorOk run word c → All Short (ahead run word c)
+ahead-short : (order : ℕ) (run word : List ℕ) (c : Cursor) → CursorOk run word c → All Short (ahead order run word c)
 unfolding bytes-at
-ahead-short run word c k = go (eqb (c .length) 0) refl
+ahead-short order run word c k = go (eqb (c .length) 0) refl
   where
-    go : (t : Bool) → eqb (c .length) 0 ≡ t → All Short (ahead run word c)
-    go true q = rw (ahead-none run word c q) tt
+    go : (t : Bool) → eqb (c .length) 0 ≡ t → All Short (ahead order run word c)
+    go true q = rw (ahead-none order run word c q) tt
     go false q =
         let n : length (take (c .length) word) ≡ c .length = length-take-le (c .length) word (omega (arith, k .short, k .room)) in
         let p : 1 ≤ c .length = omega (arith, eqb-false (c .length) 0 q) in
-        rw (ahead-some run word c q) (
+        rw (ahead-some order run word c q) (
           (headword-by (take (c .length) word) (omega arith) (omega (arith, k .short)) (k .clean), body-few run (c .zero) (c .next) (k .body-short)),
-          all-map _ _ (λ d w. (w .0, body-short (d .body) (w .1))) (entries-left (below-of 0) (take (c .length) word) (drop (c .next) run))
-              (left-ok (below-of 0) (take (c .length) word) (drop (c .next) run)),
+          all-map _ _ (λ d w. (w .0, body-short (d .body) (w .1))) (entries-left (below-of order) (take (c .length) word) (drop (c .next) run))
+              (left-ok (below-of order) (take (c .length) word) (drop (c .next) run)),
         )
 
 -- all of them
-pub todo-short : (run word h body : List ℕ) (c : Cursor) → CursorOk run word c → headword-ok h ≡ true → length body ≤ 3_001 → All Short (todo run word h body c)
+pub todo-short : (order : ℕ) (run word h body : List ℕ) (c : Cursor) → CursorOk run word c → headword-ok h ≡ true → length body ≤ longest-body → All Short (todo order run word h body c)
 unfolding todo
-todo-short run word h body c k p q = merge-all (below-of 0) (record { headword = h; body = body }) Short (p, q) (c .fresh) (ahead run word c) (ahead-short run word c k)
+todo-short order run word h body c k p q = merge-all (below-of order) (record { headword = h; body = body }) Short (p, q) (c .fresh) (ahead order run word c) (ahead-short order run word c k)
 
 -- the entries of a changed run are no more than its bytes and one
-pub changed-few : (run h body : List ℕ) (fresh : Bool) → length (changed-entries run h body fresh) ≤ length run + 1
+pub changed-few : (order : ℕ) (run h body : List ℕ) (fresh : Bool) → length (changed-entries order run h body fresh) ≤ length run + 1
 unfolding changed-entries
-changed-few run h body fresh = omega (arith, merge-few (below-of 0) (record { headword = h; body = body }) fresh (entries-left (below-of 0) [] run), left-few (below-of 0) [] run)
+changed-few order run h body fresh = omega (arith, merge-few (below-of order) (record { headword = h; body = body }) fresh (entries-left (below-of order) [] run), left-few (below-of order) [] run)
 
 -- ---- the headword of a part's first entry
 -- what stands behind its field length and its shared front
@@ -267,9 +301,9 @@ module _ (part : List ℕ) (used : ℕ) (e : Entry) (es : List Entry) (stands : 
       ∙ take-at (e .headword) (0 ∷ (e .body ++ entries-bytes (e .headword) es)) (length (e .headword)) refl
 
   -- and ends at the first zero byte
-  pub head-end-at : (r : ℕ) → r ≡ 3 + zero-offset (bytes-at 3 (used - 3) part) → no-zero (e .headword) ≡ true → r ≡ 3 + length (e .headword)
+  pub head-measured : (r : ℕ) → r ≡ 3 + zero-offset (bytes-at 3 (used - 3) part) → no-zero (e .headword) ≡ true → r - 3 ≡ length (e .headword)
   unfolding bytes-at
-  head-end-at r q clear =
+  head-measured r q clear =
       let tail : List ℕ = e .body ++ entries-bytes (e .headword) es in
       let l : length (drop 3 (entries-bytes [] (e ∷ es))) ≤ used - 3 = omega (arith, length-drop 3 (entries-bytes [] (e ∷ es)), ap length stands, length-take used part) in
       let a : take (used - 3) (drop 3 part) ≡ e .headword ++ 0 ∷ tail =
@@ -281,9 +315,9 @@ module _ (part : List ℕ) (used : ℕ) (e : Entry) (es : List Entry) (stands : 
       omega (arith, zero-offset-zero tail)
 
 -- ---- what appending asks of an old entry, and of a cursor
--- its headword has 1 to 248 bytes
-pub word-few : (word : List ℕ) (n : ℕ) → 248 ≤ length word → 1 ≤ n → n ≤ 248 → (1 ≤ length (take n word)) × (length (take n word) ≤ 248)
-word-few word n h p q = (omega (arith, length-take-le n word (omega arith)), omega (arith, length-take-le n word (omega arith)))
+-- its headword has a byte, and no more than the longest
+pub word-few : (word : List ℕ) (held : ℕ) → longest-headword ≤ length word → 1 ≤ held → held ≤ longest-headword → (1 ≤ length (take held word)) × (length (take held word) ≤ longest-headword)
+word-few word held h p q = (omega (arith, length-take-le held word (omega arith)), omega (arith, length-take-le held word (omega arith)))
 
 -- a cursor whose new entry was taken
 pub cursor-taken : (run word : List ℕ) (c : Cursor) → CursorOk run word c → CursorOk run word (taken c)
@@ -295,21 +329,23 @@ pub none-zero : no-zero [] ≡ true
 unfolding no-zero all
 none-zero = refl
 
-module _ (run word h body : List ℕ) (fresh : Bool) (c : Cursor) (begun : ahead run word c ≡ entries-left (below-of 0) [] run) (same : c .fresh ≡ fresh) where
+module _ (order : ℕ) (run word h body : List ℕ) (fresh : Bool) (c : Cursor) (begun : ahead order run word c ≡ entries-left (below-of order) [] run) (same : c .fresh ≡ fresh) where
   -- at first all entries of the changed run are to do
-  pub begun-todo : todo run word h body c ≡ changed-entries run h body fresh
+  pub begun-todo : todo order run word h body c ≡ changed-entries order run h body fresh
   unfolding todo changed-entries
   begun-todo = rw (begun, same)
 
-  -- and nothing is counted
-  pub measure-start : Counting (changed-entries run h body fresh) (todo run word h body c) 0 0 0
-  measure-start = rw begun-todo (counting-start (changed-entries run h body fresh))
+  module _ (width limit : ℕ) where
+    -- and nothing is counted
+    pub measure-start : Counting width limit (changed-entries order run h body fresh) (todo order run word h body c) 0 0 0
+    measure-start = rw begun-todo (counting-start width limit (changed-entries order run h body fresh))
 
-  -- the numbers of all parts are small
-  pub measure-bounds : CursorOk run word c → headword-ok h ≡ true → length body ≤ 3_001 → length run ≤ 8388608
-      → (parts-in (changed-entries run h body fresh) ≤ 8388609) × (bytes-in (changed-entries run h body fresh) ≤ 2105540859) × (blocks-in (changed-entries run h body fresh) ≤ 109051917)
-  measure-bounds k p q r =
-      let es : List Entry = changed-entries run h body fresh in
-      let s : All Short es = rw begun-todo at (todo-short run word h body c k p q) in
-      let l : length es ≤ length run + 1 = changed-few run h body fresh in
-      (omega (arith, parts-few es s), omega (arith, bytes-few es s), omega (arith, blocks-few es s))
+    -- the numbers of all parts are small
+    pub measure-bounds : width ≤ 4 → limit ≤ largest-limit → CursorOk run word c → headword-ok h ≡ true → length body ≤ longest-body → length run ≤ 8388608
+        → (parts-in limit (changed-entries order run h body fresh) ≤ 8388609) × (bytes-in width limit (changed-entries order run h body fresh) ≤ 2122318077)
+        × (blocks-in limit (changed-entries order run h body fresh) ≤ 109051917)
+    measure-bounds narrow small k p q r =
+        let es : List Entry = changed-entries order run h body fresh in
+        let s : All Short es = rw begun-todo at (todo-short order run word h body c k p q) in
+        let l : length es ≤ length run + 1 = changed-few order run h body fresh in
+        (omega (arith, parts-few width limit narrow small es s), omega (arith, bytes-few width limit narrow small es s), omega (arith, blocks-few width limit narrow small es s))

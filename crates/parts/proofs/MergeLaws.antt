@@ -259,16 +259,16 @@ module _ (below : HeadwordOrder) (a : Entry) (es : List Entry) where
   new-before e rest q k = rw q (merge-enters below a e rest k ∙ ap (λ (l : List Entry). a ∷ l) (sym (merge-above below a e rest k)))
 
 -- ---- where reading stands
-module _ (run word : List ℕ) (c : Cursor) where
+module _ (order : ℕ) (run word : List ℕ) (c : Cursor) where
   -- no entry is left
-  pub ahead-none : eqb (c .length) 0 ≡ true → ahead run word c ≡ []
+  pub ahead-none : eqb (c .length) 0 ≡ true → ahead order run word c ≡ []
   unfolding ahead
   ahead-none q = rw (q, ahead)
 
   -- an entry, and those behind it
   pub ahead-some : eqb (c .length) 0 ≡ false
-      → ahead run word c ≡ record { headword = take (c .length) word; body = bytes-at (c .zero + 1) (c .next - (c .zero + 1)) run }
-      ∷ entries-left (below-of 0) (take (c .length) word) (drop (c .next) run)
+      → ahead order run word c ≡ record { headword = take (c .length) word; body = bytes-at (c .zero + 1) (c .next - (c .zero + 1)) run }
+      ∷ entries-left (below-of order) (take (c .length) word) (drop (c .next) run)
   unfolding ahead
   ahead-some q = rw (q, ahead)
 
@@ -312,96 +312,97 @@ by-new false true Above h = (refl, inr (refl, refl))
 by-new false false Above h = clash (cc)
 
 -- a turn where an old entry is left, by how it stands to the new one
-module _ (below : HeadwordOrder) (h word : List ℕ) (n : ℕ) (fresh : Bool) (b : eqb n 0 ≡ false) where
+module _ (below : HeadwordOrder) (h word : List ℕ) (held : ℕ) (fresh : Bool) (b : eqb held 0 ≡ false) where
   -- below the new one it is kept
-  pub turn-keeps : comparison below (take n word) h ≡ Below → turn-of below h fresh n word ≡ Turn.Old
+  pub turn-keeps : comparison below (take held word) h ≡ Below → turn-of below h fresh held word ≡ Turn.Old
   unfolding turn-of
-  turn-keeps q = ap (λ (t : Bool). turn-by t fresh (comparison below (take n word) h)) b ∙ ap (turn-by false fresh) q
+  turn-keeps q = ap (λ (t : Bool). turn-by t fresh (comparison below (take held word) h)) b ∙ ap (turn-by false fresh) q
 
   -- with its headword it is dropped
-  pub turn-skips : comparison below (take n word) h ≡ Same → turn-of below h fresh n word ≡ Turn.Skip
+  pub turn-skips : comparison below (take held word) h ≡ Same → turn-of below h fresh held word ≡ Turn.Skip
   unfolding turn-of
-  turn-skips q = ap (λ (t : Bool). turn-by t fresh (comparison below (take n word) h)) b ∙ ap (turn-by false fresh) q
+  turn-skips q = ap (λ (t : Bool). turn-by t fresh (comparison below (take held word) h)) b ∙ ap (turn-by false fresh) q
 
   -- above it, by whether the new one is to come
-  pub turn-enters : comparison below (take n word) h ≡ Above → turn-of below h fresh n word ≡ elim fresh [ true ↦ Turn.New | false ↦ Turn.Old ]
+  pub turn-enters : comparison below (take held word) h ≡ Above → turn-of below h fresh held word ≡ elim fresh [ true ↦ Turn.New | false ↦ Turn.Old ]
   unfolding turn-of
-  turn-enters q = ap (λ (t : Bool). turn-by t fresh (comparison below (take n word) h)) b ∙ ap (turn-by false fresh) q
+  turn-enters q = ap (λ (t : Bool). turn-by t fresh (comparison below (take held word) h)) b ∙ ap (turn-by false fresh) q
 
 -- the same cursor, the new entry no more to come
 abbrev pub taken : Cursor → Cursor
 taken c = record { length = c .length; zero = c .zero; next = c .next; fresh = false }
 
 -- what each turn takes of the entries to do
-module _ (run word h body : List ℕ) (c : Cursor) where
+module _ (order : ℕ) (run word h body : List ℕ) (c : Cursor) where
   -- an old entry that is dropped has a headword
-  pub skip-some : turn-of (below-of 0) h (c .fresh) (c .length) word ≡ Turn.Skip → eqb (c .length) 0 ≡ false
+  pub skip-some : turn-of (below-of order) h (c .fresh) (c .length) word ≡ Turn.Skip → eqb (c .length) 0 ≡ false
   unfolding turn-of
-  skip-some q = by-skip (eqb (c .length) 0) (c .fresh) (comparison (below-of 0) (take (c .length) word) h) q .0
+  skip-some q = by-skip (eqb (c .length) 0) (c .fresh) (comparison (below-of order) (take (c .length) word) h) q .0
 
   -- the same of one that is kept
-  pub old-some : turn-of (below-of 0) h (c .fresh) (c .length) word ≡ Turn.Old → eqb (c .length) 0 ≡ false
+  pub old-some : turn-of (below-of order) h (c .fresh) (c .length) word ≡ Turn.Old → eqb (c .length) 0 ≡ false
   unfolding turn-of
-  old-some q = by-old (eqb (c .length) 0) (c .fresh) (comparison (below-of 0) (take (c .length) word) h) q .0
+  old-some q = by-old (eqb (c .length) 0) (c .fresh) (comparison (below-of order) (take (c .length) word) h) q .0
 
   -- a new entry that enters was to come
-  pub new-fresh : turn-of (below-of 0) h (c .fresh) (c .length) word ≡ Turn.New → c .fresh ≡ true
+  pub new-fresh : turn-of (below-of order) h (c .fresh) (c .length) word ≡ Turn.New → c .fresh ≡ true
   unfolding turn-of
-  new-fresh q = by-new (eqb (c .length) 0) (c .fresh) (comparison (below-of 0) (take (c .length) word) h) q .0
+  new-fresh q = by-new (eqb (c .length) 0) (c .fresh) (comparison (below-of order) (take (c .length) word) h) q .0
 
   -- nothing
-  pub todo-done : turn-of (below-of 0) h (c .fresh) (c .length) word ≡ Turn.Done → todo run word h body c ≡ []
+  pub todo-done : turn-of (below-of order) h (c .fresh) (c .length) word ≡ Turn.Done → todo order run word h body c ≡ []
   unfolding turn-of todo merge
   todo-done q =
-      let (b, f) = by-done (eqb (c .length) 0) (c .fresh) (comparison (below-of 0) (take (c .length) word) h) q in
-      rw (ahead-none run word c b, f)
+      let (b, f) = by-done (eqb (c .length) 0) (c .fresh) (comparison (below-of order) (take (c .length) word) h) q in
+      rw (ahead-none order run word c b, f)
 
   -- the old entry, which the change drops
-  pub todo-skip : turn-of (below-of 0) h (c .fresh) (c .length) word ≡ Turn.Skip
-      → todo run word h body c ≡ merge (below-of 0) (record { headword = h; body = body }) (c .fresh) (entries-left (below-of 0) (take (c .length) word) (drop (c .next) run))
+  pub todo-skip : turn-of (below-of order) h (c .fresh) (c .length) word ≡ Turn.Skip
+      → todo order run word h body c ≡ merge (below-of order) (record { headword = h; body = body }) (c .fresh) (entries-left (below-of order) (take (c .length) word) (drop (c .next) run))
   unfolding turn-of todo
   todo-skip q =
-      let (b, k) = by-skip (eqb (c .length) 0) (c .fresh) (comparison (below-of 0) (take (c .length) word) h) q in
-      rw (ahead-some run word c b) (merge-same (below-of 0) (record { headword = h; body = body }) (c .fresh) _ _ k)
+      let (b, k) = by-skip (eqb (c .length) 0) (c .fresh) (comparison (below-of order) (take (c .length) word) h) q in
+      rw (ahead-some order run word c b) (merge-same (below-of order) (record { headword = h; body = body }) (c .fresh) _ _ k)
 
   -- the old entry
-  pub todo-old : turn-of (below-of 0) h (c .fresh) (c .length) word ≡ Turn.Old
-      → todo run word h body c ≡ record { headword = take (c .length) word; body = bytes-at (c .zero + 1) (c .next - (c .zero + 1)) run }
-      ∷ merge (below-of 0) (record { headword = h; body = body }) (c .fresh) (entries-left (below-of 0) (take (c .length) word) (drop (c .next) run))
+  pub todo-old : turn-of (below-of order) h (c .fresh) (c .length) word ≡ Turn.Old
+      → todo order run word h body c ≡ record { headword = take (c .length) word; body = bytes-at (c .zero + 1) (c .next - (c .zero + 1)) run }
+      ∷ merge (below-of order) (record { headword = h; body = body }) (c .fresh) (entries-left (below-of order) (take (c .length) word) (drop (c .next) run))
   unfolding turn-of todo
   todo-old q =
-      let (b, k) = by-old (eqb (c .length) 0) (c .fresh) (comparison (below-of 0) (take (c .length) word) h) q in
-      rw (ahead-some run word c b) (
-      ⊎-elim (λ p. merge-below (below-of 0) (record { headword = h; body = body }) (c .fresh) _ _ p)
-      (λ (p, f). rw f (merge-above (below-of 0) (record { headword = h; body = body }) _ _ p)) k
+      let (b, k) = by-old (eqb (c .length) 0) (c .fresh) (comparison (below-of order) (take (c .length) word) h) q in
+      rw (ahead-some order run word c b) (
+      ⊎-elim (λ p. merge-below (below-of order) (record { headword = h; body = body }) (c .fresh) _ _ p)
+      (λ (p, f). rw f (merge-above (below-of order) (record { headword = h; body = body }) _ _ p)) k
       )
 
   -- what is ahead where nothing comes next: nothing
-  pub done-ahead : turn-of (below-of 0) h (c .fresh) (c .length) word ≡ Turn.Done → ahead run word c ≡ []
+  pub done-ahead : turn-of (below-of order) h (c .fresh) (c .length) word ≡ Turn.Done → ahead order run word c ≡ []
   unfolding turn-of
-  done-ahead q = ahead-none run word c (by-done (eqb (c .length) 0) (c .fresh) (comparison (below-of 0) (take (c .length) word) h) q .0)
+  done-ahead q = ahead-none order run word c (by-done (eqb (c .length) 0) (c .fresh) (comparison (below-of order) (take (c .length) word) h) q .0)
 
   -- the old entry that is dropped has the headword
-  pub skip-same : turn-of (below-of 0) h (c .fresh) (c .length) word ≡ Turn.Skip → bytes-equal (take (c .length) word) h ≡ true
+  pub skip-same : turn-of (below-of order) h (c .fresh) (c .length) word ≡ Turn.Skip → bytes-equal (take (c .length) word) h ≡ true
   unfolding turn-of
   skip-same q =
-      let (b, k) = by-skip (eqb (c .length) 0) (c .fresh) (comparison (below-of 0) (take (c .length) word) h) q in
-      rw (comparison-same (below-of 0) (take (c .length) word) h (order-of 0) k) (bytes-self h)
+      let (b, k) = by-skip (eqb (c .length) 0) (c .fresh) (comparison (below-of order) (take (c .length) word) h) q in
+      rw (comparison-same (below-of order) (take (c .length) word) h (order-of order) k) (bytes-self h)
 
   -- the one that is kept has another
-  pub old-other : turn-of (below-of 0) h (c .fresh) (c .length) word ≡ Turn.Old → bytes-equal (take (c .length) word) h ≡ false
+  pub old-other : turn-of (below-of order) h (c .fresh) (c .length) word ≡ Turn.Old → bytes-equal (take (c .length) word) h ≡ false
   unfolding turn-of
   old-other q =
-      let (b, k) = by-old (eqb (c .length) 0) (c .fresh) (comparison (below-of 0) (take (c .length) word) h) q in
-      ⊎-elim (λ p. other (below-of 0) (order-of 0) (take (c .length) word) h (comparison-below (below-of 0) (take (c .length) word) h p))
-      (λ (p, f). other-way (below-of 0) (order-of 0) h (take (c .length) word) (comparison-above (below-of 0) (take (c .length) word) h p)) k
+      let (b, k) = by-old (eqb (c .length) 0) (c .fresh) (comparison (below-of order) (take (c .length) word) h) q in
+      ⊎-elim (λ p. other (below-of order) (order-of order) (take (c .length) word) h (comparison-below (below-of order) (take (c .length) word) h p))
+      (λ (p, f). other-way (below-of order) (order-of order) h (take (c .length) word) (comparison-above (below-of order) (take (c .length) word) h p)) k
 
   -- the new entry
-  pub todo-new : turn-of (below-of 0) h (c .fresh) (c .length) word ≡ Turn.New → todo run word h body c ≡ record { headword = h; body = body } ∷ todo run word h body (taken c)
+  pub todo-new : turn-of (below-of order) h (c .fresh) (c .length) word ≡ Turn.New → todo order run word h body c ≡ record { headword = h; body = body } ∷ todo order run word h body (taken c)
   unfolding turn-of todo ahead
   todo-new q =
       let a : Entry = record { headword = h; body = body } in
-      let (f, k) = by-new (eqb (c .length) 0) (c .fresh) (comparison (below-of 0) (take (c .length) word) h) q in
-      ap (λ (t : Bool). merge (below-of 0) a t (ahead run word c)) f
-      ∙ ⊎-elim (λ (b : eqb (c .length) 0 ≡ true). new-alone (below-of 0) a (ahead run word c) (ahead-none run word c b))
-      (λ (w : (eqb (c .length) 0 ≡ false) × (comparison (below-of 0) (take (c .length) word) h ≡ Above)). new-before (below-of 0) a (ahead run word c) _ _ (ahead-some run word c (w .0)) (w .1)) k
+      let (f, k) = by-new (eqb (c .length) 0) (c .fresh) (comparison (below-of order) (take (c .length) word) h) q in
+      ap (λ (t : Bool). merge (below-of order) a t (ahead order run word c)) f
+      ∙ ⊎-elim (λ (b : eqb (c .length) 0 ≡ true). new-alone (below-of order) a (ahead order run word c) (ahead-none order run word c b))
+      (λ (w : (eqb (c .length) 0 ≡ false) × (comparison (below-of order) (take (c .length) word) h ≡ Above)). new-before (below-of order) a (ahead order run word c) _ _
+      (ahead-some order run word c (w .0)) (w .1)) k

@@ -14,6 +14,7 @@ use Rattle.spec.specs.SortedList.{has-headword, lookup}
 use Rattle.spec.specs.Claim.{is-there}
 use Rattle.spec.proofs.ListsLaws.{or-right, filter-yes, filter-no}
 use Rattle.parts.specs.declared.Cursor.{Cursor}
+use Rattle.parts.specs.declared.Fit.{Fit}
 use Rattle.parts.specs.declared.Turn.{Turn}
 use Rattle.parts.specs.Merge.{entries-left, ahead, turn-of, Met}
 use Rattle.parts.specs.Part.{has-room, Appended}
@@ -35,41 +36,42 @@ module _ (h : List ℕ) (e : Entry) (es : List Entry) where
 pub met-start : (h : List ℕ) (es : List Entry) → Met h es false es
 met-start h es = record { told = refl }
 
-module _ (run word h : List ℕ) (c : Cursor) (t : Turn) (told : t ≡ turn-of (below-of 0) h (c .fresh) (c .length) word) where
-  module _ (es₀ : List Entry) (found : Bool) (met : Met h es₀ found (ahead run word c)) (word′ : List ℕ) (c′ : Cursor)
-      (p : ahead run word′ c′ ≡ entries-left (below-of 0) (take (c .length) word) (drop (c .next) run)) where
+module _ (order : ℕ) (run word h : List ℕ) (c : Cursor) (t : Turn) (told : t ≡ turn-of (below-of order) h (c .fresh) (c .length) word) where
+  module _ (es₀ : List Entry) (found : Bool) (met : Met h es₀ found (ahead order run word c)) (word′ : List ℕ) (c′ : Cursor)
+      (p : ahead order run word′ c′ ≡ entries-left (below-of order) (take (c .length) word) (drop (c .next) run)) where
     -- an old entry that is dropped is found
-    pub met-skip : t ≡ Turn.Skip → Met h es₀ true (ahead run word′ c′)
+    pub met-skip : t ≡ Turn.Skip → Met h es₀ true (ahead order run word′ c′)
     met-skip q =
-        let e = ahead-some run word c (skip-some run word h [] c (sym told ∙ q)) in
-        let k = ap (λ (es : List Entry). is-there (lookup h es)) e ∙ found-here h _ _ (skip-same run word h [] c (sym told ∙ q)) in
+        let e = ahead-some order run word c (skip-some order run word h [] c (sym told ∙ q)) in
+        let k = ap (λ (es : List Entry). is-there (lookup h es)) e ∙ found-here h _ _ (skip-same order run word h [] c (sym told ∙ q)) in
         record { told = sym (or-right found _ k) ∙ met .told }
 
     -- one that is kept has another headword
-    pub met-old : t ≡ Turn.Old → Met h es₀ found (ahead run word′ c′)
+    pub met-old : t ≡ Turn.Old → Met h es₀ found (ahead order run word′ c′)
     met-old q =
-        let e = ahead-some run word c (old-some run word h [] c (sym told ∙ q)) in
-        let k = ap (lookup h) e ∙ found-later h _ _ (old-other run word h [] c (sym told ∙ q)) ∙ ap (lookup h) (sym p) in
+        let e = ahead-some order run word c (old-some order run word h [] c (sym told ∙ q)) in
+        let k = ap (lookup h) e ∙ found-later h _ _ (old-other order run word h [] c (sym told ∙ q)) ∙ ap (lookup h) (sym p) in
         record { told = ap (λ (o : Option Entry). found || is-there o) (sym k) ∙ met .told }
 
   -- where nothing comes next, nothing is ahead
-  pub met-done : t ≡ Turn.Done → ahead run word c ≡ []
-  met-done q = done-ahead run word h [] c (sym told ∙ q)
+  pub met-done : t ≡ Turn.Done → ahead order run word c ≡ []
+  met-done q = done-ahead order run word h [] c (sym told ∙ q)
 
 -- the new entry is none of those ahead
-pub met-new : (run word h : List ℕ) (c : Cursor) (es₀ : List Entry) (found : Bool) → Met h es₀ found (ahead run word c) → Met h es₀ found (ahead run word (taken c))
+pub met-new : (order : ℕ) (run word h : List ℕ) (c : Cursor) (es₀ : List Entry) (found : Bool) → Met h es₀ found (ahead order run word c) → Met h es₀ found (ahead order run word (taken c))
 unfolding ahead
-met-new run word h c es₀ found met = record { told = met .told }
+met-new order run word h c es₀ found met = record { told = met .told }
 
 -- a part that has no room for an entry has entries
-pub full-some : (used : ℕ) (prev : List ℕ) (e : Entry) (part part′ last : List ℕ) (u : ℕ) → Appended used prev e part part′ last u → u ≡ 0 → used ≡ 0 → ⊥
+pub full-some : (limit used : ℕ) (prev : List ℕ) (e : Entry) (part part′ last : List ℕ) (r : Fit) → Appended limit used prev e part part′ last r → r ≡ Fit.Full → used ≡ 0 → ⊥
 unfolding has-room
-full-some used prev e part part′ last u a z q = true≢false (sym (rw (eq-eqb used 0 q)) ∙ a .0 z .0)
+full-some limit used prev e part part′ last r a z q = true≢false (sym (rw (eq-eqb used 0 q)) ∙ a .0 z .0)
 
 -- ---- measure
 -- nothing is found where reading begins
-pub met-begun : (h run word : List ℕ) (c : Cursor) → ahead run word c ≡ entries-left (below-of 0) [] run → Met h (entries-left (below-of 0) [] run) false (ahead run word c)
-met-begun h run word c p = rw p (met-start h (entries-left (below-of 0) [] run))
+pub met-begun : (order : ℕ) (h run word : List ℕ) (c : Cursor) → ahead order run word c ≡ entries-left (below-of order) [] run
+    → Met h (entries-left (below-of order) [] run) false (ahead order run word c)
+met-begun order h run word c p = rw p (met-start h (entries-left (below-of order) [] run))
 
 -- one part more
 pub met-part : (h : List ℕ) (es₀ es₁ es₂ : List Entry) (a b : Bool) → Met h es₀ a es₁ → Met h es₁ b es₂ → Met h es₀ (a || b) es₂

@@ -9,13 +9,27 @@ ghost use Rattle.spec.specs.Order.{below-of};
 ghost use Rattle.spec.specs.Entry.{Entry, headword-ok};
 ghost use Rattle.spec.specs.Run.{entries-bytes};
 ghost use Rattle.spec.specs.Place.{cut, new-run};
+ghost use Rattle.encoder.specs.Limits.{longest-headword, longest-body, longest-entry};
+ghost use Rattle.byteops.specs.Width.{Width};
 ghost use Rattle.spec.specs.SortedList.{lookup};
 ghost use Rattle.spec.specs.Claim.{is-there};
 ghost use Rattle.parts.specs.Merge.{entries-left, ahead, todo, changed-entries, turn-of, CursorOk, Met};
 ghost use Rattle.parts.specs.Part.{part-of, past-part, Appended, Measured};
+ghost use Rattle.parts.specs.Room.{largest-limit, part-room};
 use encoder::entry_size;
+use header::Form;
 use runs::Step;
+use runs::WORD;
 use scans::Comparison;
+
+// The bytes of a part's buffer.
+pub const PART: usize = 3328;
+
+// An edit of a run: what the file fixes, and whether a new entry enters.
+pub struct Edit {
+    pub form: Form,
+    pub fresh: bool,
+}
 
 // Where the merging stands: the next of the run's own entries, read already, and whether the new entry is still to come. The
 // entry's headword is the first `length` bytes of a buffer, `zero` is where its zero byte is, and its body stands from there
@@ -35,6 +49,12 @@ enum Turn {
     New,
 }
 
+// What came of one entry more in a part: no room, or the bytes used then.
+enum Fit {
+    Full,
+    Used(usize),
+}
+
 // An encoded part: how many bytes its entries take, whether an old entry was dropped on the way, and where the merging stands
 // behind it.
 pub struct Part {
@@ -52,16 +72,23 @@ pub struct Sizes {
     pub found: bool,
 }
 
-// Reads the run's own entry at `at`, after one whose headword is the first `n` bytes of `word`.
-pub fn advance(run: &[u8], at: usize, word: &mut [u8], n: usize, fresh: bool) -> Cursor
+// Reads the run's own entry at `at`, after one whose headword is the first `held` bytes of `word`.
+pub fn advance(
+    order: usize,
+    run: &[u8],
+    at: usize,
+    word: &mut [u8],
+    held: usize,
+    fresh: bool,
+) -> Cursor
     requires { ⌜ at ≤ length (now run) ⌝ }
-    requires { ⌜ (248 ≤ length (now word)) × (n ≤ 248) × (no-zero (take n (now word)) ≡ true) ⌝ }
-    ensures { λ r. ⌜ ahead (now (run .entry)) (now (word .exit)) r ≡ entries-left (below-of 0) (take n (now (word .entry))) (drop at (now (run .entry))) ⌝ }
+    requires { ⌜ (longest-headword ≤ length (now word)) × (held ≤ longest-headword) × (no-zero (take held (now word)) ≡ true) ⌝ }
+    ensures { λ r. ⌜ ahead order (now (run .entry)) (now (word .exit)) r ≡ entries-left (below-of order) (take held (now (word .entry))) (drop at (now (run .entry))) ⌝ }
     ensures { λ r. ⌜ r .fresh ≡ fresh ⌝ }
     ensures { λ r. ⌜ CursorOk (now (run .entry)) (now (word .exit)) r ⌝ }
     ensures { λ r. ⌜ length (now (word .exit)) ≡ length (now (word .entry)) ⌝ }
 {
-    let st = runs::read_entry(run, at, word, n);
+    let st = runs::read_entry(order, run, at, word, held);
     match st {
         Step::Broken => Cursor {
             length: 0,
@@ -84,18 +111,18 @@ pub fn advance(run: &[u8], at: usize, word: &mut [u8], n: usize, fresh: bool) ->
     }
 }
 
-// What comes next, where the next old entry's headword is the first `n` bytes of `word`.
-fn next_turn(word: &[u8], n: usize, fresh: bool, h: &[u8]) -> Turn
-    requires { ⌜ n ≤ length (now word) ⌝ }
-    ensures { λ r. ⌜ r ≡ turn-of (below-of 0) (now (h .entry)) fresh n (now (word .entry)) ⌝ }
+// What comes next, where the next old entry's headword is the first `held` bytes of `word`.
+fn next_turn(order: usize, word: &[u8], held: usize, fresh: bool, h: &[u8]) -> Turn
+    requires { ⌜ held ≤ length (now word) ⌝ }
+    ensures { λ r. ⌜ r ≡ turn-of (below-of order) (now (h .entry)) fresh held (now (word .entry)) ⌝ }
 {
-    if n == 0 {
+    if held == 0 {
         if fresh {
             return Turn::New;
         }
         return Turn::Done;
     }
-    let c = scans::compare(0, &word[..n], h);
+    let c = scans::compare(order, &word[..held], h);
     match c {
         Comparison::Below => Turn::Old,
         Comparison::Same => Turn::Skip,
@@ -108,34 +135,38 @@ fn next_turn(word: &[u8], n: usize, fresh: bool, h: &[u8]) -> Turn
     }
 }
 
-// One entry more in a part, after one whose headword is the first `k` bytes of `last`; answers the bytes used then, or 0 where
-// the part has no room for it. Its headword is then in `last`.
+// One entry more in a part, after one whose headword is the first `held` bytes of `last`: a first one always has room, another
+// where the part then encodes in `limit` bytes. Its headword is then in `last`.
 fn append(
+    limit: usize,
     part: &mut [u8],
     used: usize,
     last: &mut [u8],
-    k: usize,
+    held: usize,
     headword: &[u8],
     body: &[u8],
-) -> usize
-    requires { ⌜ (1 ≤ length (now headword)) × (length (now headword) ≤ 248) × (length (now body) ≤ 3001) ⌝ }
-    requires { ⌜ (k ≤ 248) × (248 ≤ length (now last)) × (3328 ≤ length (now part)) × (used ≤ 3253) ⌝ }
-    ensures { λ r. ⌜ Appended used (take k (now (last .entry))) (record { headword = now (headword .entry); body = now (body .entry) }) (now (part .entry)) (now (part .exit)) (now (last .exit)) r ⌝ }
-    ensures { λ r. ⌜ (length (now (part .exit)) ≡ length (now (part .entry))) × (length (now (last .exit)) ≡ length (now (last .entry))) × (r ≤ 3253) ⌝ }
+) -> Fit
+    requires { ⌜ (1 ≤ length (now headword)) × (length (now headword) ≤ longest-headword) × (length (now body) ≤ longest-body) ⌝ }
+    requires { ⌜ (held ≤ longest-headword) × (longest-headword ≤ length (now last)) × (part-room ≤ length (now part)) × (used ≤ longest-entry) × (limit ≤ largest-limit) ⌝ }
+    ensures { λ r. ⌜ Appended limit used (take held (now (last .entry))) (record { headword = now (headword .entry); body = now (body .entry) })
+        (now (part .entry)) (now (part .exit)) (now (last .exit)) r ⌝ }
+    ensures { λ r. ⌜ (length (now (part .exit)) ≡ length (now (part .entry))) × (length (now (last .exit)) ≡ length (now (last .entry))) ⌝ }
 {
-    let n = entry_size(&last[..k], headword, body);
+    let size = entry_size(&last[..held], headword, body);
+    let whole = used + size;
     if 0 < used {
-        if 1020 < used + n {
-            return 0;
+        if limit < whole + 4 {
+            return Fit::Full;
         }
     }
-    encoder::put_entry(part, used, &last[..k], headword, body);
+    encoder::put_entry(part, used, &last[..held], headword, body);
     byteops::copy(last, 0, headword, 0, headword.len());
-    used + n
+    Fit::Used(whole)
 }
 
 // The next part: as many entries as it holds, encoded from the front of `part` on.
 pub fn encode_part(
+    form: Form,
     run: &[u8],
     start: Cursor,
     word: &mut [u8],
@@ -144,27 +175,31 @@ pub fn encode_part(
     part: &mut [u8],
 ) -> Part
     requires { ⌜ CursorOk (now run) (now word) start ⌝ }
-    requires { ⌜ (headword-ok (now h) ≡ true) × (length (now body) ≤ 3001) × (3328 ≤ length (now part)) ⌝ }
-    ensures { λ r. ⌜ now (part .exit) ≡ write 0 (entries-bytes [] (part-of 1024 0 [] (todo (now (run .entry)) (now (word .entry)) (now (h .entry)) (now (body .entry)) start))) (now (part .entry)) ⌝ }
-    ensures { λ r. ⌜ r .used ≡ length (entries-bytes [] (part-of 1024 0 [] (todo (now (run .entry)) (now (word .entry)) (now (h .entry)) (now (body .entry)) start))) ⌝ }
-    ensures { λ r. ⌜ todo (now (run .entry)) (now (word .exit)) (now (h .entry)) (now (body .entry)) (r .cursor)
-        ≡ past-part 1024 0 [] (todo (now (run .entry)) (now (word .entry)) (now (h .entry)) (now (body .entry)) start) ⌝ }
+    requires { ⌜ (headword-ok (now h) ≡ true) × (length (now body) ≤ longest-body) × (part-room ≤ length (now part)) × (form .limit ≤ largest-limit) ⌝ }
+    ensures { λ r. ⌜ now (part .exit)
+        ≡ write 0 (entries-bytes [] (part-of (form .limit) 0 [] (todo (form .order) (now (run .entry)) (now (word .entry)) (now (h .entry)) (now (body .entry)) start))) (now (part .entry)) ⌝ }
+    ensures { λ r. ⌜ r .used
+        ≡ length (entries-bytes [] (part-of (form .limit) 0 [] (todo (form .order) (now (run .entry)) (now (word .entry)) (now (h .entry)) (now (body .entry)) start))) ⌝ }
+    ensures { λ r. ⌜ todo (form .order) (now (run .entry)) (now (word .exit)) (now (h .entry)) (now (body .entry)) (r .cursor)
+        ≡ past-part (form .limit) 0 [] (todo (form .order) (now (run .entry)) (now (word .entry)) (now (h .entry)) (now (body .entry)) start) ⌝ }
     ensures { λ r. ⌜ CursorOk (now (run .entry)) (now (word .exit)) (r .cursor) ⌝ }
-    ensures { λ r. ⌜ (r .used ≤ 3253) × (length (now (part .exit)) ≡ length (now (part .entry))) × (length (now (word .exit)) ≡ length (now (word .entry))) ⌝ }
-    ensures { λ r. ⌜ Met (now (h .entry)) (ahead (now (run .entry)) (now (word .entry)) start) (r .found) (ahead (now (run .entry)) (now (word .exit)) (r .cursor)) ⌝ }
-    ensures { λ r. ⌜ (r .used ≡ 0 → ahead (now (run .entry)) (now (word .exit)) (r .cursor) ≡ []) ⌝ }
+    ensures { λ r. ⌜ (r .used ≤ longest-entry) × (length (now (part .exit)) ≡ length (now (part .entry))) × (length (now (word .exit)) ≡ length (now (word .entry))) ⌝ }
+    ensures { λ r. ⌜ Met (now (h .entry)) (ahead (form .order) (now (run .entry)) (now (word .entry)) start) (r .found) (ahead (form .order) (now (run .entry)) (now (word .exit)) (r .cursor)) ⌝ }
+    ensures { λ r. ⌜ (r .used ≡ 0 → ahead (form .order) (now (run .entry)) (now (word .exit)) (r .cursor) ≡ []) ⌝ }
 {
-    let mut last = [0u8; 256];
-    let mut k = 0;
+    let order = form.order;
+    let limit = form.limit;
+    let mut last = [0u8; WORD];
+    let mut held = 0;
     let mut used = 0;
     let mut found = false;
     let mut cur = start;
     loop {
-        let n = cur.length;
+        let length = cur.length;
         let zero = cur.zero;
         let next = cur.next;
         let fresh = cur.fresh;
-        let t = next_turn(word, n, fresh, h);
+        let t = next_turn(order, word, length, fresh, h);
         match t {
             Turn::Done => {
                 return Part {
@@ -175,68 +210,88 @@ pub fn encode_part(
             }
             Turn::Skip => {
                 found = true;
-                cur = advance(run, next, word, n, fresh);
+                cur = advance(order, run, next, word, length, fresh);
             }
             Turn::Old => {
-                let u = append(part, used, &mut last, k, &word[..n], &run[zero + 1..next]);
-                if u == 0 {
-                    return Part {
-                        used: used,
-                        found: found,
-                        cursor: cur,
-                    };
+                let fit = append(
+                    limit,
+                    part,
+                    used,
+                    &mut last,
+                    held,
+                    &word[..length],
+                    &run[zero + 1..next],
+                );
+                match fit {
+                    Fit::Full => {
+                        return Part {
+                            used: used,
+                            found: found,
+                            cursor: cur,
+                        };
+                    }
+                    Fit::Used(whole) => {
+                        used = whole;
+                        held = length;
+                        cur = advance(order, run, next, word, length, fresh);
+                    }
                 }
-                used = u;
-                k = n;
-                cur = advance(run, next, word, n, fresh);
             }
             Turn::New => {
-                let u = append(part, used, &mut last, k, h, body);
-                if u == 0 {
-                    return Part {
-                        used: used,
-                        found: found,
-                        cursor: cur,
-                    };
+                let fit = append(limit, part, used, &mut last, held, h, body);
+                match fit {
+                    Fit::Full => {
+                        return Part {
+                            used: used,
+                            found: found,
+                            cursor: cur,
+                        };
+                    }
+                    Fit::Used(whole) => {
+                        used = whole;
+                        held = h.len();
+                        cur = Cursor {
+                            length: length,
+                            zero: zero,
+                            next: next,
+                            fresh: false,
+                        };
+                    }
                 }
-                used = u;
-                k = h.len();
-                cur = Cursor {
-                    length: n,
-                    zero: zero,
-                    next: next,
-                    fresh: false,
-                };
             }
         }
     }
 }
 
-// Where the headword of a part's first entry ends, which starts at 3.
-pub fn head_end(part: &[u8], used: usize) -> usize
+// How many bytes the headword of a part's first entry has, which starts at 3.
+pub fn head_length(part: &[u8], used: usize) -> usize
     requires { ⌜ (3 ≤ used) × (used ≤ length (now part)) ⌝ }
-    ensures { λ r. ⌜ (3 ≤ r) × (r ≤ used) ⌝ }
-    ensures { λ r. ⌜ ((e : Entry) (es : List Entry) → take used (now (part .entry)) ≡ entries-bytes [] (e ∷ es) → no-zero (e .headword) ≡ true → r ≡ 3 + length (e .headword)) ⌝ }
+    ensures { λ r. ⌜ 3 + r ≤ used ⌝ }
+    ensures { λ r. ⌜ ((e : Entry) (es : List Entry) → take used (now (part .entry)) ≡ entries-bytes [] (e ∷ es) → no-zero (e .headword) ≡ true → r ≡ length (e .headword)) ⌝ }
 {
-    scans::first_zero(part, 3, used)
+    scans::first_zero(part, 3, used) - 3
 }
 
 // All parts of a changed run, measured.
-pub fn measure(run: &[u8], h: &[u8], body: &[u8], fresh: bool) -> Sizes
-    requires { ⌜ (headword-ok (now h) ≡ true) × (length (now body) ≤ 3001) × (length (now run) ≤ 8388608) ⌝ }
-    ensures { λ r. ⌜ Measured (map new-run (cut 1024 (changed-entries (now (run .entry)) (now (h .entry)) (now (body .entry)) fresh))) (r .parts) (r .bytes) (r .blocks) ⌝ }
-    ensures { λ r. ⌜ (r .parts ≤ 8388609) × (r .bytes ≤ 2105540859) × (r .blocks ≤ 109051917) ⌝ }
-    ensures { λ r. ⌜ r .found ≡ is-there (lookup (now (h .entry)) (entries-left (below-of 0) [] (now (run .entry)))) ⌝ }
+pub fn measure(edit: Edit, run: &[u8], h: &[u8], body: &[u8]) -> Sizes
+    requires { ⌜ (headword-ok (now h) ≡ true) × (length (now body) ≤ longest-body) × (length (now run) ≤ 8388608) ⌝ }
+    requires { ⌜ Width (edit .form .width) × (edit .form .limit ≤ largest-limit) ⌝ }
+    ensures { λ r. ⌜ Measured (edit .form .width)
+        (map new-run (cut (edit .form .limit) (changed-entries (edit .form .order) (now (run .entry)) (now (h .entry)) (now (body .entry)) (edit .fresh)))) (r .parts) (r .bytes) (r .blocks) ⌝ }
+    ensures { λ r. ⌜ (r .parts ≤ 8388609) × (r .bytes ≤ 2122318077) × (r .blocks ≤ 109051917) ⌝ }
+    ensures { λ r. ⌜ r .found ≡ is-there (lookup (now (h .entry)) (entries-left (below-of (edit .form .order)) [] (now (run .entry)))) ⌝ }
 {
-    let mut word = [0u8; 256];
-    let mut part = [0u8; 3328];
-    let mut cur = advance(run, 0, &mut word, 0, fresh);
+    let form = edit.form;
+    let fresh = edit.fresh;
+    let mut word = [0u8; WORD];
+    let mut part = [0u8; PART];
+    let mut cur = advance(form.order, run, 0, &mut word, 0, fresh);
     let mut parts = 0;
     let mut bytes = 0;
     let mut blocks = 0;
     let mut found = false;
     loop {
-        let p = encode_part(run, cur, &mut word, h, body, &mut part);
+        let p = encode_part(form, run, cur, &mut word, h, body, &mut part);
         found = found | p.found;
         if p.used == 0 {
             return Sizes {
@@ -246,8 +301,9 @@ pub fn measure(run: &[u8], h: &[u8], body: &[u8], fresh: bool) -> Sizes
                 found: found,
             };
         }
+        let long = form.width + 1 + head_length(&part, p.used);
         parts += 1;
-        bytes += head_end(&part, p.used);
+        bytes += long;
         blocks += encoder::run_blocks(p.used);
         cur = p.cursor;
     }

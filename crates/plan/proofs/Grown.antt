@@ -12,7 +12,7 @@ use lib.Seq.{length-take-le}
 use lib.Dec.{eqb}
 use borrow.Author.Tests.{eq-eqb}
 use Rattle.spec.specs.Lists.{any, All}
-use Rattle.spec.specs.Bytes.{from-little-endian, bytes-at, write}
+use Rattle.spec.specs.Bytes.{bytes-at, write}
 use Rattle.spec.specs.Run.{Run}
 use Rattle.spec.specs.Blocks.{covers, is-free}
 use Rattle.spec.specs.Place.{Placed, Move, Grown, at-block, place, in-number-order, touches, moves, new-number, renumbered, grown, element-of, runs-written}
@@ -28,8 +28,11 @@ use Rattle.placing.specs.Spread.{Spread, spread, Marked}
 use Rattle.placing.proofs.SpreadLaws.{SpreadIs, free-perm, spread-place, spread-over}
 use Rattle.elements.specs.Renewed.{number-after, renewed}
 use Rattle.elements.proofs.Laws.{number-moved, number-kept, renewed-none-all}
+use Rattle.runs.specs.Size.{size-told}
+use Rattle.runs.specs.declared.Size.{Size}
+use Rattle.runs.proofs.SizeLaws.{blocks-told}
 use Rattle.moves.specs.Moved.{noted, starts, size-at, freed, tabled, moved-written}
-use Rattle.moves.proofs.Laws.{noted-append}
+use Rattle.moves.proofs.Laws.{noted-append, size-by}
 use Rattle.moves.proofs.Order.{not-among, starts-ascending, length-noted, noted-moving, get-tabled-moves, number-stays, places-some, tabled-own-starts, touches-above}
 use Rattle.plan.specs.Written.{runs-put}
 use Rattle.plan.proofs.RunsWritten.{runs-perm, runs-joined, runs-still, put-written}
@@ -125,10 +128,9 @@ marked-from : (g D : ℕ) (ms : List Bool) (rs : List Run) → Marked 0 0 D ms r
 marked-from g D ms rs m = record { inside = λ x p q. m .inside x (omega arith) (omega arith); beyond = λ x p. m .beyond x (omega arith) }
 
 -- ---- runs copied
--- the run at block b by its count
-size-is : (area : List ℕ) (D : ℕ) (r : Run) → 1 ≤ r .size → r .block + r .size ≤ D → from-little-endian (bytes-at (256 * r .block) 2 area) ≡ r .size → size-at area D (r .block) ≡ r .size
-unfolding size-at
-size-is area D r s i c = omega arith
+-- the area tells the size of a run
+abbrev pub Told : List ℕ → ℕ → Run → Type 0
+Told area D r = Size.Blocks (r .size) ≡ size-told D area (r .block)
 
 -- what a table of new places must say of a run that is copied
 abbrev Copied : List ℕ → ℕ → List ℕ → List Move → Run → Type 0
@@ -227,7 +229,7 @@ module _ (area : List ℕ) (D g k : ℕ) (before after : List Run) (ms₀ : List
       (laid : Laid D rs)
       (sized : All Sized rs)
       (stands : Stands area rs)
-      (counts : All (λ r. from-little-endian (bytes-at (256 * r .block) 2 area) ≡ r .size) rs)
+      (told : All (Told area D) rs)
       (marked₀ : Marked 0 0 D ms₀ rs)
       (wide : D ≤ length ms₀) where
     -- the moving and the staying runs lie apart
@@ -247,18 +249,15 @@ module _ (area : List ℕ) (D g k : ℕ) (before after : List Run) (ms₀ : List
     starts-ascend : Ascending 0 g (map (λ r. r .block) mv)
     starts-ascend = subst (λ (n : ℕ). Ascending 0 n (map (λ r. r .block) mv)) (zero-add g) (subst (Ascending 0 (0 + g)) starts-are (starts-ascending T₀ 0 g))
 
-    -- the area tells the size of each run
-    sizes-are : All (λ r. size-at area D (r .block) ≡ r .size) rs
-    sizes-are =
-        all-both Sized _ _ (λ r s p. size-is area D r (s .0) (p .0) (p .1)) rs sized
-        (all-both _ _ (λ r. (r .block + r .size ≤ D) × (from-little-endian (bytes-at (256 * r .block) 2 area) ≡ r .size)) (λ r p q. (p, q)) rs
-        (laid-inside D rs laid) counts)
+    -- the area tells the size of each run that moves
+    moving-told : All (Told area D) mv
+    moving-told = all-front _ mv st (all-perm _ (Permᴰ·symm (parted g D rs)) told)
 
-    -- of those that move
+    -- so code has it
     moving-sizes : All (λ r. size-at area D (r .block) ≡ r .size) mv
-    moving-sizes = all-front _ mv st (all-perm _ (Permᴰ·symm (parted g D rs)) sizes-are)
+    moving-sizes = all-map (Told area D) _ (λ r e. sym (size-by area D (r .block) (r .size) _ e refl)) mv moving-told
 
-    -- so code has their sizes
+    -- in order
     sizes : map (size-at area D) (starts 0 g T₀) ≡ map (λ r. r .size) mv
     sizes = ap (map (size-at area D)) starts-are ∙ sizes-same area D mv moving-sizes
 
@@ -274,11 +273,11 @@ module _ (area : List ℕ) (D g k : ℕ) (before after : List Run) (ms₀ : List
     sp-is = ap (spread g (max D g) ms₁) sizes ∙ ap₂ (λ (a b : ℕ). spread a b ms₁ (map (λ r. r .size) mv)) (sym (zero-add g)) (sym (zero-add (max D g)))
 
     -- where placing on the marks passes a limit, so do the blocks of the specification
-    over : (limit : ℕ) → max D g ≤ limit → limit + 65_536 ≤ length ms₀ → D ≤ 65_536 → limit < sp .end → limit < g + m .data-blocks
+    over : (limit : ℕ) → max D g ≤ limit → limit + 32_767 ≤ length ms₀ → limit < sp .end → limit < g + m .data-blocks
     unfolding grown-place
-    over limit p l few h =
-        let q = spread-over 0 g (max D g) limit 65_536 ms₁ st mv (omega arith) (omega arith) (omega (arith, marks-freed .1))
-        (all-both Sized _ _ (λ r s i. (s .0, omega arith)) mv (all-front Sized mv st parts-sized) (all-front _ mv st (laid-inside D (mv ++ st) parts-laid)))
+    over limit p l h =
+        let q = spread-over 0 g (max D g) limit 32_767 ms₁ st mv (omega arith) (omega arith) (omega (arith, marks-freed .1))
+        (all-map (Told area D) _ (λ r e. let t = blocks-told D area (r .block) _ e (r .size) refl in (t .2, t .3)) mv moving-told)
         (marked-from g D ms₁ st (marks-freed .0)) (subst (λ (x : Spread). limit < x .end) sp-is h) in
         omega (arith, q, blocks-are)
 
@@ -462,7 +461,7 @@ module _ (area : List ℕ) (D g k : ℕ) (before after : List Run) (ms₀ : List
 
 -- the same of the values that code has
 pub index-grown : (area : List ℕ) (D g k : ℕ) (before after : List Run) (ms₀ : List Bool) → 1 ≤ g → g ≤ k → Laid D (before ++ after) → All Sized (before ++ after) → Stands area (before ++ after)
-    → All (λ r. from-little-endian (bytes-at (256 * r .block) 2 area) ≡ r .size) (before ++ after) → Marked 0 0 D ms₀ (before ++ after)
+    → All (Told area D) (before ++ after) → Marked 0 0 D ms₀ (before ++ after)
     → (T₀ T : List ℕ) (ms₁ free : List Bool) (end : ℕ)
     → T₀ ≡ noted g (map (λ r. r .block) (before ++ after)) (replicate k 0)
     → ms₁ ≡ freed area D (starts 0 g T₀) ms₀
@@ -470,18 +469,18 @@ pub index-grown : (area : List ℕ) (D g k : ℕ) (before after : List Run) (ms�
     → free ≡ spread g (max D g) ms₁ (map (size-at area D) (starts 0 g T₀)) .free
     → T ≡ tabled (starts 0 g T₀) (spread g (max D g) ms₁ (map (size-at area D) (starts 0 g T₀)) .places) T₀
     → D ≤ length ms₀ → end ≤ length ms₀ → Growing area D g before after (length ms₀) T end free
-index-grown area D g k before after ms₀ some room laid sized stands counts marked₀ T₀ T ms₁ free end e₁ e₂ e₃ e₄ e₅ wide fits =
-    rw (e₅, e₄, e₃, e₂, e₁) (values-grown area D g k before after ms₀ some room laid sized stands counts marked₀ wide (rw (e₃, e₂, e₁) at fits))
+index-grown area D g k before after ms₀ some room laid sized stands told marked₀ T₀ T ms₁ free end e₁ e₂ e₃ e₄ e₅ wide fits =
+    rw (e₅, e₄, e₃, e₂, e₁) (values-grown area D g k before after ms₀ some room laid sized stands told marked₀ wide (rw (e₃, e₂, e₁) at fits))
 
 -- the same where there are too many blocks
 pub index-over : (area : List ℕ) (D g k : ℕ) (before after : List Run) (ms₀ : List Bool) → 1 ≤ g → g ≤ k → Laid D (before ++ after) → All Sized (before ++ after) → Stands area (before ++ after)
-    → All (λ r. from-little-endian (bytes-at (256 * r .block) 2 area) ≡ r .size) (before ++ after) → Marked 0 0 D ms₀ (before ++ after)
+    → All (Told area D) (before ++ after) → Marked 0 0 D ms₀ (before ++ after)
     → (T₀ : List ℕ) (ms₁ : List Bool) (limit : ℕ)
     → T₀ ≡ noted g (map (λ r. r .block) (before ++ after)) (replicate k 0)
     → ms₁ ≡ freed area D (starts 0 g T₀) ms₀
-    → max D g ≤ limit → limit + 65_536 ≤ length ms₀ → D ≤ 65_536 → limit < spread g (max D g) ms₁ (map (size-at area D) (starts 0 g T₀)) .end → limit < g + grown g D before after .data-blocks
-index-over area D g k before after ms₀ some room laid sized stands counts marked₀ T₀ ms₁ limit e₁ e₂ p l few h =
-    over area D g k before after ms₀ some room laid sized stands counts marked₀ (omega arith) limit p l few (rw (e₂, e₁) at h)
+    → max D g ≤ limit → limit + 32_767 ≤ length ms₀ → limit < spread g (max D g) ms₁ (map (size-at area D) (starts 0 g T₀)) .end → limit < g + grown g D before after .data-blocks
+index-over area D g k before after ms₀ some room laid sized stands told marked₀ T₀ ms₁ limit e₁ e₂ p l h =
+    over area D g k before after ms₀ some room laid sized stands told marked₀ (omega arith) limit p l (rw (e₂, e₁) at h)
 
 -- the blocks of the elements are those of the runs
 element-blocks : (rs : List Run) → map (λ e. e .block) (map element-of rs) ≡ map (λ r. r .block) rs

@@ -1,5 +1,5 @@
 -- What the returns of look up and walk in an accepted image show, in the terms of the code.
-use Prim.Native.Nat.{ℕ, _+_, _-_, _<_, _≤_}
+use Prim.Native.Nat.{ℕ, _+_, _-_, _*_, _%_, _<_, _≤_}
 use mathlib.Core.Path.{_≡_, sym, ap, _∙_}
 use mathlib.Core.Bool.{Bool, true, false, not}
 use mathlib.Core.List.{List}
@@ -14,8 +14,7 @@ use Rattle.spec.specs.Outcome.{ok}
 use Rattle.spec.specs.Bytes as BytesSpec
 use Rattle.spec.specs.Bytes.{write, bytes-at, no-zero, bytes-equal}
 use Rattle.spec.specs.Order.{below-of}
-use Rattle.spec.specs.Header as Header
-use Rattle.spec.specs.Header.{layout4, get}
+use Rattle.spec.specs.Header.{get}
 use Rattle.spec.specs.Entry.{Entry, headword-ok, text}
 use Rattle.spec.specs.Run.{Run}
 use Rattle.spec.specs.Check as Check
@@ -27,7 +26,6 @@ use Rattle.spec.specs.Answers as Answers
 use Rattle.spec.specs.Answers.{look-up-answer, walk-answer}
 use Rattle.spec.specs.declared.LookUpAnswer.{LookUpAnswer}
 use Rattle.spec.specs.declared.WalkAnswer.{WalkAnswer}
-use Rattle.spec.proofs.OutcomeLaws.{same-value}
 use Rattle.spec.proofs.PartLaws.{length-bytes-at}
 use Rattle.spec.proofs.SearchLaws.{exactly}
 use Rattle.index.specs.Elements.{elements-at}
@@ -35,9 +33,10 @@ use Rattle.runs.proofs.Laws.{attribute-in, text-in}
 use Rattle.seek.specs.Spot as SpotSpec
 use Rattle.seek.specs.Spot.{spot-entry}
 use Rattle.seek.specs.declared.Spot.{Spot}
-use Rattle.inspect.specs.Overview.{AcceptedImage, index-part, data-part}
-use Rattle.inspect.proofs.Accepted.{accepted-frame, accepted-sought, accepted-lookup}
-use Rattle.header.specs.Framed.{frame4}
+use Rattle.header.specs.Form.{layout-named, index-part, data-part}
+use Rattle.inspect.specs.Overview.{AcceptedImage}
+use Rattle.inspect.specs.declared.Overview.{Overview}
+use Rattle.inspect.proofs.Accepted.{accepted-area, accepted-sought, accepted-lookup}
 
 -- the entry whose body stands in the data area
 abbrev pub entry-in : List ℕ → ℕ → ℕ → List ℕ → Entry
@@ -63,20 +62,21 @@ module _ (area : List ℕ) (z e : ℕ) (p : z + 2 ≤ e) (q : e ≤ length area)
       let k : ltb (length out) (length (text (entry-in area z e h))) ≡ false = le-ltb (length out) (length (text (entry-in area z e h))) (rw (text-length h) l) in
       rw (k, attribute-in area h z e p q, text-length h, text-in area h z e p q, w)
 
-module _ (s h out : List ℕ) (n d : ℕ) (a : AcceptedImage s n d) (t : Bool) (rule : t ≡ headword-ok h) where
+module _ (s h out : List ℕ) (v : Overview) (a : AcceptedImage s v) (whole : length s % 256 ≡ 0) (t : Bool) (rule : t ≡ headword-ok h) where
   -- row 12
   pub look-up-twelve : not t ≡ true → (i : Image) → image-from s ≡ ok i → record { answer = look-up-answer (LookUpAnswer.Refused 12); text = out } ≡ look-up-result out (look-up-in i h out)
   unfolding Calls.look-up-result Answers.look-up-answer Calls.look-up-in
   look-up-twelve q i o = rw (← rule, q)
 
-  module _ (q : not t ≡ false) (e : ℕ) (number : e ≡ get (layout4 .nindex2) s) (word : List ℕ) (p : Spot)
-      (sought : (rs : List Run) → runs-from (below-of 0) d (data-part s n) (elements-at (index-part s n) 0 e) ≡ ok rs
-      → spot-entry (data-part s n) word p ≡ successor (below-of 0) false h (all-entries rs))
+  module _ (q : not t ≡ false) (e : ℕ) (number : e ≡ get (layout-named s .nindex2) s) (word : List ℕ) (p : Spot)
+      (sought : (D : ℕ) → 256 * D ≡ length (data-part (v .form) s (v .n)) → (rs : List Run)
+      → runs-from (below-of (v .form .order)) D (data-part (v .form) s (v .n)) (elements-at (v .form .width) (index-part (v .form) s (v .n)) 0 e) ≡ ok rs
+      → spot-entry (data-part (v .form) s (v .n)) word p ≡ successor (below-of (v .form .order)) false h (all-entries rs))
       (i : Image) (o : image-from s ≡ ok i) where
-    found : lookup h (entries-of i) ≡ exactly h (spot-entry (data-part s n) word p)
-    found = accepted-lookup s n d a e number (spot-entry (data-part s n) word p) h sought i o
+    found : lookup h (entries-of i) ≡ exactly h (spot-entry (data-part (v .form) s (v .n)) word p)
+    found = accepted-lookup s v a e number (spot-entry (data-part (v .form) s (v .n)) word p) h (sought (v .d) (accepted-area s v a whole)) i o
 
-    opened : look-up-in i h out ≡ text-fitted out (exactly h (spot-entry (data-part s n) word p))
+    opened : look-up-in i h out ≡ text-fitted out (exactly h (spot-entry (data-part (v .form) s (v .n)) word p))
     unfolding Calls.look-up-in
     opened = rw (← rule, q, found)
 
@@ -86,7 +86,7 @@ module _ (s h out : List ℕ) (n d : ℕ) (a : AcceptedImage s n d) (t : Bool) (
     look-up-none x = sym (rw (opened, x))
 
     module _ (k z x : ℕ) (y : p ≡ Spot.At k z x) (b : Bool) (same : b ≡ bytes-equal (take k word) h) where
-      spot : exactly h (spot-entry (data-part s n) word p) ≡ elim b [ true ↦ some (entry-in (data-part s n) z x (take k word)) | false ↦ none ]
+      spot : exactly h (spot-entry (data-part (v .form) s (v .n)) word p) ≡ elim b [ true ↦ some (entry-in (data-part (v .form) s (v .n)) z x (take k word)) | false ↦ none ]
       unfolding SpotSpec.spot-entry
       spot = rw (y, same)
 
@@ -94,21 +94,22 @@ module _ (s h out : List ℕ) (n d : ℕ) (a : AcceptedImage s n d) (t : Bool) (
       pub look-up-other : b ≡ false → record { answer = look-up-answer LookUpAnswer.Absent; text = out } ≡ look-up-result out (look-up-in i h out)
       unfolding Calls.look-up-result Answers.look-up-answer Calls.text-fitted
       look-up-other f =
-          let g : exactly h (spot-entry (data-part s n) word p) ≡ none = spot ∙ rw f in
+          let g : exactly h (spot-entry (data-part (v .form) s (v .n)) word p) ≡ none = spot ∙ rw f in
           ap (look-up-result out) (sym (opened ∙ ap (text-fitted out) g))
 
       -- it is the entry
       pub look-up-same : b ≡ true → (r : LookUpAnswer) (out′ : List ℕ)
-          → ((g : List ℕ) → record { answer = look-up-answer r; text = out′ } ≡ look-up-result out (text-fitted out (some (entry-in (data-part s n) z x g))))
+          → ((g : List ℕ) → record { answer = look-up-answer r; text = out′ } ≡ look-up-result out (text-fitted out (some (entry-in (data-part (v .form) s (v .n)) z x g))))
           → record { answer = look-up-answer r; text = out′ } ≡ look-up-result out (look-up-in i h out)
       look-up-same f r out′ g =
-          let v : exactly h (spot-entry (data-part s n) word p) ≡ some (entry-in (data-part s n) z x (take k word)) = spot ∙ rw f in
-          g (take k word) ∙ ap (look-up-result out) (sym (opened ∙ ap (text-fitted out) v))
+          let y′ : exactly h (spot-entry (data-part (v .form) s (v .n)) word p) ≡ some (entry-in (data-part (v .form) s (v .n)) z x (take k word)) = spot ∙ rw f in
+          g (take k word) ∙ ap (look-up-result out) (sym (opened ∙ ap (text-fitted out) y′))
 
   -- no entry is there
-  pub look-up-absent : not t ≡ false → (e : ℕ) → e ≡ get (layout4 .nindex2) s → (word : List ℕ) (p : Spot)
-      → ((rs : List Run) → runs-from (below-of 0) d (data-part s n) (elements-at (index-part s n) 0 e) ≡ ok rs
-      → spot-entry (data-part s n) word p ≡ successor (below-of 0) false h (all-entries rs)) → p ≡ Spot.Absent
+  pub look-up-absent : not t ≡ false → (e : ℕ) → e ≡ get (layout-named s .nindex2) s → (word : List ℕ) (p : Spot)
+      → ((D : ℕ) → 256 * D ≡ length (data-part (v .form) s (v .n)) → (rs : List Run)
+      → runs-from (below-of (v .form .order)) D (data-part (v .form) s (v .n)) (elements-at (v .form .width) (index-part (v .form) s (v .n)) 0 e) ≡ ok rs
+      → spot-entry (data-part (v .form) s (v .n)) word p ≡ successor (below-of (v .form .order)) false h (all-entries rs)) → p ≡ Spot.Absent
       → (i : Image) → image-from s ≡ ok i → record { answer = look-up-answer LookUpAnswer.Absent; text = out } ≡ look-up-result out (look-up-in i h out)
   look-up-absent q e number word p sought x i o = look-up-none q e number word p sought i o x
 
@@ -152,23 +153,23 @@ module _ (area : List ℕ) (z e : ℕ) (p : z + 2 ≤ e) (q : e ≤ length area)
         let v : out′ ≡ write 0 h out = rw (take-length h) at u in
         rw (headword-fits, k, attribute-in area h z e p q, text-length area z e p q out h, text-in area h z e p q, v, w)
 
-module _ (s h out text-out : List ℕ) (n d : ℕ) (a : AcceptedImage s n d) (above t : Bool) (rule : t ≡ start-ok h) where
+module _ (s h out text-out : List ℕ) (v : Overview) (a : AcceptedImage s v) (whole : length s % 256 ≡ 0) (above t : Bool) (rule : t ≡ start-ok h) where
   -- row 12
   pub walk-twelve : not t ≡ true → (i : Image) → image-from s ≡ ok i
       → record { answer = walk-answer (WalkAnswer.Refused 12); headword = out; text = text-out } ≡ walk-result out text-out (walk-in i above h out text-out)
   unfolding Calls.walk-result Answers.walk-answer Calls.walk-in
   walk-twelve q i o = rw (← rule, q)
 
-  module _ (q : not t ≡ false) (e : ℕ) (number : e ≡ get (layout4 .nindex2) s) (word : List ℕ) (p : Spot)
-      (sought : (rs : List Run) → runs-from (below-of 0) d (data-part s n) (elements-at (index-part s n) 0 e) ≡ ok rs
-      → spot-entry (data-part s n) word p ≡ successor (below-of 0) above h (all-entries rs)) where
-    walked : (i : Image) → image-from s ≡ ok i → walk-in i above h out text-out ≡ entry-fitted out text-out (spot-entry (data-part s n) word p)
-    unfolding Check.entries-of Header.format4 Calls.walk-in
+  module _ (q : not t ≡ false) (e : ℕ) (number : e ≡ get (layout-named s .nindex2) s) (word : List ℕ) (p : Spot)
+      (sought : (D : ℕ) → 256 * D ≡ length (data-part (v .form) s (v .n)) → (rs : List Run)
+      → runs-from (below-of (v .form .order)) D (data-part (v .form) s (v .n)) (elements-at (v .form .width) (index-part (v .form) s (v .n)) 0 e) ≡ ok rs
+      → spot-entry (data-part (v .form) s (v .n)) word p ≡ successor (below-of (v .form .order)) above h (all-entries rs)) where
+    walked : (i : Image) → image-from s ≡ ok i → walk-in i above h out text-out ≡ entry-fitted out text-out (spot-entry (data-part (v .form) s (v .n)) word p)
+    unfolding Check.entries-of Calls.walk-in
     walked i o =
-        let j : a .image ≡ i = same-value (a .image) i (sym (a .is) ∙ o) in
-        let f : i .frame ≡ frame4 n d = ap (λ (x : Image). x .frame) (sym j) ∙ accepted-frame s n d a in
-        let x : spot-entry (data-part s n) word p ≡ successor (below-of 0) above h (entries-of i) = accepted-sought s n d a e number (spot-entry (data-part s n) word p) above h sought i o in
-        rw (← rule, q, f, ← x)
+        let x : spot-entry (data-part (v .form) s (v .n)) word p ≡ successor (i .frame .format .below) above h (entries-of i)
+        = accepted-sought s v a e number (spot-entry (data-part (v .form) s (v .n)) word p) above h (sought (v .d) (accepted-area s v a whole)) i o in
+        rw (← rule, q, ← x)
 
     -- past the last
     pub walk-absent : p ≡ Spot.Absent → (i : Image) → image-from s ≡ ok i
@@ -178,7 +179,7 @@ module _ (s h out text-out : List ℕ) (n d : ℕ) (a : AcceptedImage s n d) (ab
 
     -- the entry found
     pub walk-found : (k z x : ℕ) → p ≡ Spot.At k z x → (r : WalkAnswer) (out′ text′ : List ℕ)
-        → record { answer = walk-answer r; headword = out′; text = text′ } ≡ walk-result out text-out (entry-fitted out text-out (some (entry-in (data-part s n) z x (take k word))))
+        → record { answer = walk-answer r; headword = out′; text = text′ } ≡ walk-result out text-out (entry-fitted out text-out (some (entry-in (data-part (v .form) s (v .n)) z x (take k word))))
         → (i : Image) → image-from s ≡ ok i → record { answer = walk-answer r; headword = out′; text = text′ } ≡ walk-result out text-out (walk-in i above h out text-out)
     unfolding SpotSpec.spot-entry
     walk-found k z x y r out′ text′ g i o = g ∙ ap (walk-result out text-out) (sym (walked i o ∙ rw y))

@@ -1,5 +1,5 @@
 -- What the returns of the reading calls show, in the terms of the code.
-use Prim.Native.Nat.{ℕ, _+_, _-_, _*_, _%_, _≤_}
+use Prim.Native.Nat.{ℕ, _-_, _%_, _≤_}
 use mathlib.Core.Path.{_≡_, sym, ap, _∙_}
 use mathlib.Core.Bool.{Bool, true, false, not}
 use mathlib.Core.List.{List}
@@ -18,10 +18,12 @@ use Rattle.spec.specs.declared.CheckAnswer.{CheckAnswer}
 use Rattle.spec.specs.declared.LookUpAnswer.{LookUpAnswer}
 use Rattle.spec.specs.declared.WalkAnswer.{WalkAnswer}
 use Rattle.header.proofs.Laws.{slice-refused, slice-accepted, slice-has-header, slice-in-blocks, slice-holds}
-use Rattle.inspect.specs.Overview.{overview, viewed}
-use Rattle.inspect.proofs.Accepted.{accepted-index, is-accepted, front-header}
+use Rattle.header.specs.Form.{area-start}
+use Rattle.inspect.specs.Overview.{AcceptedImage, Told}
+use Rattle.inspect.specs.declared.Overview.{Overview}
+use Rattle.inspect.proofs.Accepted.{accepted-index, front-header}
 use Rattle.inspect.specs.declared.Inspected.{Inspected}
-use Rattle.inspect.proofs.Laws.{SoundImage, overview-refused, overview-sound, sound-figures}
+use Rattle.inspect.proofs.Laws.{is-refused, is-accepted, is-marked, sound-figures}
 
 module _ (s : List ℕ) (len : ℕ) (t : Bool) (slice : t ≡ accepted (slice-ok s len)) where
   -- row 1
@@ -56,10 +58,10 @@ module _ (s : List ℕ) (len : ℕ) (t : Bool) (slice : t ≡ accepted (slice-ok
     pub slice-blocks : length (take len s) % 256 ≡ 0
     slice-blocks = rw (← slice-front) (slice-in-blocks s len (sym slice ∙ not-false t q))
 
-    module _ (k : ℕ) (ms : List Bool) (r : Inspected) (seen : overview r ms ≡ viewed k (image-from (take len s))) where
+    module _ (ms : List Bool) (r : Inspected) (told : Told (take len s) ms r) where
       -- rows 3 to 10
       image-refused : (j : ℕ) → r ≡ Inspected.Refused j → image-in s len ≡ refused j
-      image-refused j h = sliced ∙ overview-refused k ms (image-from (take len s)) r seen j h
+      image-refused j h = sliced ∙ is-refused (take len s) ms r told j h
 
       pub check-refused : (j : ℕ) → r ≡ Inspected.Refused j → check-answer (CheckAnswer.Refused j) ≡ check s len
       unfolding Calls.check Answers.check-answer
@@ -76,23 +78,21 @@ module _ (s : List ℕ) (len : ℕ) (t : Bool) (slice : t ≡ accepted (slice-ok
       unfolding Calls.walk Calls.walk-entry Calls.walk-result Answers.walk-answer
       walk-refused j e above h out text = sym (rw (image-refused j e))
 
-      module _ (w n d x : ℕ) (h : r ≡ Inspected.Sound w n d x) where
-        sound : SoundImage k ms (image-from (take len s)) w n d
-        sound = overview-sound k ms (image-from (take len s)) r seen w n d x h
-
-        -- the four numbers
-        pub check-counted : (c : ℕ) → c ≡ count-marks ms → check-answer (CheckAnswer.Counted w n d c) ≡ check s len
-        unfolding Calls.check Answers.check-answer
-        check-counted c e =
-            let o : image-in s len ≡ ok (sound .image) = sliced ∙ sound .is in
-            sym (rw o (ap ok (sound-figures k ms (image-from (take len s)) w n d sound c e)))
-
-        -- the data area starts inside the image
-        pub accepted-start : 256 + 256 * n ≤ length (take len s)
-        accepted-start = accepted-index (take len s) n d (is-accepted (take len s) k ms r seen w n d x h)
+      module _ (v : Overview) (h : r ≡ Inspected.Sound v) where
+        sound : AcceptedImage (take len s) v
+        sound = is-accepted (take len s) ms r told v h
 
         image-ok : image-in s len ≡ ok (sound .image)
         image-ok = sliced ∙ sound .is
+
+        -- the four numbers
+        pub check-counted : (c : ℕ) → c ≡ count-marks ms → check-answer (CheckAnswer.Counted (v .words) (v .n) (v .d) c) ≡ check s len
+        unfolding Calls.check Answers.check-answer
+        check-counted c e = sym (rw image-ok (ap ok (sound-figures (take len s) ms v sound (is-marked (take len s) ms r told v h) c e)))
+
+        -- the data area starts inside the image
+        pub accepted-start : area-start (v .form) (v .n) ≤ length (take len s)
+        accepted-start = accepted-index (take len s) v sound
 
         -- a look up by the answer in the image
         pub look-up-answered : (g out : List ℕ) (x : LookUpAnswer) (out′ : List ℕ)

@@ -2,15 +2,21 @@
 ghost use mathlib.Core.Path.{_≡_};
 ghost use mathlib.Core.List.{List};
 ghost use mathlib.Core.Option.{some};
-ghost use Prim.Native.Nat.{ℕ, _+_, _-_, _*_, _%_, _≤_};
+ghost use Prim.Native.Nat.{ℕ, _+_, _-_, _%_, _≤_};
 ghost use lib.ListN.{length};
 ghost use Rattle.spec.specs.Outcome.{ok};
 ghost use Rattle.spec.specs.Bytes.{bytes-at};
 ghost use Rattle.spec.specs.Check.{Image, image-from};
 ghost use Rattle.spec.specs.Calls.{check, text-fitted, look-up-in, look-up-result, look-up, entry-fitted, start-ok, walk-in, walk-result, walk};
 ghost use Rattle.spec.specs.Answers.{check-answer, look-up-answer, walk-answer};
+ghost use Rattle.header.specs.Form.{area-start};
 ghost use Rattle.inspect.specs.Overview.{AcceptedImage};
+use byteops::LONGEST_HEADWORD;
+use header::HEADER;
 use inspect::Inspected;
+use inspect::MARK_WORDS;
+use inspect::Overview;
+use runs::WORD;
 use seek::Spot;
 use spec::CheckAnswer;
 use spec::LookUpAnswer;
@@ -23,16 +29,11 @@ pub fn check(s: &[u8], len: usize) -> CheckAnswer
     if !header::slice_ok(s, len) {
         return CheckAnswer::Refused(1);
     }
-    let mut free = [0u64; 1024];
+    let mut free = [0u64; MARK_WORDS];
     let r = inspect::inspect(&s[..len], &mut free);
     match r {
         Inspected::Refused(k) => CheckAnswer::Refused(k),
-        Inspected::Sound {
-            words,
-            index,
-            area,
-            end: _,
-        } => CheckAnswer::Counted(words, index, area, marks::count(&free)),
+        Inspected::Sound(v) => CheckAnswer::Counted(v.words, v.n, v.d, marks::count(&free)),
     }
 }
 
@@ -45,18 +46,18 @@ fn give_text(area: &[u8], zero: usize, next: usize, text: &mut [u8]) -> LookUpAn
         (text-fitted (now (text .entry)) (some (record { headword = h; body = bytes-at (zero + 1) (next - (zero + 1)) (now (area .entry)) })))) ⌝ }
 {
     let from = zero + 2;
-    let n = next - from;
-    if text.len() < n {
+    let long = next - from;
+    if text.len() < long {
         return LookUpAnswer::Refused(14);
     }
-    byteops::copy(text, 0, area, from, n);
-    LookUpAnswer::Found(area[zero + 1], n)
+    byteops::copy(text, 0, area, from, long);
+    LookUpAnswer::Found(area[zero + 1], long)
 }
 
-// Look up in an accepted image of n index blocks and d data blocks: rows 12 and 14, and the answer.
-fn look_up_in(image: &[u8], n: usize, d: usize, headword: &[u8], text: &mut [u8]) -> LookUpAnswer
-    requires { ⌜ AcceptedImage (now image) n d ⌝ }
-    requires { ⌜ (256 ≤ length (now image)) × (length (now image) % 256 ≡ 0) × (256 + 256 * n ≤ length (now image)) ⌝ }
+// Look up in an accepted image: rows 12 and 14, and the answer.
+fn look_up_in(image: &[u8], v: Overview, headword: &[u8], text: &mut [u8]) -> LookUpAnswer
+    requires { ⌜ AcceptedImage (now image) v ⌝ }
+    requires { ⌜ (256 ≤ length (now image)) × (length (now image) % 256 ≡ 0) × (area-start (v .form) (v .n) ≤ length (now image)) ⌝ }
     ensures { λ r. ⌜ ((i : Image) → image-from (now (image .entry)) ≡ ok i
         → record { answer = look-up-answer r; text = now (text .exit) }
         ≡ look-up-result (now (text .entry)) (look-up-in i (now (headword .entry)) (now (text .entry)))) ⌝ }
@@ -64,15 +65,16 @@ fn look_up_in(image: &[u8], n: usize, d: usize, headword: &[u8], text: &mut [u8]
     if !runs::headword_ok(headword) {
         return LookUpAnswer::Refused(12);
     }
-    let start = 256 + 256 * n;
+    let from = HEADER + v.form.extended;
+    let start = from + 256 * v.n;
     let area = &image[start..];
     let elements = header::nindex2(image);
-    let mut word = [0u8; 256];
+    let mut word = [0u8; WORD];
     let found = seek::seek(
-        &image[256..start],
+        v.form,
+        &image[from..start],
         elements,
         area,
-        d,
         false,
         headword,
         &mut word,
@@ -98,16 +100,11 @@ pub fn look_up(s: &[u8], len: usize, headword: &[u8], text: &mut [u8]) -> LookUp
         return LookUpAnswer::Refused(1);
     }
     let image = &s[..len];
-    let mut free = [0u64; 1024];
+    let mut free = [0u64; MARK_WORDS];
     let r = inspect::inspect(image, &mut free);
     match r {
         Inspected::Refused(k) => LookUpAnswer::Refused(k),
-        Inspected::Sound {
-            words: _,
-            index,
-            area,
-            end: _,
-        } => look_up_in(image, index, area, headword, text),
+        Inspected::Sound(v) => look_up_in(image, v, headword, text),
     }
 }
 
@@ -115,7 +112,7 @@ pub fn look_up(s: &[u8], len: usize, headword: &[u8], text: &mut [u8]) -> LookUp
 fn start_ok(h: &[u8]) -> bool
     ensures { λ r. ⌜ r ≡ start-ok (now (h .entry)) ⌝ }
 {
-    if 248 < h.len() {
+    if LONGEST_HEADWORD < h.len() {
         return false;
     }
     scans::no_zero(h, 0, h.len())
@@ -138,30 +135,29 @@ fn give_entry(
         (some (record { headword = now (headword .entry); body = bytes-at (zero + 1) (next - (zero + 1)) (now (area .entry)) }))) ⌝ }
 {
     let start = zero + 2;
-    let n = next - start;
+    let long = next - start;
     if out.len() < headword.len() {
         return WalkAnswer::Refused(14);
     }
-    if text.len() < n {
+    if text.len() < long {
         return WalkAnswer::Refused(14);
     }
     byteops::copy(out, 0, headword, 0, headword.len());
-    byteops::copy(text, 0, area, start, n);
-    WalkAnswer::Found(area[zero + 1], headword.len(), n)
+    byteops::copy(text, 0, area, start, long);
+    WalkAnswer::Found(area[zero + 1], headword.len(), long)
 }
 
-// Walk in an accepted image of n index blocks and d data blocks: rows 12 and 14, and the answer.
+// Walk in an accepted image: rows 12 and 14, and the answer.
 fn walk_in(
     image: &[u8],
-    n: usize,
-    d: usize,
+    v: Overview,
     headword: &[u8],
     above: bool,
     out: &mut [u8],
     text: &mut [u8],
 ) -> WalkAnswer
-    requires { ⌜ AcceptedImage (now image) n d ⌝ }
-    requires { ⌜ (256 ≤ length (now image)) × (length (now image) % 256 ≡ 0) × (256 + 256 * n ≤ length (now image)) ⌝ }
+    requires { ⌜ AcceptedImage (now image) v ⌝ }
+    requires { ⌜ (256 ≤ length (now image)) × (length (now image) % 256 ≡ 0) × (area-start (v .form) (v .n) ≤ length (now image)) ⌝ }
     ensures { λ r. ⌜ ((i : Image) → image-from (now (image .entry)) ≡ ok i
         → record { answer = walk-answer r; headword = now (out .exit); text = now (text .exit) }
         ≡ walk-result (now (out .entry)) (now (text .entry))
@@ -170,15 +166,16 @@ fn walk_in(
     if !start_ok(headword) {
         return WalkAnswer::Refused(12);
     }
-    let start = 256 + 256 * n;
+    let from = HEADER + v.form.extended;
+    let start = from + 256 * v.n;
     let area = &image[start..];
     let elements = header::nindex2(image);
-    let mut word = [0u8; 256];
+    let mut word = [0u8; WORD];
     let found = seek::seek(
-        &image[256..start],
+        v.form,
+        &image[from..start],
         elements,
         area,
-        d,
         above,
         headword,
         &mut word,
@@ -206,15 +203,10 @@ pub fn walk(
         return WalkAnswer::Refused(1);
     }
     let image = &s[..len];
-    let mut free = [0u64; 1024];
+    let mut free = [0u64; MARK_WORDS];
     let r = inspect::inspect(image, &mut free);
     match r {
         Inspected::Refused(k) => WalkAnswer::Refused(k),
-        Inspected::Sound {
-            words: _,
-            index,
-            area,
-            end: _,
-        } => walk_in(image, index, area, headword, above, out, text),
+        Inspected::Sound(v) => walk_in(image, v, headword, above, out, text),
     }
 }

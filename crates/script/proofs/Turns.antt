@@ -1,6 +1,6 @@
 -- The calls of a script one after the other, as the code meets them.
 use Prim.Native.Nat.{ℕ, zero, suc, _+_, _-_, _<_, _≤_}
-use mathlib.Core.Path.{_≡_, refl, sym, ap, _∙_}
+use mathlib.Core.Path.{_≡_, refl, sym, ap, _∙_, subst}
 use mathlib.Core.Bool.{Bool, true, false, _&&_}
 use mathlib.Core.List.{List, [], _∷_}
 use mathlib.Core.Option.{Option, none, some}
@@ -11,7 +11,8 @@ use lib.Dec.{leb}
 use borrow.Author.Tests.{le-leb, lt-leb}
 use Rattle.spec.specs.Bytes.{from-little-endian, bytes-at}
 use Rattle.spec.specs.Claim.{Call}
-use Rattle.script.specs.Script.{headword-size, text-size, call-size, kinds, call-of, front-call, SizeOf, calls-from, calls-of, told, Played, played-from, played}
+use Rattle.script.specs.Script.{headword-size, text-size, call-size, kinds, call-of, front-call, FrontOf, calls-from, calls-of, told, Played, played-from, played}
+use Rattle.script.specs.declared.Front.{Front}
 
 -- nothing stands past the end
 none-past : (l : List Call) (i : ℕ) → length l ≤ i → getElem? l i ≡ none
@@ -47,25 +48,25 @@ front-broken w s p = rw (lt-leb (call-size s) (length s) p, front-call) (go (leb
 
 -- The size of the first call.
 -- a script too short for the front of a call
-pub size-short : (s : List ℕ) → length s < 5 → SizeOf s 0
-size-short s p = (λ e w. front-broken w s (omega arith), λ l. absurd (omega arith))
+pub size-short : (s : List ℕ) → length s < 5 → FrontOf s Front.End
+size-short s p w = front-broken w s (omega arith)
 
 -- another kind
-pub size-kind : (s : List ℕ) → 5 < getD s 0 0 → SizeOf s 0
+pub size-kind : (s : List ℕ) → 5 < getD s 0 0 → FrontOf s Front.End
 unfolding front-call
-size-kind s p = (λ e w. go w (leb 5 (length s) && leb (call-size s) (length s)), λ l. absurd (omega arith))
+size-kind s p w = go w (leb 5 (length s) && leb (call-size s) (length s))
   where
     go : (w : ℕ) (t : Bool) → _≡_ {A = Option Call} (elim t [ true ↦ call-of w s | false ↦ none ]) none
     go w true = kind-past w s p
     go w false = refl
 
 -- a call that does not fit
-pub size-past : (s : List ℕ) (a b : ℕ) → a ≡ getD s 1 0 → b ≡ from-little-endian (bytes-at 2 2 s) → length s < 5 + a + b → SizeOf s 0
-size-past s a b e f p = (λ z w. front-broken w s (omega arith), λ l. absurd (omega arith))
+pub size-past : (s : List ℕ) (a b : ℕ) → a ≡ getD s 1 0 → b ≡ from-little-endian (bytes-at 2 2 s) → length s < 5 + a + b → FrontOf s Front.End
+size-past s a b e f p w = front-broken w s (omega arith)
 
 -- a call
-pub size-whole : (s : List ℕ) (a b : ℕ) → a ≡ getD s 1 0 → b ≡ from-little-endian (bytes-at 2 2 s) → 5 + a + b ≤ length s → getD s 0 0 ≤ 5 → SizeOf s (5 + a + b)
-size-whole s a b e f p k = (λ z. absurd (omega arith), λ l. (rw (e, f), p, k))
+pub size-whole : (s : List ℕ) (a b : ℕ) → a ≡ getD s 1 0 → b ≡ from-little-endian (bytes-at 2 2 s) → 5 + a + b ≤ length s → getD s 0 0 ≤ 5 → FrontOf s (Front.Call (5 + a + b))
+size-whole s a b e f p k = (rw (e, f), p, k)
 
 -- where the script ends it has no calls
 calls-none : (w n : ℕ) (s : List ℕ) → front-call w s ≡ none → calls-from w n s ≡ []
@@ -131,30 +132,47 @@ played-start w script s L work codes = refl
 rest-is : (script : List ℕ) (at : ℕ) → take (length script - at) (drop at script) ≡ drop at script
 rest-is script at = rw (← length-drop at script, take-length (drop at script))
 
+-- a call at the front: its size, and that the script holds it whole
+front-told : (s : List ℕ) (r : Front) → FrontOf s r → (size : ℕ) → r ≡ Front.Call size → (size ≡ call-size s) × (size ≤ length s) × (getD s 0 0 ≤ 5)
+front-told s r known size q = subst (FrontOf s) q known
+
 -- a call that has a size is there
-pub size-told : (s : List ℕ) (size : ℕ) → SizeOf s size → (size ≡ 0 → ⊥) → (call-size s ≤ length s) × (getD s 0 0 ≤ 5)
-size-told s size known z = let (a, b, d) = known .1 (omega arith) in (omega arith, d)
+pub size-told : (s : List ℕ) (r : Front) → FrontOf s r → (size : ℕ) → r ≡ Front.Call size → (call-size s ≤ length s) × (getD s 0 0 ≤ 5)
+size-told s r known size q = let (a, b, d) = front-told s r known size q in (omega arith, d)
+
+-- it ends inside the script, behind where it starts
+pub size-inside : (script : List ℕ) (at : ℕ) (r : Front) → FrontOf (take (length script - at) (drop at script)) r → at ≤ length script → (size : ℕ) → r ≡ Front.Call size
+    → (1 ≤ size) × (at + size ≤ length script)
+size-inside script at r known p size q =
+    let (a, b, d) = front-told (take (length script - at) (drop at script)) r known size q in
+    let l : length (take (length script - at) (drop at script)) ≡ length script - at = ap length (rest-is script at) ∙ length-drop at script in
+    (omega arith, omega arith)
 
 -- The loop. X is what is to come of the whole script.
-module _ (w : ℕ) (script : List ℕ) (at n L : ℕ) (s work codes : List ℕ) (X : Played) (inv : played-from n (calls-of w (drop at script)) s L work codes ≡ X) (size : ℕ)
-    (known : SizeOf (take (length script - at) (drop at script)) size) where
+module _ (w : ℕ) (script : List ℕ) (at n L : ℕ) (s work codes : List ℕ) (X : Played) (inv : played-from n (calls-of w (drop at script)) s L work codes ≡ X) (r : Front)
+    (known : FrontOf (take (length script - at) (drop at script)) r) where
   -- the end
-  pub played-end : size ≡ 0 → record { image = s; length-after = L; work = work; codes = codes } ≡ X
+  pub played-end : r ≡ Front.End → record { image = s; length-after = L; work = work; codes = codes } ≡ X
   unfolding calls-of played-from
   played-end e =
-      let none-left : calls-of w (drop at script) ≡ [] = calls-none w (length (drop at script)) (drop at script) (rw (rest-is script at) at (known .0 e w)) in
+      let none-left : calls-of w (drop at script) ≡ [] = calls-none w (length (drop at script)) (drop at script)
+      (rw (rest-is script at) at (subst (FrontOf (take (length script - at) (drop at script))) e known w)) in
       sym (ap (λ (cs : List Call). played-from n cs s L work codes) none-left) ∙ inv
 
   -- a turn
-  pub played-turn : (size ≡ 0 → ⊥) → length work ≡ w → (code : ℕ) (s′ : List ℕ) (L′ : ℕ) (work′ : List ℕ)
+  pub played-turn : (size : ℕ) → r ≡ Front.Call size → length work ≡ w → (code : ℕ) (s′ : List ℕ) (L′ : ℕ) (work′ : List ℕ)
       → ((c : Call) → call-of (length work) (take (length script - at) (drop at script)) ≡ some c → record { code = code; image = s′; length-after = L′; work = work′ } ≡ told s L work c)
       → (codes′ : List ℕ) → codes′ ≡ set codes n code
       → played-from (n + 1) (calls-of w (drop (at + size) script)) s′ L′ work′ codes′ ≡ X
-  played-turn z g code s′ L′ work′ t codes′ k =
-      let rest : List ℕ = drop at script in
-      let (a, b, d) = rw (rest-is script at) at (known .1 (omega arith)) in
-      let (c, e) = call-there w rest d in
-      let cs : List Call = calls-of w (drop (call-size rest) rest) in
-      let f : drop (at + size) script ≡ drop (call-size rest) rest = sym (drop-drop size at script) ∙ ap (λ (x : ℕ). drop x rest) a in
-      let first : calls-of w rest ≡ c ∷ cs = calls-first w rest c (omega arith) e in
-      rw f (sym (played-call n c cs s L work codes code s′ L′ work′ (t c (rw (g, rest-is script at) e)) codes′ k) ∙ ap (λ (l : List Call). played-from n l s L work codes) (sym first) ∙ inv)
+  played-turn size q g code s′ L′ work′ t codes′ k = go (front-told rest r (subst (λ (x : List ℕ). FrontOf x r) (rest-is script at) known) size q)
+    where
+      rest : List ℕ
+      rest = drop at script
+
+      go : (size ≡ call-size rest) × (size ≤ length rest) × (getD rest 0 0 ≤ 5) → played-from (n + 1) (calls-of w (drop (at + size) script)) s′ L′ work′ codes′ ≡ X
+      go (a, b, d) =
+          let (c, e) = call-there w rest d in
+          let cs : List Call = calls-of w (drop (call-size rest) rest) in
+          let f : drop (at + size) script ≡ drop (call-size rest) rest = sym (drop-drop size at script) ∙ ap (λ (x : ℕ). drop x rest) a in
+          let first : calls-of w rest ≡ c ∷ cs = calls-first w rest c (omega arith) e in
+          rw f (sym (played-call n c cs s L work codes code s′ L′ work′ (t c (rw (g, rest-is script at) e)) codes′ k) ∙ ap (λ (l : List Call). played-from n l s L work codes) (sym first) ∙ inv)

@@ -1,6 +1,6 @@
 -- A script: calls written in bytes, one after the other, and what comes of them.
 -- A call: kind (1) | headword length (1) | text length (2, low byte first) | attribute (1) | headword | text.
-use Prim.Native.Nat.{ℕ, zero, suc, _+_, _<_, _≤_}
+use Prim.Native.Nat.{ℕ, zero, suc, _+_, _≤_}
 use mathlib.Core.Path.{_≡_}
 use mathlib.Core.Bool.{true, false, _&&_}
 use mathlib.Core.List.{List, [], _∷_}
@@ -15,6 +15,7 @@ use Rattle.spec.specs.Check.{Image, image-in, entries-of}
 use Rattle.spec.specs.Calls.{work-after}
 use Rattle.spec.specs.Claim.{Call, look-up-call, walk-call, insert-call, delete-call, optimise-call, perform, is-refused, list-step, Matches, History}
 use Rattle.spec.specs.Claim.{Observed, absent, text-found, entry-found, done, removed}
+use Rattle.script.specs.declared.Front.{Front}
 
 -- the length of the headword of the call at the front of s
 abbrev pub headword-size : List ℕ → ℕ
@@ -47,9 +48,10 @@ call-of w s = getElem? (kinds w (bytes-at 5 (headword-size s) s) (getD s 4 0) (b
 unfoldable pub front-call : ℕ → List ℕ → Option Call
 front-call w s = elim (leb 5 (length s) && leb (call-size s) (length s)) [ true ↦ call-of w s | false ↦ none ]
 
--- what is known of the size of the call at the front of s: 0 where the script ends
-abbrev pub SizeOf : List ℕ → ℕ → Type 0
-SizeOf s n = (n ≡ 0 → (w : ℕ) → front-call w s ≡ none) × (0 < n → (n ≡ call-size s) × (n ≤ length s) × (getD s 0 0 ≤ 5))
+-- what is known of the front of s: where the script ends it has no call, else one of that size, which it holds whole
+abbrev pub FrontOf : List ℕ → Front → Type 0
+FrontOf s Front.End = (w : ℕ) → front-call w s ≡ none
+FrontOf s (Front.Call n) = (n ≡ call-size s) × (n ≤ length s) × (getD s 0 0 ≤ 5)
 
 -- the calls of a script, at most n
 unfoldable pub calls-from : ℕ → ℕ → List ℕ → List Call

@@ -5,7 +5,9 @@ ghost use Prim.Native.Nat.{_+_, _<_, _≤_};
 ghost use lib.ListN.{length, getD, set};
 ghost use Rattle.spec.specs.Bytes.{zeros};
 ghost use Rattle.spec.specs.Claim.{Call, look-up-call, walk-call, insert-call, delete-call, optimise-call, perform};
-ghost use Rattle.script.specs.Script.{call-size, call-of, SizeOf, calls-of, code-of, told, played, Claimed};
+ghost use Rattle.script.specs.Script.{call-size, call-of, FrontOf, calls-of, code-of, told, played, Claimed};
+use byteops::LONGEST_HEADWORD;
+use byteops::LONGEST_TEXT;
 use byteops::read_u16;
 use byteops::wide;
 use spec::DeleteAnswer;
@@ -22,29 +24,34 @@ struct After {
     len: usize,
 }
 
-// How many bytes the call at the front of a script takes; 0 where the script ends.
-fn call_size(s: &[u8]) -> usize
-    ensures { λ r. ⌜ SizeOf (now (s .entry)) r ⌝ }
-    ensures { λ r. ⌜ r ≤ length (now (s .entry)) ⌝ }
+// What stands at the front of a script: a call of so many bytes, or none, where the script ends.
+enum Front {
+    End,
+    Call(usize),
+}
+
+// The front of a script.
+fn first_call(s: &[u8]) -> Front
+    ensures { λ r. ⌜ FrontOf (now (s .entry)) r ⌝ }
 {
     if s.len() < 5 {
-        return 0;
+        return Front::End;
     }
     if 5 < s[0] {
-        return 0;
+        return Front::End;
     }
-    let n = 5 + wide(s[1]) + read_u16(s, 2);
-    if s.len() < n {
-        return 0;
+    let size = 5 + wide(s[1]) + read_u16(s, 2);
+    if s.len() < size {
+        return Front::End;
     }
-    n
+    Front::Call(size)
 }
 
 // A look up: its code.
 fn look_up(image: &[u8], len: usize, headword: &[u8]) -> u32
     ensures { λ r. ⌜ r ≡ code-of (perform (now (image .entry)) len (look-up-call (now (headword .entry)) (zeros 3000)) .observed) ⌝ }
 {
-    let mut text = [0u8; 3000];
+    let mut text = [0u8; LONGEST_TEXT];
     let r = reader::look_up(image, len, headword, &mut text);
     match r {
         LookUpAnswer::Refused(k) => k,
@@ -57,8 +64,8 @@ fn look_up(image: &[u8], len: usize, headword: &[u8]) -> u32
 fn walk(image: &[u8], len: usize, headword: &[u8], above: bool) -> u32
     ensures { λ r. ⌜ r ≡ code-of (perform (now (image .entry)) len (walk-call above (now (headword .entry)) (zeros 248) (zeros 3000)) .observed) ⌝ }
 {
-    let mut word = [0u8; 248];
-    let mut text = [0u8; 3000];
+    let mut word = [0u8; LONGEST_HEADWORD];
+    let mut text = [0u8; LONGEST_TEXT];
     let r = reader::walk(image, len, headword, above, &mut word, &mut text);
     match r {
         WalkAnswer::Refused(k) => k,
@@ -208,15 +215,19 @@ pub fn play(script: &[u8], image: &mut [u8], len: usize, work: &mut [u8], codes:
     let mut n = 0;
     loop {
         let rest = &script[at..];
-        let size = call_size(rest);
-        if size == 0 {
-            return l;
+        let first = first_call(rest);
+        match first {
+            Front::End => {
+                return l;
+            }
+            Front::Call(size) => {
+                let done = perform(rest, image, l, work);
+                let code = done.code;
+                put_code(codes, n, code);
+                l = done.len;
+                at += size;
+                n += 1;
+            }
         }
-        let done = perform(rest, image, l, work);
-        let code = done.code;
-        put_code(codes, n, code);
-        l = done.len;
-        at += size;
-        n += 1;
     }
 }

@@ -14,7 +14,7 @@ use Rattle.spec.specs.Order.{HeadwordOrder}
 use Rattle.spec.specs.Outcome.{Outcome, refused, ok}
 use Rattle.spec.specs.Lists.{all, count, All}
 use Rattle.spec.specs.Bytes.{from-little-endian, bytes-at, zeros}
-use Rattle.spec.specs.Header.{Format, Lawful, format4, format-of, get, writable, tested-fields, written-fields, lies-in}
+use Rattle.spec.specs.Header.{Format, Lawful, format-of, get, writable, tested-fields, written-fields, lies-in}
 use Rattle.spec.specs.Entry.{Entry, headword-ok, text-ok, attribute-ok, body-ok, entry-of}
 use Rattle.spec.specs.Run.{Run}
 use Rattle.spec.specs.Index.{index-need}
@@ -27,7 +27,7 @@ use Rattle.spec.specs.ImageForm.{IsImage, Accepted}
 use Rattle.spec.specs.Rows.{SliceRule}
 use Rattle.spec.specs.Claim.{Call, look-up-call, walk-call, insert-call, delete-call, optimise-call, Observed, done, removed, absent, too-short, tell-removed, is-there, Row, _if_, Performed, perform, is-refused, first-row, rows, expected, insert-placing, delete-placing, optimise-placing, slice-after, slice-kept, list-answer, list-after, list-step, is-change, next-count, Zeroed, Matches, AnswersAs, History, call-bytes, SortedListClaim, good-change, InsertRefused, DeleteRefused, OptimiseDone}
 use Rattle.spec.proofs.ListsLaws.{and-left, and-right, both-hold, hold-both, holds-true}
-use Rattle.spec.proofs.HeaderLaws.{get-take, fields-inside, fields-same, kind-same, options-same, lawful4}
+use Rattle.spec.proofs.HeaderLaws.{get-take, fields-inside, fields-same, kind-same, options-same, lawful-format, format-stays}
 use Rattle.spec.specs.Sound.{EntriesOk, frame-of, plan-of, PlanSound}
 use Rattle.spec.proofs.CountLaws.{block-once, blocks-once, marks-once}
 use Rattle.spec.proofs.ReadLaws.{frame-fits, ImageTold, image-told, runs-inside, free-list-below}
@@ -47,19 +47,19 @@ module _ (s : List ℕ) (L : ℕ) (i : Image) (got : image-in s L ≡ ok i) (sma
   slice : SliceRule s L
   slice = slice-stored s L .0 (in-told s L i got .0)
 
-  read4 : image-by format4 (take L s) ≡ ok i
-  unfolding image-from format-of
-  read4 = in-told s L i got .1
+  named : image-by (format-of (take L s)) (take L s) ≡ ok i
+  unfolding image-from
+  named = in-told s L i got .1
 
-  -- it has the format of document 01
-  format-is : i .frame .format ≡ format4
-  format-is = ap (λ (f : Frame). f .format) (frame-fits format4 (take L s) (i .frame) (image-told format4 (take L s) i read4 .frame) .is)
+  -- it has the format that its header names
+  format-is : i .frame .format ≡ format-of (take L s)
+  format-is = ap (λ (f : Frame). f .format) (frame-fits (format-of (take L s)) (take L s) (i .frame) (image-told (format-of (take L s)) (take L s) i named .frame) .is)
 
   law : Lawful (i .frame .format)
-  law = subst Lawful (sym format-is) lawful4
+  law = subst Lawful (sym format-is) (lawful-format (take L s))
 
   read : image-by (i .frame .format) (take L s) ≡ ok i
-  read = subst (λ (F : Format). image-by F (take L s) ≡ ok i) (sym format-is) read4
+  read = subst (λ (F : Format). image-by F (take L s) ≡ ok i) (sym format-is) named
 
   sound : Sound (i .frame .format) (take L s) i
   sound = image-sound (i .frame .format) (take L s) i read
@@ -124,6 +124,7 @@ module _ (s : List ℕ) (L : ℕ) (i : Image) (got : image-in s L ≡ ok i) (sma
   record Next (c : Call) (r : Performed) : Type 0 where
     answers : AnswersAs (i .frame .format .below) s L i (entries-of i) c r
     image : Image
+    order : image .frame .format .below ≡ i .frame .format .below
     accepted : image-in (r .image) (r .length-after) ≡ ok image
     entries : entries-of image ≡ list-step (i .frame .format .below) (is-refused (r .observed)) c (entries-of i)
     bytes : T (call-bytes c) → T (areBytes (r .image))
@@ -158,6 +159,7 @@ module _ (s : List ℕ) (L : ℕ) (i : Image) (got : image-in s L ≡ ok i) (sma
       record {
         answers = record { observed = e; bytes = b; size-stays = refl; kept-past = refl; given-up = none-given-up c; update-count = rw n; header-kept = λ j h k. refl };
         image = i;
+        order = refl;
         accepted = got;
         entries = l;
         bytes = λ k. small;
@@ -212,10 +214,14 @@ module _ (s : List ℕ) (L : ℕ) (i : Image) (got : image-in s L ≡ ok i) (sma
       new-image = record { frame = frame-of (i .frame .format) n D; runs = rs; free-list = free-blocks rs D }
 
       new-read : image-in t new ≡ ok new-image
-      unfolding image-in image-from format-of
+      unfolding image-in image-from
       new-read =
-          rw (new-slice, front) (subst (λ (F : Format). image-by F (take new (plan-written plan s)) ≡ ok new-image) format-is
-          (plan-back (i .frame .format) law n D rs s plan-sound kind options room))
+          let F : Format = i .frame .format in
+          let u : List ℕ = take new (plan-written plan s) in
+          let back : image-by F u ≡ ok new-image = plan-back F law n D rs s plan-sound kind options room in
+          let kept : kind-ok (F .layout) u ≡ true = frame-fits F u (new-image .frame) (image-told F u new-image back .frame) .kind in
+          let same : format-of u ≡ F = format-stays (take L s) u (subst (λ (G : Format). kind-ok (G .layout) u ≡ true) format-is kept) ∙ sym format-is in
+          rw (new-slice, front) (subst (λ (G : Format). image-by G u ≡ ok new-image) (sym same) back)
 
       -- a change that is done
       placed : (c : Call) (x : Observed) → first-row (rows s i (entries-of i) c) ≡ none → list-answer (i .frame .format .below) c (entries-of i) ≡ x → slice-after s L i c ≡ t
@@ -228,6 +234,7 @@ module _ (s : List ℕ) (L : ℕ) (i : Image) (got : image-in s L ≡ ok i) (sma
           record {
             answers = record { observed = rw (e, a); bytes = sym b; size-stays = size; kept-past = past; given-up = zeroed; update-count = rw ch up; header-kept = header };
             image = new-image;
+            order = refl;
             accepted = new-read;
             entries = l;
             bytes = still;
@@ -420,12 +427,11 @@ history (c ∷ cs) s L i got small k =
     let r : Performed = perform s L c in
     let (a, b) = both-hold (call-bytes c) (all call-bytes cs) k in
     let after = history cs (r .image) (r .length-after) (n .image) (n .accepted) (n .bytes a) b in
-    let same : n .image .frame .format .below ≡ i .frame .format .below
-    = ap (λ (F : Format). F .below) (format-is (r .image) (r .length-after) (n .image) (n .accepted) (n .bytes a) ∙ sym (format-is s L i got small)) in (
+    let after′ = subst (λ (below : HeadwordOrder). History below (r .image) (r .length-after) (entries-of (n .image)) cs) (n .order) after in (
       matches s L i got small,
       n .answers,
       subst (λ (es : List Entry). History (i .frame .format .below) (r .image) (r .length-after) es cs)
-          (n .entries) (subst (λ (below : HeadwordOrder). History below (r .image) (r .length-after) (entries-of (n .image)) cs) same after),
+          (n .entries) after′,
     )
 
 -- THE CLAIM

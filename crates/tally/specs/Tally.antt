@@ -1,5 +1,5 @@
 -- What is counted of runs: their entries, their blocks, and the marks of these.
-use Prim.Native.Nat.{ℕ, _+_, _*_, _<_, _≤_}
+use Prim.Native.Nat.{ℕ, _+_, _<_, _≤_}
 use mathlib.Core.Path.{_≡_}
 use mathlib.Core.Bool.{Bool, true}
 use mathlib.Core.List.{List, [], _∷_}
@@ -7,14 +7,13 @@ use mathlib.Core.Option.{Option, none, some}
 use lib.ListN.{length, take, drop}
 use Rattle.spec.specs.Order.{HeadwordOrder}
 use Rattle.spec.specs.Outcome.{Outcome, refused, ok}
-use Rattle.spec.specs.Bytes.{from-little-endian, bytes-at}
-use Rattle.spec.specs.Index.{Element}
 use Rattle.spec.specs.Run.{Run}
 use Rattle.spec.specs.Blocks.{run-blocks}
-use Rattle.spec.specs.Check.{all-entries, first-entry, run-from}
+use Rattle.spec.specs.Check.{all-entries, first-entry}
 use Rattle.marks.specs.Marks.{with-range}
 use Rattle.index.specs.Elements.{element-end}
 use Rattle.tally.specs.declared.Runs.{Runs}
+use Rattle.tally.specs.declared.First.{First}
 
 -- the marks with those of all blocks of runs set
 unfoldable pub covered : List Run → List Bool → List Bool
@@ -42,21 +41,16 @@ unfoldable pub last-below : HeadwordOrder → List ℕ → Option (List ℕ) →
 last-below below h none = true
 last-below below h (some k) = below h k
 
--- what is known of the size that row 7 allows the run at block b: 0 where it is refused
-abbrev pub Sized : HeadwordOrder → ℕ → List ℕ → ℕ → ℕ → Type 0
-Sized below D area b n =
-    ((e : Element) (next : Option (List ℕ)) → e .block ≡ b → n ≡ 0 → run-from below D area e next ≡ refused 7)
-    × (0 < n → (b < D) × (n ≡ from-little-endian (bytes-at (256 * b) 2 area)) × (n ≤ 32_767) × (b + n ≤ D))
-
--- what is known of the place where the first entry of a run ends, which is to have the headword h: 0 where it is refused
-abbrev pub Started : HeadwordOrder → List ℕ → List ℕ → List ℕ → ℕ → Type 0
-Started below h run word x =
-    (x ≡ 0 → first-entry below h (drop 2 run) ≡ refused 8)
-    × (0 < x → (2 < x) × (take (length h) word ≡ h) × (body : List ℕ) × (first-entry below h (drop 2 run) ≡ ok (record { headword = h; body = body }, drop x run)))
+-- what is known of the first entry of a run, which is to have the headword h
+abbrev pub Started : HeadwordOrder → List ℕ → List ℕ → List ℕ → First → Type 0
+Started below h run word r =
+    (r ≡ First.Broken → first-entry below h (drop 2 run) ≡ refused 8)
+    × ((x : ℕ) → r ≡ First.Ends x → (2 < x) × (x ≤ length run) × (take (length h) word ≡ h)
+    × (body : List ℕ) × (first-entry below h (drop 2 run) ≡ ok (record { headword = h; body = body }, drop x run)))
 
 -- where the zero byte of the element at `at` is, the first of `left`, if there is one
-pub record Carried (index : List ℕ) (at left end : ℕ) : Type 0 where
-  pub told : 0 < left → end ≡ element-end index at
+pub record Carried (w : ℕ) (index : List ℕ) (at left end : ℕ) : Type 0 where
+  pub told : 0 < left → end ≡ element-end w index at
 
 -- names all definitions of this module: who unfolds it unfolds them
 unfoldable pub open-tally : Unit {0}

@@ -1,6 +1,6 @@
 -- Laws of the run concerned: where its element stands, that its run is the one of the specification, and how many blocks the other runs take.
-use Prim.Native.Nat.{ℕ, zero, suc, _+_, _-_, _*_, _<_, _≤_}
-use mathlib.Core.Path.{_≡_, refl, sym, ap, ap₂, subst, _∙_}
+use Prim.Native.Nat.{ℕ, zero, suc, _+_, _-_, _*_, _≤_}
+use mathlib.Core.Path.{_≡_, refl, sym, ap, ap₂, _∙_}
 use mathlib.Core.Logic.{_⊎_, inl, inr, ⊎-elim}
 use mathlib.Core.Bool.{Bool, true, false, not, true≢false}
 use mathlib.Core.List.{List, [], _∷_, _++_, map, cons-ne-nil}
@@ -24,19 +24,20 @@ use Rattle.spec.specs.Blocks.{run-blocks}
 use Rattle.spec.specs.Check.{ends-below, run-from, runs-from, next-headword}
 use Rattle.spec.specs.Place as Place
 use Rattle.spec.specs.Place.{target-run, element-of}
-use Rattle.spec.proofs.ListsLaws.{all-map, all-back}
-use Rattle.spec.proofs.OutcomeLaws.{ok-not-refused}
+use Rattle.spec.proofs.ListsLaws.{all-map, all-back, clash}
 use Rattle.spec.proofs.OrderLaws.{order-of}
 use Rattle.spec.specs.Sound.{EntriesOk}
-use Rattle.spec.proofs.ReadLaws.{RunsAscend, ascend-back, run-told, no-runs, runs-first, runs-elements, runs-ascend}
+use Rattle.spec.proofs.ReadLaws.{RunTold, RunsAscend, ascend-back, run-told, no-runs, runs-first, runs-elements, runs-ascend}
 use Rattle.marks.proofs.Laws.{drop-take}
 use Rattle.index.specs.Elements as Elements
 use Rattle.index.specs.Elements.{element-end, element-headword, element-at, elements-at, elements-end, Inside, concerned-from}
 use Rattle.index.specs.declared.Place as IndexPlace
 use Rattle.index.proofs.Laws.{element-end-past, inside-start, inside-end, inside-next, elements-next, elements-count, end-turn, concerned-rule, concerned-stops}
 use Rattle.elements.proofs.Laws.{elements-length, elements-split, inside-split, ends-split}
-use Rattle.tally.specs.Tally.{Sized}
-use Rattle.target.specs.Told.{NumbersWithin, entries-start, entries-part, NoRun, OneRun, TargetTold}
+use Rattle.runs.specs.Size.{size-told}
+use Rattle.runs.specs.declared.Size.{Size}
+use Rattle.runs.proofs.SizeLaws.{size-of-run}
+use Rattle.target.specs.Told.{entries-start, entries-part, no-target, NoRun, OneRun, TargetTold}
 use Rattle.target.specs.declared.Target.{Target}
 
 -- ---- entries_start
@@ -178,28 +179,28 @@ module _ (below : HeadwordOrder) (h : List ℕ) where
         (a, all-above r rs p (order .transitive h (q .headword) (r .headword) a w))
 
 -- ---- where the element of the run concerned stands
--- of n elements so many from `at` on, the first of which is not above h, or the first of all
-record Reached (below : HeadwordOrder) (index h : List ℕ) (n at left : ℕ) : Type 0 where
-  fewer : left ≤ n
-  start : at ≡ elements-end index 0 (n - left)
-  low : (below h (element-headword index at) ≡ false) ⊎ (n - left ≡ 0)
+-- of all elements so many from `at` on, the first of which is not above h, or the first of all
+record Reached (width : ℕ) (below : HeadwordOrder) (index h : List ℕ) (elements at left : ℕ) : Type 0 where
+  fewer : left ≤ elements
+  start : at ≡ elements-end width index 0 (elements - left)
+  low : (below h (element-headword width index at) ≡ false) ⊎ (elements - left ≡ 0)
 
-module _ (below : HeadwordOrder) (index h : List ℕ) (n : ℕ) where
+module _ (width : ℕ) (below : HeadwordOrder) (index h : List ℕ) (elements : ℕ) where
   -- one element more is passed
-  reached-next : (at k : ℕ) → Reached below index h n at (suc (suc k)) → below h (element-headword index (element-end index at + 1)) ≡ false
-      → Reached below index h n (element-end index at + 1) (suc k)
+  reached-next : (at k : ℕ) → Reached width below index h elements at (suc (suc k)) → below h (element-headword width index (element-end width index at + 1)) ≡ false
+      → Reached width below index h elements (element-end width index at + 1) (suc k)
   unfolding Elements.elements-end
   reached-next at k v e =
-      let p : n - suc k ≡ (n - suc (suc k)) + 1 = omega (arith, v .fewer) in
-      record { fewer = omega (arith, v .fewer); start = rw (p, ends-split index 0 (n - suc (suc k)) 1, ← v .start); low = inl e }
+      let p : elements - suc k ≡ (elements - suc (suc k)) + 1 = omega (arith, v .fewer) in
+      record { fewer = omega (arith, v .fewer); start = rw (p, ends-split width index 0 (elements - suc (suc k)) 1, ← v .start); low = inl e }
 
   -- so stands the element concerned
-  reached : (n ≡ 0 → ⊥) → Reached below index h n (concerned-from below index h 0 (n - 1) .at) (concerned-from below index h 0 (n - 1) .left)
+  reached : (elements ≡ 0 → ⊥) → Reached width below index h elements (concerned-from width below index h 0 (elements - 1) .at) (concerned-from width below index h 0 (elements - 1) .left)
   unfolding Elements.elements-end
   reached z =
-      let e : suc (n - 1) ≡ n = omega arith in
-      let m : n - n ≡ 0 = omega arith in
-      concerned-rule below index h 0 (n - 1) (λ at left. Reached below index h n at left) (rw e (record { fewer = omega arith; start = rw m; low = inr m })) reached-next
+      let e : suc (elements - 1) ≡ elements = omega arith in
+      let m : elements - elements ≡ 0 = omega arith in
+      concerned-rule width below index h 0 (elements - 1) (λ at left. Reached width below index h elements at left) (rw e (record { fewer = omega arith; start = rw m; low = inr m })) reached-next
 
 -- ---- the bytes of the run concerned
 -- behind the count stand the run's bytes without it
@@ -211,15 +212,19 @@ part-same area b size p =
     rw (e, m, drop-take 2 (256 * size) (drop (256 * b) area), drop-drop 2 (256 * b) area)
 
 -- ---- find_run
+-- where there is no run, nothing is too large
+pub none-bounds : (t : Target) (d l k : ℕ) → t ≡ no-target → (t .block + t .size ≤ d) × (t .size ≤ 32_767) × (t .at ≤ t .end) × (t .end ≤ l) × (t .before + t .after ≤ k)
+none-bounds t d l k is = rw is (omega arith, omega arith, omega arith, omega arith, omega arith)
+
 -- where there is no element there is no run
-module _ (index area h : List ℕ) (D n : ℕ) (none : n ≡ 0) where
+module _ (width order : ℕ) (index area h : List ℕ) (D elements : ℕ) (none : elements ≡ 0) where
   -- what is told then
-  pub told-none : (rs : List Run) → runs-from (below-of 0) D area (elements-at index 0 n) ≡ ok rs
-      → TargetTold index area n h rs (record { at = 0; end = 0; before = 0; after = 0; block = 0; size = 0 })
+  pub told-none : (t : Target) → t ≡ no-target → (rs : List Run) → runs-from (below-of order) D area (elements-at width index 0 elements) ≡ ok rs
+      → TargetTold width order index area elements h rs t
   unfolding Elements.elements-at Elements.elements-end target-run Place.target-split Place.target-of split-last Lists.split-first elements-bytes
-  told-none rs r =
-      let e : rs ≡ [] = no-runs (below-of 0) D area rs (rw none at r) in
-      rw (e, none) (
+  told-none t is rs r =
+      let e : rs ≡ [] = no-runs (below-of order) D area rs (rw none at r) in
+      rw (is, e, none) (
       record {
         before = refl;
         after = refl;
@@ -232,109 +237,134 @@ module _ (index area h : List ℕ) (D n : ℕ) (none : n ≡ 0) where
       }
       )
 
-module _ (index h : List ℕ) (n : ℕ) (some-elements : n ≡ 0 → ⊥) (all-inside : Inside index 0 n) (c : IndexPlace.Place)
-    (concerned : c ≡ concerned-from (below-of 0) index h 0 (n - 1)) (some-left : 1 ≤ c .left) where
+module _ (width order : ℕ) (index h : List ℕ) (elements : ℕ) (some-elements : elements ≡ 0 → ⊥) (all-inside : Inside width index 0 elements) (c : IndexPlace.Place)
+    (concerned : c ≡ concerned-from width (below-of order) index h 0 (elements - 1)) (some-left : 1 ≤ c .left) where
   -- where its element stands among all
-  here : Reached (below-of 0) index h n (c .at) (c .left)
-  here = rw concerned (reached (below-of 0) index h n some-elements)
+  here : Reached width (below-of order) index h elements (c .at) (c .left)
+  here = rw concerned (reached width (below-of order) index h elements some-elements)
 
   -- no more elements are from it on than there are
-  pub left-fewer : c .left ≤ n
+  pub left-fewer : c .left ≤ elements
   left-fewer = here .fewer
 
   -- nor are those behind it
-  pub after-fewer : c .left - 1 ≤ n
+  pub after-fewer : c .left - 1 ≤ elements
   after-fewer = omega (arith, here .fewer)
 
   -- nor all others
-  pub others-fewer : n - c .left + (c .left - 1) ≤ n
+  pub others-fewer : elements - c .left + (c .left - 1) ≤ elements
   others-fewer = omega (arith, here .fewer)
 
   -- those before it and those from it on are all
-  sum : n ≡ (n - c .left) + c .left
+  sum : elements ≡ (elements - c .left) + c .left
   sum = omega (arith, here .fewer)
 
   -- all elements: those before it, itself, those behind it
-  elements-parts : elements-at index 0 n ≡ elements-at index 0 (n - c .left) ++ element-at index (c .at) ∷ elements-at index (element-end index (c .at) + 1) (c .left - 1)
+  elements-parts : elements-at width index 0 elements
+      ≡ elements-at width index 0 (elements - c .left) ++ element-at width index (c .at) ∷ elements-at width index (element-end width index (c .at) + 1) (c .left - 1)
   elements-parts =
-      ap (elements-at index 0) sum
-      ∙ elements-split index 0 (n - c .left) (c .left)
-      ∙ ap (λ (a : ℕ). elements-at index 0 (n - c .left) ++ elements-at index a (c .left)) (sym (here .start))
-      ∙ ap (λ (l : List Element). elements-at index 0 (n - c .left) ++ l) (elements-next index (c .at) (c .left) some-left)
+      ap (elements-at width index 0) sum
+      ∙ elements-split width index 0 (elements - c .left) (c .left)
+      ∙ ap (λ (a : ℕ). elements-at width index 0 (elements - c .left) ++ elements-at width index a (c .left)) (sym (here .start))
+      ∙ ap (λ (l : List Element). elements-at width index 0 (elements - c .left) ++ l) (elements-next width index (c .at) (c .left) some-left)
 
   -- those before it stand inside the index, and those from it on
-  inside-parts : Inside index 0 (n - c .left) × Inside index (c .at) (c .left)
-  inside-parts = rw (here .start) (inside-split index 0 (n - c .left) (c .left) (rw (← sum) all-inside))
+  inside-parts : Inside width index 0 (elements - c .left) × Inside width index (c .at) (c .left)
+  inside-parts = rw (here .start) (inside-split width index 0 (elements - c .left) (c .left) (rw (← sum) all-inside))
 
   -- the others stand behind it
-  behind-inside : (end : ℕ) → end ≡ element-end index (c .at) → Inside index (end + 1) (c .left - 1)
-  behind-inside end e = rw e (inside-next index (c .at) (c .left) (inside-parts .1) some-left)
+  behind-inside : (end : ℕ) → end ≡ element-end width index (c .at) → Inside width index (end + 1) (c .left - 1)
+  behind-inside end e = rw e (inside-next width index (c .at) (c .left) (inside-parts .1) some-left)
 
   -- it stands behind the bytes of those before it
-  start-bytes : c .at ≡ length (elements-bytes 2 (elements-at index 0 (n - c .left)))
-  start-bytes = omega (arith, here .start, elements-length index 0 (n - c .left) (inside-parts .0))
+  start-bytes : c .at ≡ length (elements-bytes width (elements-at width index 0 (elements - c .left)))
+  start-bytes = omega (arith, here .start, elements-length width index 0 (elements - c .left) (inside-parts .0))
 
   -- behind it stand the bytes of the others, up to the end of all
-  rest-bytes : (end : ℕ) → end ≡ element-end index (c .at) → elements-end index 0 n ≡ end + 1 + length (elements-bytes 2 (elements-at index (end + 1) (c .left - 1)))
+  rest-bytes : (end : ℕ) → end ≡ element-end width index (c .at) → elements-end width index 0 elements ≡ end + 1 + length (elements-bytes width (elements-at width index (end + 1) (c .left - 1)))
   rest-bytes end e =
-      let a : elements-end index 0 n ≡ elements-end index (c .at) (c .left)
-      = ap (elements-end index 0) sum ∙ ends-split index 0 (n - c .left) (c .left) ∙ ap (λ (a : ℕ). elements-end index a (c .left)) (sym (here .start)) in
-      let b : elements-end index (end + 1) (c .left - 1) ≡ elements-end index 0 n = end-turn index (c .at) (c .left) end (elements-end index 0 n) (sym a) e some-left in
-      omega (arith, b, elements-length index (end + 1) (c .left - 1) (behind-inside end e))
+      let a : elements-end width index 0 elements ≡ elements-end width index (c .at) (c .left)
+      = ap (elements-end width index 0) sum ∙ ends-split width index 0 (elements - c .left) (c .left) ∙ ap (λ (a : ℕ). elements-end width index a (c .left)) (sym (here .start)) in
+      let b : elements-end width index (end + 1) (c .left - 1) ≡ elements-end width index 0 elements
+      = end-turn width index (c .at) (c .left) end (elements-end width index 0 elements) (sym a) e some-left in
+      omega (arith, b, elements-length width index (end + 1) (c .left - 1) (behind-inside end e))
 
   -- the bytes of all elements: of those before it, its own, of those behind it
-  bytes-parts : (end : ℕ) → end ≡ element-end index (c .at)
-      → elements-end index 0 n ≡ length (elements-bytes 2 (elements-at index 0 (n - c .left))) + (end + 1 - c .at) + length (elements-bytes 2 (elements-at index (end + 1) (c .left - 1)))
-  bytes-parts end e = omega (arith, start-bytes, rest-bytes end e, element-end-past index (c .at))
+  bytes-parts : (end : ℕ) → end ≡ element-end width index (c .at)
+      → elements-end width index 0 elements
+      ≡ length (elements-bytes width (elements-at width index 0 (elements - c .left))) + (end + 1 - c .at) + length (elements-bytes width (elements-at width index (end + 1) (c .left - 1)))
+  bytes-parts end e = omega (arith, start-bytes, rest-bytes end e, element-end-past width index (c .at))
 
   -- behind it stands none, or one whose headword is above the given one
-  stops : (c .left ≡ 1) ⊎ (below-of 0 h (element-headword index (element-end index (c .at) + 1)) ≡ true)
-  stops = rw concerned (concerned-stops (below-of 0) index h 0 (n - 1))
+  stops : (c .left ≡ 1) ⊎ (below-of order h (element-headword width index (element-end width index (c .at) + 1)) ≡ true)
+  stops = rw concerned (concerned-stops width (below-of order) index h 0 (elements - 1))
 
   -- the runs behind it start above the given headword
-  behind-above : (a k : ℕ) (y : List Run) → map element-of y ≡ elements-at index a k → (k ≡ 0) ⊎ (below-of 0 h (element-headword index a) ≡ true)
-      → RunsAscend (below-of 0) y → All (λ q. below-of 0 h (q .headword) ≡ true) y
+  behind-above : (a k : ℕ) (y : List Run) → map element-of y ≡ elements-at width index a k → (k ≡ 0) ⊎ (below-of order h (element-headword width index a) ≡ true)
+      → RunsAscend (below-of order) y → All (λ q. below-of order h (q .headword) ≡ true) y
   unfolding Elements.elements-at Elements.element-at element-of
   behind-above a k [] m o p = tt
   behind-above a zero (q ∷ qs) m o p = absurd (cons-ne-nil (element-of q) (map element-of qs) m)
   behind-above a (suc k) (q ∷ qs) m (inl z) p = absurd (omega arith)
   behind-above a (suc k) (q ∷ qs) m (inr up) p =
-      let s : element-of q ≡ element-at index a = same-first (element-of q) (element-at index a) (map element-of qs) (elements-at index (element-end index a + 1) k) m in
-      let w : q .headword ≡ element-headword index a = ap (λ (e : Element). e .headword) s in
-      all-above (below-of 0) h (order-of 0) q qs p (rw w up)
+      let s : element-of q ≡ element-at width index a = same-first (element-of q) (element-at width index a) (map element-of qs) (elements-at width index (element-end width index a + 1) k) m in
+      let w : q .headword ≡ element-headword width index a = ap (λ (e : Element). e .headword) s in
+      all-above (below-of order) h (order-of order) q qs p (rw w up)
 
   -- it starts not above it, or is the first
-  first-or-low : (x : List Run) (r : Run) → map element-of x ≡ elements-at index 0 (n - c .left) → element-of r ≡ element-at index (c .at) → (below-of 0 h (r .headword) ≡ false) ⊎ (x ≡ [])
+  first-or-low : (x : List Run) (r : Run) → map element-of x ≡ elements-at width index 0 (elements - c .left) → element-of r ≡ element-at width index (c .at)
+      → (below-of order h (r .headword) ≡ false) ⊎ (x ≡ [])
   unfolding Elements.elements-at Elements.element-at element-of
   first-or-low x r m s = go (here .low)
     where
-      empty : (k : ℕ) (l : List Run) → k ≡ 0 → map element-of l ≡ elements-at index 0 k → l ≡ []
+      empty : (k : ℕ) (l : List Run) → k ≡ 0 → map element-of l ≡ elements-at width index 0 k → l ≡ []
       empty k [] z e = refl
       empty k (q ∷ l) z e = absurd (cons-ne-nil (element-of q) (map element-of l) (rw z at e))
 
-      go : (below-of 0 h (element-headword index (c .at)) ≡ false) ⊎ (n - c .left ≡ 0) → (below-of 0 h (r .headword) ≡ false) ⊎ (x ≡ [])
+      go : (below-of order h (element-headword width index (c .at)) ≡ false) ⊎ (elements - c .left ≡ 0) → (below-of order h (r .headword) ≡ false) ⊎ (x ≡ [])
       go (inl e) =
-          let w : r .headword ≡ element-headword index (c .at) = ap (λ (e : Element). e .headword) s in
+          let w : r .headword ≡ element-headword width index (c .at) = ap (λ (e : Element). e .headword) s in
           inl (rw w e)
-      go (inr z) = inr (empty (n - c .left) x z m)
+      go (inr z) = inr (empty (elements - c .left) x z m)
 
-  module _ (D : ℕ) (area : List ℕ) (b : ℕ) (num : b ≡ from-little-endian (bytes-at (c .at) 2 index)) (end : ℕ) (ends : end ≡ element-end index (c .at))
-      (size : ℕ) (sized : Sized (below-of 0) D area b size) where
-    -- its run has that block, and that size
-    run-placed : (r : Run) → Known (below-of 0) D area r → element-of r ≡ element-at index (c .at) → (r .block ≡ b) × (r .size ≡ size) × (1 ≤ size)
-    unfolding Elements.element-at element-of
-    run-placed r known s =
-        let t = run-told (below-of 0) D area (element-of r) (known .next) r (known .read) in
-        let p : r .block ≡ b = ap (λ (e : Element). e .block) s ∙ sym num in
-        let z : size ≡ 0 → ⊥ = λ y. ok-not-refused r 7 (sym (known .read) ∙ sized .0 (element-of r) (known .next) p y) in
-        let q : 0 < size = omega (arith, z) in
-        let m : size ≡ from-little-endian (bytes-at (256 * b) 2 area) = sized .1 q .1 in
-        (p, t .size ∙ rw p (sym m), q)
+  module _ (D : ℕ) (area : List ℕ) (b : ℕ) (num : b ≡ from-little-endian (bytes-at (c .at) width index)) (size : Size) (sized : size ≡ size-told D area b) where
+    -- the runs parted at it
+    abbrev At : List Run → Type 0
+    At rs = Parted rs (elements-at width index 0 (elements - c .left)) (element-at width index (c .at)) (elements-at width index (element-end width index (c .at) + 1) (c .left - 1))
+
+    module _ (rs : List Run) (read : runs-from (below-of order) D area (elements-at width index 0 elements) ≡ ok rs) where
+      -- they can be
+      parts : At rs
+      parts =
+          parted rs (elements-at width index 0 (elements - c .left)) (element-at width index (c .at)) (elements-at width index (element-end width index (c .at) + 1) (c .left - 1))
+          (runs-elements (below-of order) D area (elements-at width index 0 elements) rs read ∙ elements-parts)
+
+      -- its run was read by its element
+      known : Known (below-of order) D area (parts .run)
+      known =
+          all-back (Known (below-of order) D area) (parts .before) (parts .run ∷ parts .after)
+          (rw (parts .split) at (runs-known (below-of order) D area (elements-at width index 0 elements) rs read)) .0
+
+      -- it has that block,
+      own-block : parts .run .block ≡ b
+      unfolding Elements.element-at element-of
+      own-block = ap (λ (e : Element). e .block) (parts .run-is) ∙ sym num
+
+      -- and the size that is told there
+      own-size : size ≡ Size.Blocks (parts .run .size)
+      unfolding element-of
+      own-size = sized ∙ rw (own-block) at (size-of-run (below-of order) D area (element-of (parts .run)) (known .next) (parts .run) (known .read))
+
+    -- where row 7 is broken, the runs are not read
+    pub told-broken : size ≡ Size.Broken → (t : Target) (rs : List Run) → runs-from (below-of order) D area (elements-at width index 0 elements) ≡ ok rs
+        → TargetTold width order index area elements h rs t
+    told-broken broken t rs read = let e = own-size rs read in clash (cc)
 
     -- what is told of it
-    pub told-some : (rs : List Run) → runs-from (below-of 0) D area (elements-at index 0 n) ≡ ok rs
-        → TargetTold index area n h rs (record { at = c .at; end = end + 1; before = n - c .left; after = c .left - 1; block = b; size = size })
-    told-some rs read =
+    pub told-some : (end : ℕ) → end ≡ element-end width index (c .at) → (blocks : ℕ) → size ≡ Size.Blocks blocks
+        → (rs : List Run) → runs-from (below-of order) D area (elements-at width index 0 elements) ≡ ok rs
+        → TargetTold width order index area elements h rs (record { at = c .at; end = end + 1; before = elements - c .left; after = c .left - 1; block = b; size = blocks })
+    told-some end ends blocks sized-so rs read =
         record {
           before = rw t (sym (d .before-is));
           after = rw (t, ends) (sym (d .after-is));
@@ -342,88 +372,65 @@ module _ (index h : List ℕ) (n : ℕ) (some-elements : n ≡ 0 → ⊥) (all-i
           after-inside = behind-inside end ends;
           at-is = start-bytes;
           end-is = rest-bytes end ends;
-          run = inr (record { run = d .run; among = rw t (d .split); block = own .0; size = own .1; some-blocks = own .2; fuel = suc (length (d .run .bytes)); read = rw t entries });
+          run =
+              inr (record { run = d .run; among = rw t (d .split); block = own-block rs read; size = same; some-blocks = some; fuel = suc (length (d .run .bytes)); read = rw t entries });
           bytes = bytes-parts end ends;
         }
       where
-        all-known : All (Known (below-of 0) D area) rs
-        all-known = runs-known (below-of 0) D area (elements-at index 0 n) rs read
+        d : At rs
+        d = parts rs read
 
-        d : Parted rs (elements-at index 0 (n - c .left)) (element-at index (c .at)) (elements-at index (element-end index (c .at) + 1) (c .left - 1))
-        d =
-            parted rs (elements-at index 0 (n - c .left)) (element-at index (c .at)) (elements-at index (element-end index (c .at) + 1) (c .left - 1))
-            (runs-elements (below-of 0) D area (elements-at index 0 n) rs read ∙ elements-parts)
+        same : d .run .size ≡ blocks
+        same = let e = own-size rs read in cc
 
-        ascending : RunsAscend (below-of 0) (d .run ∷ d .after)
-        ascending = ascend-back (below-of 0) (d .before) (d .run ∷ d .after) (rw (d .split) at (runs-ascend (below-of 0) D area (elements-at index 0 n) rs read))
+        told : RunTold (below-of order) D area (element-of (d .run)) (known rs read .next) (d .run)
+        told = run-told (below-of order) D area (element-of (d .run)) (known rs read .next) (d .run) (known rs read .read)
 
-        above : All (λ q. below-of 0 h (q .headword) ≡ true) (d .after)
-        above = behind-above (element-end index (c .at) + 1) (c .left - 1) (d .after) (d .after-is) (⊎-elim (λ z. inl (omega arith)) inr stops) (ascending .3)
+        some : 1 ≤ blocks
+        some = omega (arith, same, told .some-blocks)
 
-        t : target-run (below-of 0) h rs ≡ record { before = d .before; entries = d .run .entries; after = d .after }
-        t = ap (target-run (below-of 0) h) (d .split) ∙ target-at (below-of 0) h (d .before) (d .run) (d .after) (first-or-low (d .before) (d .run) (d .before-is) (d .run-is)) above
+        ascending : RunsAscend (below-of order) (d .run ∷ d .after)
+        ascending = ascend-back (below-of order) (d .before) (d .run ∷ d .after) (rw (d .split) at (runs-ascend (below-of order) D area (elements-at width index 0 elements) rs read))
 
-        known : Known (below-of 0) D area (d .run)
-        known = all-back (Known (below-of 0) D area) (d .before) (d .run ∷ d .after) (rw (d .split) at all-known) .0
+        above : All (λ q. below-of order h (q .headword) ≡ true) (d .after)
+        above = behind-above (element-end width index (c .at) + 1) (c .left - 1) (d .after) (d .after-is) (⊎-elim (λ z. inl (omega arith)) inr stops) (ascending .3)
 
-        own : (d .run .block ≡ b) × (d .run .size ≡ size) × (1 ≤ size)
-        own = run-placed (d .run) known (d .run-is)
+        t : target-run (below-of order) h rs ≡ record { before = d .before; entries = d .run .entries; after = d .after }
+        t = ap (target-run (below-of order) h) (d .split) ∙ target-at (below-of order) h (d .before) (d .run) (d .after) (first-or-low (d .before) (d .run) (d .before-is) (d .run-is)) above
 
-        entries : entries-from (below-of 0) (suc (length (d .run .bytes))) [] (entries-part area b size) ≡ ok (d .run .entries)
+        entries : entries-from (below-of order) (suc (length (d .run .bytes))) [] (entries-part area b blocks) ≡ ok (d .run .entries)
         entries =
-            let w = run-told (below-of 0) D area (element-of (d .run)) (known .next) (d .run) (known .read) in
-            let e : d .run .bytes ≡ bytes-at (256 * b) (256 * size) area = w .bytes ∙ rw (own .0, own .1) in
-            rw (part-same area b size (own .2), ← e) (w .read)
-
-    -- its blocks lie inside the data area
-    pub blocks-inside : NumbersWithin D index 0 n → size ≤ D - b → b + size ≤ D
-    blocks-inside all-numbers p =
-        let e : suc (n - 1) ≡ n = omega arith in
-        let w : NumbersWithin D index (c .at) (c .left) = rw concerned (concerned-rule (below-of 0) index h 0 (n - 1) (λ at left. NumbersWithin D index at left)
-        (subst (λ (k : ℕ). NumbersWithin D index 0 k) (sym e) all-numbers) (λ at k v low. v .1)) in
-        omega (arith, first-within (c .at) (c .left) some-left w)
-      where
-        first-within : (at left : ℕ) → 1 ≤ left → NumbersWithin D index at left → from-little-endian (bytes-at at 2 index) ≤ D
-        first-within at zero q v = absurd (omega arith)
-        first-within at (suc k) q v = v .0
+            let e : d .run .bytes ≡ bytes-at (256 * b) (256 * blocks) area = told .bytes ∙ rw (own-block rs read, same) in
+            rw (part-same area b blocks some, ← e) (told .read)
 
   -- its element ends inside the index
-  pub end-inside : (end : ℕ) → end ≡ element-end index (c .at) → end + 1 ≤ length index
-  end-inside end e = omega (arith, inside-end index (c .at) (c .left) (inside-parts .1) some-left)
+  pub end-inside : (end : ℕ) → end ≡ element-end width index (c .at) → end + 1 ≤ length index
+  end-inside end e = omega (arith, inside-end width index (c .at) (c .left) (inside-parts .1) some-left)
 
--- every need of find_run but what is told of the run concerned
-pub ruleset run-laws = (told-none, left-fewer, after-fewer, others-fewer, blocks-inside, end-inside, inside-start, needs)
+-- the numbers of find_run
+pub ruleset run-laws = (left-fewer, after-fewer, others-fewer, end-inside, inside-start, needs)
 
 -- ---- for the crates above
--- the numbers of elements whose runs can be read are those of data blocks
-pub numbers-within : (below : HeadwordOrder) (D : ℕ) (area index : List ℕ) (at n : ℕ) (rs : List Run) → runs-from below D area (elements-at index at n) ≡ ok rs → NumbersWithin D index at n
-unfolding Elements.elements-at Elements.element-at
-numbers-within below D area index at zero rs h = tt
-numbers-within below D area index at (suc n) rs h =
-    let (r, qs, p, u, k) = runs-first below D area (element-at index at) (elements-at index (element-end index at + 1) n) rs h in
-    let t = run-told below D area (element-at index at) (next-headword (elements-at index (element-end index at + 1) n)) r u in
-    (omega (arith, t .block, t .inside), numbers-within below D area index (element-end index at + 1) n qs k)
-
 -- the blocks of runs taken apart at one
 blocks-beside : (x : List Run) (r : Run) (y : List Run) → run-blocks (x ++ r ∷ y) ≡ run-blocks (x ++ y) + r .size
 unfolding run-blocks
 blocks-beside [] r y = omega arith
 blocks-beside (q ∷ x) r y = omega (arith, blocks-beside x r y)
 
-module _ (index area : List ℕ) (n : ℕ) (h : List ℕ) (rs : List Run) (t : Target) (told : TargetTold index area n h rs t) where
+module _ (width order : ℕ) (index area : List ℕ) (elements : ℕ) (h : List ℕ) (rs : List Run) (t : Target) (told : TargetTold width order index area elements h rs t) where
   -- so many runs stand before the run concerned
-  pub told-before : length (target-run (below-of 0) h rs .before) ≡ t .before
-  told-before = sym (length-map (target-run (below-of 0) h rs .before) element-of) ∙ ap length (sym (told .before)) ∙ elements-count index 0 (t .before)
+  pub told-before : length (target-run (below-of order) h rs .before) ≡ t .before
+  told-before = sym (length-map (target-run (below-of order) h rs .before) element-of) ∙ ap length (sym (told .before)) ∙ elements-count width index 0 (t .before)
 
   -- and so many behind it
-  pub told-after : length (target-run (below-of 0) h rs .after) ≡ t .after
-  told-after = sym (length-map (target-run (below-of 0) h rs .after) element-of) ∙ ap length (sym (told .after)) ∙ elements-count index (t .end) (t .after)
+  pub told-after : length (target-run (below-of order) h rs .after) ≡ t .after
+  told-after = sym (length-map (target-run (below-of order) h rs .after) element-of) ∙ ap length (sym (told .after)) ∙ elements-count width index (t .end) (t .after)
 
   -- the blocks of all runs are those of the others and its own
-  pub told-blocks : run-blocks rs ≡ run-blocks (target-run (below-of 0) h rs .before ++ target-run (below-of 0) h rs .after) + t .size
+  pub told-blocks : run-blocks rs ≡ run-blocks (target-run (below-of order) h rs .before ++ target-run (below-of order) h rs .after) + t .size
   unfolding run-blocks
-  told-blocks = go (target-run (below-of 0) h rs) (told .run)
+  told-blocks = go (target-run (below-of order) h rs) (told .run)
     where
-      go : (c : Place.Target) → NoRun area rs c t ⊎ OneRun area rs c t → run-blocks rs ≡ run-blocks (c .before ++ c .after) + t .size
+      go : (c : Place.Target) → NoRun area rs c t ⊎ OneRun order area rs c t → run-blocks rs ≡ run-blocks (c .before ++ c .after) + t .size
       go c (inl v) = rw (v .none, v .before, v .after, v .size)
       go c (inr v) = ap run-blocks (v .among) ∙ blocks-beside (c .before) (v .run) (c .after) ∙ rw (v .size)

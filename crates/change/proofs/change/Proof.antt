@@ -1,12 +1,15 @@
 -- `change` meets its contract.
-use mathlib.Core.Path.{refl}
+use mathlib.Core.Path.{_≡_, refl, ap, _∙_}
+use mathlib.Core.Bool.{true}
 use mathlib.Core.List.{[]}
 use native.Mathlib.Omega.{arith}
-use lib.ListN.{take}
+use lib.ListN.{length, take}
 use Rattle.marks.specs.Marks.{marks}
-use Rattle.inspect.proofs.Accepted.{accepted-blocks}
+use Rattle.marks.proofs.Laws.{length-marks, length-range}
+use Rattle.inspect.proofs.Accepted.{accepted-few, accepted-blocks}
+use Rattle.change.specs.Ready.{old-length}
 use Rattle.change.specs.Drafted.{Begun}
-use Rattle.change.proofs.FinishLaws.{accepted-few, change-index, begins, still-ready}
+use Rattle.change.proofs.FinishLaws.{marks-long, change-index, begins, still-ready}
 use borrow.Author.Needs.{needs}
 use Rattle.change.proofs.change.Statement.{statement}
 use Rattle.change.proofs.change.Tie as tie
@@ -23,19 +26,30 @@ start c = start-place
 
 -- the change can begin then
 begun : (c : tie.After-mark-range)
-    → Begun (take (start c .args .len) (start c .args .image .now)) (start c .args .p .n) (start c .args .p .d) (start c .args .p)
-    (marks (c .mark-range .last .0))
-    (start c .args .h .now) (start c .args .body .now) (start c .args .fresh) (start c .args .words)
+    → Begun (take (old-length (start c .args .p .old)) (start c .args .image .now)) (start c .args .p) (marks (c .mark-range .last .0)) (start c .args .h .now) (start c .args .body .now)
+    (start c .args .words)
 begun c =
     let a = start c .args in
     let p = start c .pre in
-    begins (a .image .now) (a .len) (a .p .n) (a .p .d) (a .h .now) (a .body .now) (a .fresh) (a .words) (a .p) _ _
-    (p .1 .0 .0) (p .1 .0 .1) (p .0) (p .1 .1 .0) (p .1 .1 .1 .1) (c .mark-range .ensures) (c .before .before .if1 .left) (p .1 .1 .1 .0 .0) (p .1 .1 .1 .0 .1)
+    begins (a .image .now) (a .h .now) (a .body .now) (a .words) (a .p) (marks (a .free .now)) (marks (c .mark-range .last .0))
+    (p .1 .0 .0) (p .0) (p .1 .1 .0) (p .1 .1 .1 .1) (c .mark-range .ensures)
+    (omega (arith, accepted-blocks _ _ (p .0 .accepted), length-marks (a .free .now), p .1 .0 .2)) (few .if1 .left) (p .1 .1 .1 .0 .0) (p .1 .1 .1 .0 .1)
+  where
+    few : tie.Else1
+    few = search
+
+-- the marks are still as many
+long : (c : tie.After-mark-range) → length (marks (c .mark-range .last .0)) ≡ 163_840
+long c =
+    let a = start c .args in
+    let p = start c .pre in
+    let m = marks-long (a .free .now) (p .1 .0 .2) in
+    ap length (c .mark-range .ensures) ∙ length-range _ _ true (marks (a .free .now)) (omega (arith, m, p .0 .inside, accepted-blocks _ _ (p .0 .accepted))) ∙ m
 
 add-if1 : tie.Need-add-if1
 add-if1 c =
     let k = start-place .pre .0 in
-    omega (arith, accepted-few _ _ _ (k .accepted), k .growth-few)
+    omega (arith, accepted-few _ _ (k .accepted), k .growth-few)
   where
     start-place : tie.Start
     start-place = search
@@ -43,7 +57,7 @@ add-if1 c =
 returns : tie.Need-returns
 returns c =
     let a = start-place .args in
-    (change-index (a .image .now) (a .len) _ _ _ _ _ (a .p) (start-place .pre .0) (c .if1 .taken), (refl, refl))
+    (change-index (a .image .now) (old-length (a .p .old)) _ _ (a .p) (start-place .pre .0) (c .if1 .taken), (refl, refl))
   where
     start-place : tie.Start
     start-place = search
@@ -51,7 +65,7 @@ returns c =
 mark-range-requires : tie.Need-mark-range-requires
 mark-range-requires c κs =
     let p = start-place .pre in
-    omega (arith, p .0 .inside, accepted-blocks _ _ _ (p .0 .accepted), p .1 .0 .3)
+    omega (arith, p .0 .inside, accepted-blocks _ _ (p .0 .accepted), p .1 .0 .2)
   where
     start-place : tie.Start
     start-place = search
@@ -59,7 +73,7 @@ mark-range-requires c κs =
 grow-requires : tie.Need-grow-requires
 grow-requires c κs =
     let p = start-place .pre in
-    (begun after-mark-range, (then2 .if2 .taken, p .1 .0 .0, p .1 .0 .2, search needs))
+    (begun after-mark-range, (then2 .if2 .taken, p .1 .0 .0, p .1 .0 .1, search needs))
   where
     then2 : tie.Then2
     then2 = search
@@ -88,7 +102,7 @@ returns-2 c = search needs
 keep-requires : tie.Need-keep-requires
 keep-requires c κs =
     let p = start freed .pre in
-    (still-ready _ _ _ _ _ _ _ _ _ (begun freed) [] (omega (arith, kept .if2 .left)), (refl, p .1 .0 .0, p .1 .0 .2, search needs))
+    (still-ready _ (start freed .args .p) _ _ _ _ (begun freed) (long freed) [] (omega (arith, kept .if2 .left)), (refl, p .1 .0 .0, p .1 .0 .1, search needs))
   where
     kept : tie.Else2
     kept = search

@@ -35,7 +35,7 @@ returns c =
     let b = after-note-starts2 .note-starts2 .ensures in
     let f = after-free-moved .free-moved .ensures in
     let m = after-place-moved .place-moved .ensures in
-    (displaced _ _ _ _ (start .args .t) _ _ _ _ _ _ _ _ _ (a .0) (b .0) (f .0) (after-larger .larger .ensures) (m .0) (m .1 .0), (omega arith, omega arith))
+    (displaced (start .args .old) _ _ _ (start .args .t) _ _ _ _ _ _ _ _ _ (a .0) (b .0) (f .0) (after-larger .larger .ensures) (m .0) (m .1 .0), (omega arith, omega arith))
   where
     after-place-moved : tie.After-place-moved
     after-place-moved = search

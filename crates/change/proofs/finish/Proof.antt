@@ -1,41 +1,110 @@
 -- `finish` meets its contract.
-use mathlib.Core.Path.{_≡_, refl, sym}
+use mathlib.Core.Path.{_≡_, refl, sym, _∙_}
+use mathlib.Core.List.{List}
+use Prim.Native.Nat.{ℕ, _+_, _*_, _≤_}
 use native.Mathlib.Omega.{arith}
-use lib.ListN.{take}
+use lib.ListN.{length, take}
 use lib.Seq.{length-take-le}
+use Rattle.marks.specs.Marks.{marks}
+use Rattle.header.specs.Form.{area-start}
 use Rattle.parts.proofs.PartLaws.{copied-front}
+use Rattle.change.specs.declared.Outline.{Outline}
+use Rattle.change.specs.Ready.{laid-parts, old-length, Ready, Roomy}
 use Rattle.change.proofs.Laws.{run-few}
-use Rattle.change.proofs.FinishLaws.{marks-long, end-behind, finish-blocks, finish-length, copy-ready, copy-roomy, copy-last, finish-done}
+use Rattle.change.proofs.AreasLaws.{rest-asks, all-written}
+use Rattle.change.proofs.FinishLaws.{marks-long, end-behind, ready-form, ready-few, finish-blocks, finish-length, copy-ready, copy-roomy, copy-last, finish-done}
 use borrow.Author.Needs.{needs}
 use Rattle.change.proofs.finish.Statement.{statement}
 use Rattle.change.proofs.finish.Tie as tie
 
--- the start, from where the slice is known to be long enough
-abbrev begun : tie.Else2 → tie.Start
-begun c = start
+-- the start, from where the end of the blocks is known
+abbrev start-of : tie.After-plan-end → tie.Start
+start-of c = search
+
+-- what is known when the old image is copied
+module _ (c : tie.After-copy) where
+  abbrev roomy : tie.Else2
+  roomy = search c
+
+  abbrev few : tie.Else1
+  few = search roomy
+
+  abbrev ended : tie.After-plan-end
+  ended = search few
+
+  abbrev begun : tie.Start
+  begun = start-of ended
+
+  abbrev image : List ℕ
+  image = begun .args .image .now
+
+  abbrev v : Outline
+  v = begun .args .v
+
+  abbrev copy : List ℕ
+  copy = take (old-length (v .old)) (c .copy .last .0)
+
+  -- the working slice begins with the image
+  copied : copy ≡ take (old-length (v .old)) image
+  copied = copied-front image (begun .args .work .now) (c .copy .last .0) (old-length (v .old)) (c .copy .ensures .0) (begun .pre .1 .0)
+
+  -- the slice is long enough
+  fits : area-start (v .old .form) (v .old .n) + 256 * ended .plan-end .result ≤ length image
+  fits = omega (arith, roomy .if2 .left, begun .pre .1 .0)
+
+  -- from there the change is ready
+  ready : Ready copy v (begun .args .numbers .now) (marks (begun .args .free .now)) (begun .args .h .now) (begun .args .body .now)
+  ready =
+      copy-ready image (old-length (v .old)) v _ _ _ _ (begun .pre .0) _ (ended .plan-end .ensures .0) (marks-long _ (begun .pre .1 .2)) (few .if1 .left) fits
+      (begun .pre .1 .0) copy copied
+
+  -- and there is room
+  room : Roomy image copy v (marks (begun .args .free .now)) (begun .args .h .now) (begun .args .body .now)
+  room =
+      copy-roomy image (old-length (v .old)) v _ _ _ _ (begun .pre .0) _ (ended .plan-end .ensures .0) (marks-long _ (begun .pre .1 .2)) (few .if1 .left) fits
+      (begun .pre .1 .0) copy copied
+
+  -- the blocks end there
+  last-is : ended .plan-end .result ≡ laid-parts copy v (marks (begun .args .free .now)) (begun .args .h .now) (begun .args .body .now) .end
+  last-is =
+      copy-last image (old-length (v .old)) v _ _ _ _ (begun .pre .0) _ (ended .plan-end .ensures .0) (marks-long _ (begun .pre .1 .2)) (few .if1 .left) fits
+      (begun .pre .1 .0) copy copied
+
+add-start : tie.Need-add-start
+add-start c = omega (arith, start .pre .0 .few-index, ready-few _ _ _ _ _ _ (start .pre .0), ready-form _ _ _ _ _ _ (start .pre .0))
   where
-    after-shared-slice-known3 : tie.After-shared-slice-known3
-    after-shared-slice-known3 = search
-
     start : tie.Start
-    start = search after-shared-slice-known3
+    start = search
 
--- what stands before the copy
-abbrev roomy : tie.After-copy → tie.Else2
-roomy c = search
-
--- the working slice then begins with the image
-copied : (c : tie.After-copy) → take (begun (roomy c) .args .len) (c .copy .last .0) ≡ take (begun (roomy c) .args .len) (begun (roomy c) .args .image .now)
-copied c = copied-front (start .args .image .now) (start .args .work .now) (c .copy .last .0) (start .args .len) (c .copy .ensures .0) (start .pre .1 .0)
+mul-start : tie.Need-mul-start
+mul-start c = omega (arith, start .pre .0 .few-index, ready-few _ _ _ _ _ _ (start .pre .0), ready-form _ _ _ _ _ _ (start .pre .0))
   where
-    after-plan-end-arg2 : tie.After-plan-end-arg2
-    after-plan-end-arg2 = search
-
     start : tie.Start
-    start = search after-plan-end-arg2
+    start = search
+
+add-start-2 : tie.Need-add-start-2
+add-start-2 c = omega (arith, start .pre .0 .few-index, ready-few _ _ _ _ _ _ (start .pre .0), ready-form _ _ _ _ _ _ (start .pre .0))
+  where
+    start : tie.Start
+    start = search
+
+mul-len : tie.Need-mul-len
+mul-len c = omega (arith, start .pre .0 .few-index, ready-few _ _ _ _ _ _ (start .pre .0), ready-form _ _ _ _ _ _ (start .pre .0))
+  where
+    start : tie.Start
+    start = search
+
+add-len : tie.Need-add-len
+add-len c = omega (arith, start .pre .0 .few-index, ready-few _ _ _ _ _ _ (start .pre .0), ready-form _ _ _ _ _ _ (start .pre .0))
+  where
+    start : tie.Start
+    start = search
 
 slice-reshare-prefix-plan-end : tie.Need-slice-reshare-prefix-plan-end
-slice-reshare-prefix-plan-end c = search needs
+slice-reshare-prefix-plan-end c = omega (arith, start .pre .1 .0)
+  where
+    start : tie.Start
+    start = search
 
 slice-aggregate-plan-end : tie.Need-slice-aggregate-plan-end
 slice-aggregate-plan-end c = sym (length-take-le _ _ (start .pre .1 .0))
@@ -46,8 +115,8 @@ slice-aggregate-plan-end c = sym (length-take-le _ _ (start .pre .1 .0))
 plan-end-requires : tie.Need-plan-end-requires
 plan-end-requires c κs =
     let r = start .pre .0 in (
-      (r .whole, r .inside, run-few _ _ _ _ _ _ _ _ r, r .few-blocks),
-      ((end-behind _ _ _ _ _ _ _ _ r, r .end-few, r .few-index, start .pre .1 .2), (r .headword, r .body-short)),
+      (ready-form _ _ _ _ _ _ r, r .whole, ready-few _ _ _ _ _ _ r),
+      ((r .inside, run-few _ _ _ _ _ _ r), ((end-behind _ _ _ _ _ _ r, r .end-few, r .few-index, start .pre .1 .2), (r .headword, r .body-short))),
     )
   where
     start : tie.Start
@@ -70,7 +139,7 @@ same-length-2 c = search needs
 
 returns : tie.Need-returns
 returns c = (
-  finish-blocks (start .args .image .now) (start .args .len) _ _ _ _ _ _ _ (start .pre .0) _ (after-plan-end .plan-end .ensures .0)
+  finish-blocks (start .args .image .now) (old-length (start .args .v .old)) (start .args .v) _ _ _ _ (start .pre .0) _ (after-plan-end .plan-end .ensures .0)
       (marks-long _ (start .pre .1 .2)) (c .if1 .taken),
   (refl, refl),
 )
@@ -78,47 +147,26 @@ returns c = (
     after-plan-end : tie.After-plan-end
     after-plan-end = search
 
-    after-slice-known3 : tie.After-slice-known3
-    after-slice-known3 = search after-plan-end
-
     start : tie.Start
-    start = search after-slice-known3
+    start = start-of after-plan-end
 
 mul-size : tie.Need-mul-size
-mul-size c = omega (arith, start .pre .0 .few-index)
+mul-size c = omega (arith, start .pre .0 .few-index, ready-form _ _ _ _ _ _ (start .pre .0))
   where
-    after-shared-slice-known3 : tie.After-shared-slice-known3
-    after-shared-slice-known3 = search
+    after-plan-end : tie.After-plan-end
+    after-plan-end = search
 
     start : tie.Start
-    start = search after-shared-slice-known3
+    start = start-of after-plan-end
 
 add-size : tie.Need-add-size
-add-size c = omega (arith, start .pre .0 .few-index)
-  where
-    after-shared-slice-known3 : tie.After-shared-slice-known3
-    after-shared-slice-known3 = search
-
-    start : tie.Start
-    start = search after-shared-slice-known3
-
-mul-size-2 : tie.Need-mul-size-2
-mul-size-2 c = omega (arith, after-plan-end .plan-end .ensures .1)
+add-size c = omega (arith, start .pre .0 .few-index, ready-form _ _ _ _ _ _ (start .pre .0))
   where
     after-plan-end : tie.After-plan-end
     after-plan-end = search
 
-add-size-2 : tie.Need-add-size-2
-add-size-2 c = omega (arith, start .pre .0 .few-index, after-plan-end .plan-end .ensures .1)
-  where
-    after-plan-end : tie.After-plan-end
-    after-plan-end = search
-
-    after-slice-known3 : tie.After-slice-known3
-    after-slice-known3 = search after-plan-end
-
     start : tie.Start
-    start = search after-slice-known3
+    start = start-of after-plan-end
 
 same-length-3 : tie.Need-same-length-3
 same-length-3 c = search needs
@@ -128,7 +176,7 @@ same-length-4 c = search needs
 
 returns-2 : tie.Need-returns-2
 returns-2 c = (
-  finish-length (start .args .image .now) (start .args .len) _ _ _ _ _ _ _ (start .pre .0) _ (after-plan-end .plan-end .ensures .0)
+  finish-length (start .args .image .now) (old-length (start .args .v .old)) (start .args .v) _ _ _ _ (start .pre .0) _ (after-plan-end .plan-end .ensures .0)
       (marks-long _ (start .pre .1 .2)) (else1 .if1 .left) (c .if2 .taken),
   (refl, refl),
 )
@@ -139,65 +187,64 @@ returns-2 c = (
     after-plan-end : tie.After-plan-end
     after-plan-end = search else1
 
-    after-slice-known3 : tie.After-slice-known3
-    after-slice-known3 = search after-plan-end
-
     start : tie.Start
-    start = search after-slice-known3
+    start = start-of after-plan-end
 
 copy-requires : tie.Need-copy-requires
-copy-requires c κs = search needs
-
-slice-reshare-prefix-write-change : tie.Need-slice-reshare-prefix-write-change
-slice-reshare-prefix-write-change c = search needs
-
-slice-aggregate-write-change : tie.Need-slice-aggregate-write-change
-slice-aggregate-write-change c =
-    let p = start .pre in
-    sym (length-take-le _ _ (omega (arith, after-copy .copy .ensures .1, p .1 .0, p .1 .1)))
+copy-requires c κs = omega (arith, start .pre .1)
   where
-    after-copy : tie.After-copy
-    after-copy = search
-
-    after-plan-end-arg2 : tie.After-plan-end-arg2
-    after-plan-end-arg2 = search after-copy
-
-    start : tie.Start
-    start = search after-plan-end-arg2
-
-write-change-requires : tie.Need-write-change-requires
-write-change-requires c κs =
-    let e = copied after-copy in
-    let s = start .args .image .now in
-    let L = start .args .len in
-    let p = start .pre in
-    let a = after-plan-end .plan-end .ensures .0 in
-    let l = marks-long _ (p .1 .2) in
-    let f = else1 .if1 .left in (
-      copy-ready s L _ _ _ _ _ _ _ (p .0) _ a l f (else2 .if2 .left) (p .1 .0) _ e,
-      (
-        copy-roomy s L _ _ _ _ _ _ _ (p .0) _ a l f (else2 .if2 .left) (p .1 .0) _ e,
-        (copy-last s L _ _ _ _ _ _ _ (p .0) _ a l f (else2 .if2 .left) (p .1 .0) _ e, p .1 .2),
-      ),
-    )
-  where
-    after-copy : tie.After-copy
-    after-copy = search
-
-    else2 : tie.Else2
-    else2 = search after-copy
-
-    else1 : tie.Else1
-    else1 = search else2
-
     after-plan-end : tie.After-plan-end
-    after-plan-end = search else1
-
-    after-slice-known3 : tie.After-slice-known3
-    after-slice-known3 = search after-plan-end
+    after-plan-end = search
 
     start : tie.Start
-    start = search after-slice-known3
+    start = start-of after-plan-end
+
+slice-reshare-prefix-write-areas : tie.Need-slice-reshare-prefix-write-areas
+slice-reshare-prefix-write-areas c = omega (arith, begun after-copy .pre .1, after-copy .copy .ensures .1)
+  where
+    after-copy : tie.After-copy
+    after-copy = search
+
+slice-aggregate-write-areas : tie.Need-slice-aggregate-write-areas
+slice-aggregate-write-areas c = sym (length-take-le _ _ (omega (arith, begun after-copy .pre .1, after-copy .copy .ensures .1)))
+  where
+    after-copy : tie.After-copy
+    after-copy = search
+
+write-areas-requires : tie.Need-write-areas-requires
+write-areas-requires c κs = (ready after-copy, room after-copy)
+  where
+    after-copy : tie.After-copy
+    after-copy = search
+
+mul-write-rest : tie.Need-mul-write-rest
+mul-write-rest c = omega (arith, begun after-copy .pre .0 .few-index, ready-form _ _ _ _ _ _ (begun after-copy .pre .0))
+  where
+    after-write-areas : tie.After-write-areas
+    after-write-areas = search
+
+    after-copy : tie.After-copy
+    after-copy = search after-write-areas
+
+add-write-rest : tie.Need-add-write-rest
+add-write-rest c = omega (arith, begun after-copy .pre .0 .few-index, ready-form _ _ _ _ _ _ (begun after-copy .pre .0))
+  where
+    after-write-areas : tie.After-write-areas
+    after-write-areas = search
+
+    after-copy : tie.After-copy
+    after-copy = search after-write-areas
+
+write-rest-requires : tie.Need-write-rest-requires
+write-rest-requires c κs =
+    let e = after-write-areas .write-areas .ensures in
+    rest-asks _ (v after-copy) _ _ _ _ (ready after-copy) _ (room after-copy) _ _ (e .1 .1 .0) (last-is after-copy) _ (e .1 .1 .1)
+  where
+    after-write-areas : tie.After-write-areas
+    after-write-areas = search
+
+    after-copy : tie.After-copy
+    after-copy = search after-write-areas
 
 same-length-5 : tie.Need-same-length-5
 same-length-5 c = search needs
@@ -210,41 +257,33 @@ same-length-7 c = search needs
 
 returns-3 : tie.Need-returns-3
 returns-3 c =
-    let s = start .args .image .now in
-    let p = start .pre in
-    let a = after-plan-end .plan-end .ensures .0 in
-    let l = marks-long _ (p .1 .2) in
-    let f = else1 .if1 .left in (
-      finish-done s (start .args .len) _ _ _ _ _ _ _ (p .0) _ a l f (else2 .if2 .left) (p .1 .0)
-          _ (copied after-copy) _ (after-write-change .write-change .ensures .0),
-      (after-write-change .write-change .ensures .1, after-copy .copy .ensures .1),
+    let p = begun after-copy .pre in
+    let e = after-write-areas .write-areas .ensures in
+    let f = after-write-rest .write-rest .ensures in
+    let w = all-written _ (v after-copy) _ _ _ _ (ready after-copy) _ (room after-copy) _ _ _ _ (e .0) (e .1 .0) (last-is after-copy) (f .0) in (
+      finish-done (image after-copy) _ (v after-copy) _ _ _ _ (p .0) _ (ended after-copy .plan-end .ensures .0) (marks-long _ (p .1 .2)) (few after-copy .if1 .left) (fits after-copy)
+          (p .1 .0) _ (copied after-copy) _ w,
+      (f .1 ∙ e .1 .1 .0, after-copy .copy .ensures .1),
     )
   where
-    after-write-change : tie.After-write-change
-    after-write-change = search
+    after-write-rest : tie.After-write-rest
+    after-write-rest = search
+
+    after-write-areas : tie.After-write-areas
+    after-write-areas = search after-write-rest
 
     after-copy : tie.After-copy
-    after-copy = search after-write-change
-
-    else2 : tie.Else2
-    else2 = search after-copy
-
-    else1 : tie.Else1
-    else1 = search else2
-
-    after-plan-end : tie.After-plan-end
-    after-plan-end = search else1
-
-    after-slice-known3 : tie.After-slice-known3
-    after-slice-known3 = search after-plan-end
-
-    start : tie.Start
-    start = search after-slice-known3
+    after-copy = search after-write-areas
 
 pub finish-spec : {M : Type 1} → statement M
 finish-spec =
     tie.close
     (tie.spec
+    add-start
+    mul-start
+    add-start-2
+    mul-len
+    add-len
     slice-reshare-prefix-plan-end
     slice-aggregate-plan-end
     plan-end-requires
@@ -254,15 +293,16 @@ finish-spec =
     returns
     mul-size
     add-size
-    mul-size-2
-    add-size-2
     same-length-3
     same-length-4
     returns-2
     copy-requires
-    slice-reshare-prefix-write-change
-    slice-aggregate-write-change
-    write-change-requires
+    slice-reshare-prefix-write-areas
+    slice-aggregate-write-areas
+    write-areas-requires
+    mul-write-rest
+    add-write-rest
+    write-rest-requires
     same-length-5
     same-length-6
     same-length-7

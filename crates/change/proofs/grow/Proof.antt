@@ -1,13 +1,16 @@
 -- `grow` meets its contract.
-use mathlib.Core.Path.{refl, sym, _∙_}
+use mathlib.Core.Path.{refl, _∙_}
 use Prim.Native.Nat.{ℕ}
 use native.Mathlib.Omega.{arith}
 use lib.ListN.{length-replicate}
-use lib.Seq.{length-take-le}
-use Rattle.change.proofs.FinishLaws.{told-here, few, area-long, grow-full, grow-ready}
+use Rattle.change.specs.Ready.{old-length}
+use Rattle.change.proofs.FinishLaws.{marks-long, told-here, good-here, few, area-long, grow-full, grow-ready}
 use borrow.Author.Needs.{needs}
 use Rattle.change.proofs.grow.Statement.{statement}
 use Rattle.change.proofs.grow.Tie as tie
+
+add-front : tie.Need-add-front
+add-front c = search needs
 
 mul-start : tie.Need-mul-start
 mul-start c = search needs
@@ -15,14 +18,17 @@ mul-start c = search needs
 add-start : tie.Need-add-start
 add-start c = search needs
 
-slice-reshare-prefix-old : tie.Need-slice-reshare-prefix-old
-slice-reshare-prefix-old c = search needs
+mul-before : tie.Need-mul-before
+mul-before c = search needs
 
-slice-aggregate-old : tie.Need-slice-aggregate-old
-slice-aggregate-old c = sym (length-take-le _ _ (start .pre .1 .1))
-  where
-    start : tie.Start
-    start = search
+add-before : tie.Need-add-before
+add-before c = search needs
+
+slice-reshare-prefix-before : tie.Need-slice-reshare-prefix-before
+slice-reshare-prefix-before c = search needs
+
+slice-aggregate-before : tie.Need-slice-aggregate-before
+slice-aggregate-before c = search needs
 
 sub-displace : tie.Need-sub-displace
 sub-displace c = search needs
@@ -49,9 +55,12 @@ displace-requires : tie.Need-displace-requires
 displace-requires c κs =
     let p = start .pre in
     let b = p .0 in
-    let t = told-here _ _ _ _ _ _ _ _ _ b in
-    let l = length-replicate {A = ℕ} 32768 0 in
-    (t .before-inside, (t .after-inside, (area-long _ _ _ _ _ _ _ _ _ b, few _ _ _ _ _ _ _ _ _ b, omega (arith, b .few-index), l, p .1 .3)))
+    let k = marks-long _ (p .1 .3) in
+    let t = told-here _ _ _ _ _ _ b k in
+    let l = length-replicate {A = ℕ} 32768 0 in (
+      (good-here _ _ _ _ _ _ b k, t .before-inside),
+      (t .after-inside, (area-long _ _ _ _ _ _ b k, few _ _ _ _ _ _ b k, omega (arith, b .few-index), l, p .1 .3)),
+    )
   where
     after-old : tie.After-old
     after-old = search
@@ -62,11 +71,14 @@ displace-requires c κs =
 add-if1 : tie.Need-add-if1
 add-if1 c = omega (arith, start .pre .0 .few-index)
   where
-    after-displace-arg : tie.After-displace-arg
-    after-displace-arg = search
+    after-displace : tie.After-displace
+    after-displace = search
+
+    after-old : tie.After-old
+    after-old = search after-displace
 
     start : tie.Start
-    start = search after-displace-arg
+    start = search after-old
 
 same-length : tie.Need-same-length
 same-length c = search needs
@@ -77,7 +89,8 @@ same-length-2 c = search needs
 returns : tie.Need-returns
 returns c =
     let d = after-displace .displace .ensures in (
-      grow-full _ _ _ _ _ _ _ _ _ (start .pre .0) (start .pre .1 .0) _ _ _ (d .0) (start .args .image .now) (start .args .len) refl (c .if1 .taken),
+      grow-full _ (start .args .p) _ _ _ _ (start .pre .0) (marks-long _ (start .pre .1 .3)) (start .pre .1 .0) _ _ _ (d .0) (start .args .image .now)
+          (old-length (start .args .p .old)) refl (c .if1 .taken),
       (refl, refl),
     )
   where
@@ -99,7 +112,8 @@ finish-requires c κs =
     let b = p .0 in
     let d = after-displace .displace .ensures in
     let l = d .1 .0 ∙ length-replicate {A = ℕ} 32768 0 in (
-      grow-ready _ _ _ _ _ _ _ _ _ b (p .1 .0) _ _ _ (d .0) (else1 .if1 .left) (omega (arith, l, b .few-index)),
+      grow-ready _ (start .args .p) _ _ _ _ b (marks-long _ (p .1 .3)) (p .1 .0) _ _ _ (d .0) (else1 .if1 .left) (omega (arith, l, b .few-index))
+          (marks-long _ (d .1 .1 ∙ p .1 .3)),
       (p .1 .1, p .1 .2, d .1 .1 ∙ p .1 .3),
     )
   where
@@ -131,10 +145,13 @@ pub grow-spec : {M : Type 1} → statement M
 grow-spec =
     tie.close
     (tie.spec
+    add-front
     mul-start
     add-start
-    slice-reshare-prefix-old
-    slice-aggregate-old
+    mul-before
+    add-before
+    slice-reshare-prefix-before
+    slice-aggregate-before
     sub-displace
     part-displace-start
     part-displace-end

@@ -20,4 +20,9 @@ returns-3 : tie.Need-returns-3
 returns-3 c = search growth-more
 
 pub growth-spec : {M : Type 1} → statement M
-growth-spec = tie.close (tie.spec returns add-need returns-2 sub-result returns-3)
+growth-spec = tie.close (tie.spec
+    returns
+    add-need
+    returns-2
+    sub-result
+    returns-3)

@@ -2,15 +2,40 @@
 use mathlib.Core.Path.{refl, sym}
 use native.Mathlib.Omega.{arith}
 use lib.Seq.{length-take-le}
+use Rattle.change.specs.Ready.{old-length}
 use Rattle.change.proofs.Laws.{run-few}
-use Rattle.change.proofs.FinishLaws.{marks-long, end-behind, finish-blocks, finish-length, finish-done}
+use Rattle.change.proofs.FinishLaws.{marks-long, end-behind, ready-form, ready-few, finish-blocks, finish-length, finish-done}
 use Rattle.change.proofs.KeptLaws.{kept-rest, kept-written, kept-ready}
 use borrow.Author.Needs.{needs}
 use Rattle.change.proofs.keep.Statement.{statement}
 use Rattle.change.proofs.keep.Tie as tie
 
+add-start : tie.Need-add-start
+add-start c = search needs
+
+mul-start : tie.Need-mul-start
+mul-start c = search needs
+
+add-start-2 : tie.Need-add-start-2
+add-start-2 c = search needs
+
+mul-len : tie.Need-mul-len
+mul-len c = omega (arith, ready-few _ _ _ _ _ _ (start .pre .0))
+  where
+    start : tie.Start
+    start = search
+
+add-len : tie.Need-add-len
+add-len c = omega (arith, ready-few _ _ _ _ _ _ (start .pre .0), start .pre .0 .few-index, ready-form _ _ _ _ _ _ (start .pre .0) .2)
+  where
+    start : tie.Start
+    start = search
+
 slice-reshare-prefix-plan-end : tie.Need-slice-reshare-prefix-plan-end
-slice-reshare-prefix-plan-end c = search needs
+slice-reshare-prefix-plan-end c = omega (arith, start .pre .1 .1)
+  where
+    start : tie.Start
+    start = search
 
 slice-aggregate-plan-end : tie.Need-slice-aggregate-plan-end
 slice-aggregate-plan-end c = sym (length-take-le _ _ (start .pre .1 .1))
@@ -21,15 +46,24 @@ slice-aggregate-plan-end c = sym (length-take-le _ _ (start .pre .1 .1))
 plan-end-requires : tie.Need-plan-end-requires
 plan-end-requires c κs =
     let r = start .pre .0 in (
-      (r .whole, r .inside, run-few _ _ _ _ _ _ _ _ r, r .few-blocks),
-      ((end-behind _ _ _ _ _ _ _ _ r, r .end-few, r .few-index, start .pre .1 .3), (r .headword, r .body-short)),
+      (ready-form _ _ _ _ _ _ r, r .whole, ready-few _ _ _ _ _ _ r),
+      ((r .inside, run-few _ _ _ _ _ _ r), ((end-behind _ _ _ _ _ _ r, r .end-few, r .few-index, start .pre .1 .3), (r .headword, r .body-short))),
     )
   where
     start : tie.Start
     start = search
 
 add-if1 : tie.Need-add-if1
-add-if1 c = search needs
+add-if1 c = omega (arith, start .pre .0 .few-index)
+  where
+    measured : tie.After-plan-end
+    measured = search
+
+    lent : tie.After-plan-end-arg
+    lent = search measured
+
+    start : tie.Start
+    start = search lent
 
 same-length : tie.Need-same-length
 same-length c = search needs
@@ -39,8 +73,8 @@ same-length-2 c = search needs
 
 returns : tie.Need-returns
 returns c = (
-  finish-blocks (start .args .image .now) (start .args .len) _ _ _ _ _ _ _ (start .pre .0) _ (measured .plan-end .ensures .0) (marks-long _ (start .pre .1 .3))
-      (full .if1 .taken),
+  finish-blocks (start .args .image .now) (old-length (start .args .v .old)) (start .args .v) _ _ _ _ (start .pre .0)
+      _ (measured .plan-end .ensures .0) (marks-long _ (start .pre .1 .3)) (full .if1 .taken),
   (refl, refl),
 )
   where
@@ -50,20 +84,26 @@ returns c = (
     measured : tie.After-plan-end
     measured = search full
 
+    lent : tie.After-plan-end-arg
+    lent = search measured
+
     start : tie.Start
-    start = search measured
-
-mul-front : tie.Need-mul-front
-mul-front c = search needs
-
-add-front : tie.Need-add-front
-add-front c = search needs
+    start = search lent
 
 mul-new-len : tie.Need-mul-new-len
 mul-new-len c = search needs
 
 add-new-len : tie.Need-add-new-len
-add-new-len c = search needs
+add-new-len c = omega (arith, measured .plan-end .ensures .1, start .pre .0 .few-index, ready-form _ _ _ _ _ _ (start .pre .0) .2)
+  where
+    measured : tie.After-plan-end
+    measured = search
+
+    lent : tie.After-plan-end-arg
+    lent = search measured
+
+    start : tie.Start
+    start = search lent
 
 same-length-3 : tie.Need-same-length-3
 same-length-3 c = search needs
@@ -73,7 +113,7 @@ same-length-4 c = search needs
 
 returns-2 : tie.Need-returns-2
 returns-2 c = (
-  finish-length (start .args .image .now) (start .args .len) _ _ _ _ _ _ _ (start .pre .0)
+  finish-length (start .args .image .now) (old-length (start .args .v .old)) (start .args .v) _ _ _ _ (start .pre .0)
       _ (measured .plan-end .ensures .0) (marks-long _ (start .pre .1 .3)) (few .if1 .left) (full .if2 .taken),
   (refl, refl),
 )
@@ -87,14 +127,17 @@ returns-2 c = (
     measured : tie.After-plan-end
     measured = search few
 
+    lent : tie.After-plan-end-arg
+    lent = search measured
+
     start : tie.Start
-    start = search measured
+    start = search lent
 
 write-kept-requires : tie.Need-write-kept-requires
 write-kept-requires c κs =
-    let k = kept-ready (start .args .image .now) (start .args .len) _ _ _ _ _ _ _ (start .pre .0)
+    let k = kept-ready (start .args .image .now) _ _ _ _ _ (start .pre .0)
     _ (measured .plan-end .ensures .0) (start .pre .1 .3) (few .if1 .left) (roomy .if2 .left) (start .pre .1 .1) in
-    (k .0, (k .1, (start .pre .1 .0, start .pre .1 .2)))
+    (start .pre .0, (k .0, (start .pre .1 .0, start .pre .1 .2)))
   where
     roomy : tie.Else2
     roomy = search
@@ -105,14 +148,17 @@ write-kept-requires c κs =
     measured : tie.After-plan-end
     measured = search few
 
+    lent : tie.After-plan-end-arg
+    lent = search measured
+
     start : tie.Start
-    start = search measured
+    start = search lent
 
 write-rest-requires : tie.Need-write-rest-requires
 write-rest-requires c κs =
-    let k = kept-ready (start .args .image .now) (start .args .len) _ _ _ _ _ _ _ (start .pre .0)
+    let k = kept-ready (start .args .image .now) _ _ _ _ _ (start .pre .0)
     _ (measured .plan-end .ensures .0) (start .pre .1 .3) (few .if1 .left) (roomy .if2 .left) (start .pre .1 .1) in
-    kept-rest _ _ _ _ _ _ _ _ (k .0) _ (k .1) (start .pre .1 .0) _ (k .2) _ _ (areas .write-kept .ensures .1 .1 .0) (areas .write-kept .ensures .1 .1 .2)
+    kept-rest _ _ _ _ _ _ (start .pre .0) _ (k .0) (start .pre .1 .0) _ (k .1) _ _ (areas .write-kept .ensures .1 .1 .0) (areas .write-kept .ensures .1 .1 .2)
   where
     areas : tie.After-write-kept
     areas = search
@@ -126,8 +172,11 @@ write-rest-requires c κs =
     measured : tie.After-plan-end
     measured = search few
 
+    lent : tie.After-plan-end-arg
+    lent = search measured
+
     start : tie.Start
-    start = search measured
+    start = search lent
 
 same-length-5 : tie.Need-same-length-5
 same-length-5 c = search needs
@@ -140,13 +189,13 @@ same-length-7 c = search needs
 
 returns-3 : tie.Need-returns-3
 returns-3 c =
-    let k = kept-ready (start .args .image .now) (start .args .len) _ _ _ _ _ _ _ (start .pre .0)
+    let k = kept-ready (start .args .image .now) _ _ _ _ _ (start .pre .0)
     _ (measured .plan-end .ensures .0) (start .pre .1 .3) (few .if1 .left) (roomy .if2 .left) (start .pre .1 .1) in
-    let w = kept-written _ _ _ _ _ _ _ _ (k .0) _ (k .1) (start .pre .1 .0) _ (k .2) _ _ _ (written .write-kept .ensures .0)
+    let w = kept-written _ _ _ _ _ _ (start .pre .0) _ (k .0) (start .pre .1 .0) _ (k .1) _ _ _ (written .write-kept .ensures .0)
     (written .write-kept .ensures .1 .0) (sealed .write-rest .ensures .0) in (
-      finish-done (start .args .image .now) (start .args .len) _ _ _ _ _ _ _ (start .pre .0) _ (measured .plan-end .ensures .0)
+      finish-done (start .args .image .now) _ _ _ _ _ _ (start .pre .0) _ (measured .plan-end .ensures .0)
           (marks-long _ (start .pre .1 .3))
-          (few .if1 .left) (roomy .if2 .left) (start .pre .1 .1) _ (k .3) _ w,
+          (few .if1 .left) (roomy .if2 .left) (start .pre .1 .1) _ refl _ w,
       (omega (arith, sealed .write-rest .ensures .1, written .write-kept .ensures .1 .1 .0), written .write-kept .ensures .1 .1 .1),
     )
   where
@@ -165,13 +214,21 @@ returns-3 c =
     measured : tie.After-plan-end
     measured = search few
 
+    lent : tie.After-plan-end-arg
+    lent = search measured
+
     start : tie.Start
-    start = search measured
+    start = search lent
 
 pub keep-spec : {M : Type 1} → statement M
 keep-spec =
     tie.close
     (tie.spec
+    add-start
+    mul-start
+    add-start-2
+    mul-len
+    add-len
     slice-reshare-prefix-plan-end
     slice-aggregate-plan-end
     plan-end-requires
@@ -179,8 +236,6 @@ keep-spec =
     same-length
     same-length-2
     returns
-    mul-front
-    add-front
     mul-new-len
     add-new-len
     same-length-3

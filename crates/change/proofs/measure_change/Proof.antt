@@ -1,20 +1,27 @@
 -- `measure_change` meets its contract.
+use mathlib.Core.Path.{refl}
 use native.Mathlib.Omega.{arith}
 use Rattle.inspect.proofs.Accepted.{accepted-index, accepted-blocks, accepted-area, accepted-inside}
 use Rattle.change.proofs.Laws.{run-short}
-use Rattle.change.proofs.FinishLaws.{index-short, numbers-few, element-short, blocks-short, drafted}
+use Rattle.change.proofs.FinishLaws.{index-short, element-short, blocks-short, drafted}
 use borrow.Author.Needs.{needs}
 use Rattle.change.proofs.measure_change.Statement.{statement}
 use Rattle.change.proofs.measure_change.Tie as tie
 
+add-front : tie.Need-add-front
+add-front c = omega (arith, accepted-index _ _ (start .pre .0))
+  where
+    start : tie.Start
+    start = search
+
 mul-start : tie.Need-mul-start
-mul-start c = omega (arith, accepted-index _ _ _ (start .pre .0))
+mul-start c = omega (arith, accepted-index _ _ (start .pre .0))
   where
     start : tie.Start
     start = search
 
 add-start : tie.Need-add-start
-add-start c = omega (arith, accepted-index _ _ _ (start .pre .0))
+add-start c = omega (arith, accepted-index _ _ (start .pre .0))
   where
     start : tie.Start
     start = search
@@ -26,19 +33,19 @@ part-index-start : tie.Need-part-index-start
 part-index-start c = search needs
 
 part-index-end : tie.Need-part-index-end
-part-index-end c = accepted-index _ _ _ (start .pre .0)
+part-index-end c = accepted-index _ _ (start .pre .0)
   where
     start : tie.Start
     start = search
 
 sub-area : tie.Need-sub-area
-sub-area c = accepted-index _ _ _ (start .pre .0)
+sub-area c = accepted-index _ _ (start .pre .0)
   where
     start : tie.Start
     start = search
 
 part-area-start : tie.Need-part-area-start
-part-area-start c = accepted-index _ _ _ (start .pre .0)
+part-area-start c = accepted-index _ _ (start .pre .0)
   where
     start : tie.Start
     start = search
@@ -47,7 +54,7 @@ part-area-end : tie.Need-part-area-end
 part-area-end c = search needs
 
 nindex2-requires : tie.Need-nindex2-requires
-nindex2-requires c κs = omega (arith, accepted-index _ _ _ (start .pre .0))
+nindex2-requires c κs = omega (arith, accepted-index _ _ (start .pre .0))
   where
     start : tie.Start
     start = search
@@ -55,15 +62,15 @@ nindex2-requires c κs = omega (arith, accepted-index _ _ _ (start .pre .0))
 find-run-requires : tie.Need-find-run-requires
 find-run-requires c κs =
     let a = start .pre .0 in (
-      accepted-inside _ _ _ a _ (c .nindex2 .ensures .0),
-      (numbers-few _ _ _ a _ (c .nindex2 .ensures .0), (accepted-area _ _ _ a (start .pre .1 .0), accepted-blocks _ _ _ a)),
+      (a .good .0, accepted-inside _ _ a _ (c .nindex2 .ensures .0)),
+      (omega (arith, accepted-area _ _ a (start .pre .1 .0)), omega (arith, accepted-blocks _ _ a)),
     )
   where
     start : tie.Start
     start = search
 
 entries-start-requires : tie.Need-entries-start-requires
-entries-start-requires c κs = omega (arith, c .find-run .ensures .1 .0, accepted-blocks _ _ _ (start .pre .0))
+entries-start-requires c κs = omega (arith, c .find-run .ensures .1 .0, accepted-blocks _ _ (start .pre .0))
   where
     start : tie.Start
     start = search
@@ -72,13 +79,19 @@ add-measure : tie.Need-add-measure
 add-measure c = search needs
 
 mul-measure : tie.Need-mul-measure
-mul-measure c = omega (arith, after-find-run .find-run .ensures .1 .0, accepted-blocks _ _ _ (start .pre .0))
+mul-measure c = omega (arith, after-find-run .find-run .ensures .1 .0, accepted-blocks _ _ (start .pre .0))
   where
     after-find-run : tie.After-find-run
     after-find-run = search
 
+    counted : tie.After-nindex2
+    counted = search after-find-run
+
+    after-form : tie.After-form
+    after-form = search counted
+
     start : tie.Start
-    start = search after-find-run
+    start = search after-form
 
 sub-measure : tie.Need-sub-measure
 sub-measure c = search needs
@@ -87,17 +100,26 @@ part-measure-start : tie.Need-part-measure-start
 part-measure-start c = search needs
 
 part-measure-end : tie.Need-part-measure-end
-part-measure-end c = omega (arith, after-find-run .find-run .ensures .1 .0, accepted-area _ _ _ (start .pre .0) (start .pre .1 .0))
+part-measure-end c = omega (arith, after-find-run .find-run .ensures .1 .0, accepted-area _ _ (start .pre .0) (start .pre .1 .0))
   where
     after-find-run : tie.After-find-run
     after-find-run = search
 
+    counted : tie.After-nindex2
+    counted = search after-find-run
+
+    after-form : tie.After-form
+    after-form = search counted
+
     start : tie.Start
-    start = search after-find-run
+    start = search after-form
 
 measure-requires : tie.Need-measure-requires
 measure-requires c κs =
-    (start .pre .1 .1, start .pre .1 .2, run-short _ _ _ _ (after-entries-start .entries-start .ensures .0) (after-find-run .find-run .ensures .1 .1))
+    let good = start .pre .0 .good in (
+      (start .pre .1 .1, start .pre .1 .2, run-short _ _ _ _ (after-entries-start .entries-start .ensures .0) (after-find-run .find-run .ensures .1 .1)),
+      (good .0, omega (arith, good .1)),
+    )
   where
     after-entries-start : tie.After-entries-start
     after-entries-start = search
@@ -105,8 +127,14 @@ measure-requires c κs =
     after-find-run : tie.After-find-run
     after-find-run = search after-entries-start
 
+    counted : tie.After-nindex2
+    counted = search after-find-run
+
+    after-form : tie.After-form
+    after-form = search counted
+
     start : tie.Start
-    start = search after-find-run
+    start = search after-form
 
 add-count : tie.Need-add-count
 add-count c = search needs
@@ -129,7 +157,7 @@ sub-bytes : tie.Need-sub-bytes
 sub-bytes c = search needs
 
 sub-bytes-2 : tie.Need-sub-bytes-2
-sub-bytes-2 c = element-short _ _ _ (start .pre .0) _ (counted .nindex2 .ensures .0) _ _ (found .find-run .ensures .0) _ (start .pre .1 .3)
+sub-bytes-2 c = element-short _ _ (start .pre .0) _ (counted .nindex2 .ensures .0) _ _ (found .find-run .ensures .0)
   where
     found : tie.After-find-run
     found = search
@@ -137,13 +165,16 @@ sub-bytes-2 c = element-short _ _ _ (start .pre .0) _ (counted .nindex2 .ensures
     counted : tie.After-nindex2
     counted = search found
 
+    after-form : tie.After-form
+    after-form = search counted
+
     start : tie.Start
-    start = search counted
+    start = search after-form
 
 add-bytes : tie.Need-add-bytes
 add-bytes c =
     let m = measured .measure .ensures .1 .0 in
-    let i = index-short (start .args .old .now) (start .args .n) (start .args .d) (start .pre .0) _ (start .pre .1 .3) in
+    let i = index-short _ _ (start .pre .0) in
     omega (arith, m .1, i)
   where
     measured : tie.After-measure
@@ -152,13 +183,16 @@ add-bytes c =
     counted : tie.After-nindex2
     counted = search measured
 
+    after-form : tie.After-form
+    after-form = search counted
+
     start : tie.Start
-    start = search counted
+    start = search after-form
 
 growth-requires : tie.Need-growth-requires
 growth-requires c κs =
     let m = measured .measure .ensures .1 .0 in
-    let i = index-short (start .args .old .now) (start .args .n) (start .args .d) (start .pre .0) _ (start .pre .1 .3) in
+    let i = index-short _ _ (start .pre .0) in
     omega (arith, m .1, i)
   where
     measured : tie.After-measure
@@ -167,11 +201,14 @@ growth-requires c κs =
     counted : tie.After-nindex2
     counted = search measured
 
+    after-form : tie.After-form
+    after-form = search counted
+
     start : tie.Start
-    start = search counted
+    start = search after-form
 
 nblock2-requires : tie.Need-nblock2-requires
-nblock2-requires c κs = omega (arith, accepted-index _ _ _ (start .pre .0))
+nblock2-requires c κs = omega (arith, accepted-index _ _ (start .pre .0))
   where
     measured : tie.After-measure
     measured = search
@@ -179,11 +216,14 @@ nblock2-requires c κs = omega (arith, accepted-index _ _ _ (start .pre .0))
     counted : tie.After-nindex2
     counted = search measured
 
-    start : tie.Start
-    start = search counted
+    after-form : tie.After-form
+    after-form = search counted
 
-sub-t24 : tie.Need-sub-t24
-sub-t24 c = blocks-short _ _ _ (start .pre .0) _ (counted .nindex2 .ensures .0) _ _ (found .find-run .ensures .0) _ (held .nblock2 .ensures .0)
+    start : tie.Start
+    start = search after-form
+
+sub-blocks : tie.Need-sub-blocks
+sub-blocks c = blocks-short _ _ (start .pre .0) _ (counted .nindex2 .ensures .0) _ _ (found .find-run .ensures .0) _ (held .nblock2 .ensures .0)
   where
     held : tie.After-nblock2
     held = search
@@ -197,13 +237,14 @@ sub-t24 c = blocks-short _ _ _ (start .pre .0) _ (counted .nindex2 .ensures .0) 
     counted : tie.After-nindex2
     counted = search found
 
-    start : tie.Start
-    start = search counted
+    after-form : tie.After-form
+    after-form = search counted
 
-add-t27 : tie.Need-add-t27
-add-t27 c =
-    let m = measured .measure .ensures .1 .0 in
-    omega (arith, m .2, held .nblock2 .ensures .1)
+    start : tie.Start
+    start = search after-form
+
+add-blocks : tie.Need-add-blocks
+add-blocks c = omega (arith, held .nblock2 .ensures .1, measured .measure .ensures .1 .0 .2)
   where
     held : tie.After-nblock2
     held = search
@@ -214,11 +255,13 @@ add-t27 c =
 returns : tie.Need-returns
 returns c =
     let a = start .args in
-    let m = measured .measure .ensures in
-    drafted (a .old .now) (a .n) (a .d) (start .pre .0) _ (counted .nindex2 .ensures .0) (a .h .now) (found .find-run .result) (found .find-run .ensures .0)
-    (a .body .now) (a .fresh)
-    _ _ _ _ _ _ _ _ (found .find-run .ensures .1 .0) (begun .entries-start .ensures .0) (m .0) (start .pre .1 .3) (held .nblock2 .ensures .0)
-    (grown .growth .ensures) (m .1 .0 .1) (m .1 .1)
+    let m = measured .measure .ensures in (
+      refl,
+      refl,
+      drafted (a .image .now) (a .old) (start .pre .0) _ (counted .nindex2 .ensures .0) (a .h .now) (found .find-run .result) (found .find-run .ensures .0)
+          (a .body .now) (a .fresh) _ _ _ _ _ _ _ (found .find-run .ensures .1 .0) (begun .entries-start .ensures .0) (m .0) (held .nblock2 .ensures .0)
+          (grown .growth .ensures) (m .1 .0 .1) (m .1 .1),
+    )
   where
     held : tie.After-nblock2
     held = search
@@ -238,13 +281,17 @@ returns c =
     counted : tie.After-nindex2
     counted = search found
 
+    after-form : tie.After-form
+    after-form = search counted
+
     start : tie.Start
-    start = search counted
+    start = search after-form
 
 pub measure-change-spec : {M : Type 1} → statement M
 measure-change-spec =
     tie.close
     (tie.spec
+    add-front
     mul-start
     add-start
     sub-index
@@ -269,6 +316,6 @@ measure-change-spec =
     add-bytes
     growth-requires
     nblock2-requires
-    sub-t24
-    add-t27
+    sub-blocks
+    add-blocks
     returns)

@@ -12,11 +12,14 @@ slice-aggregate-copy-marks c = search needs
 copy-marks-requires : tie.Need-copy-marks-requires
 copy-marks-requires c κs = search needs
 
+add-area : tie.Need-add-area
+add-area c = search needs
+
 mul-area : tie.Need-mul-area
 mul-area c = search needs
 
-add-area : tie.Need-add-area
-add-area c = search needs
+add-area-2 : tie.Need-add-area-2
+add-area-2 c = search needs
 
 sub-area : tie.Need-sub-area
 sub-area c = search needs
@@ -49,13 +52,22 @@ slice-aggregate-plan-parts : tie.Need-slice-aggregate-plan-parts
 slice-aggregate-plan-parts c = search needs
 
 add-plan-parts-2 : tie.Need-add-plan-parts-2
-add-plan-parts-2 c = search needs
+add-plan-parts-2 c = omega (arith, start .pre .1 .1 .0 .2)
+  where
+    after-entries-start : tie.After-entries-start
+    after-entries-start = search
+
+    after-copy-marks : tie.After-copy-marks
+    after-copy-marks = search after-entries-start
+
+    start : tie.Start
+    start = search after-copy-marks
 
 plan-parts-requires : tie.Need-plan-parts-requires
 plan-parts-requires c κs =
     let p = start .pre in (
-      (p .1 .1 .0, p .1 .1 .1, run-short _ _ _ _ (after-entries-start .entries-start .ensures .0) (p .0 .2)),
-      (p .1 .0 .0, p .1 .0 .1, omega (arith, p .1 .0 .2), omega arith),
+      (p .1 .1 .1 .0, p .1 .1 .1 .1, run-short _ _ _ _ (after-entries-start .entries-start .ensures .0) (p .1 .0 .1), omega (arith, p .0 .0 .1)),
+      (p .1 .1 .0 .0, p .1 .1 .0 .1, omega (arith, p .1 .1 .0 .2), omega (arith, p .1 .1 .0 .2)),
     )
   where
     after-entries-start : tie.After-entries-start
@@ -69,10 +81,10 @@ plan-parts-requires c κs =
 
 returns : tie.Need-returns
 returns c = (
-  end-planned (start .args .old .now) (start .args .v) (start .args .free .now) _ (start .args .t) (start .args .h .now) (start .args .body .now)
-      (start .args .fresh) (after-entries-start .entries-start .result) (after-plan-parts .plan-parts .result) _
+  end-planned (start .args .old .now) (start .args .v) (start .args .free .now) _ (start .args .h .now) (start .args .body .now)
+      (after-entries-start .entries-start .result) (after-plan-parts .plan-parts .result) _
       (after-copy-marks .copy-marks .ensures) (after-entries-start .entries-start .ensures .0) (after-plan-parts .plan-parts .ensures .0),
-  after-plan-parts .plan-parts .ensures .1 .1,
+  omega (arith, after-plan-parts .plan-parts .ensures .1 .1, start .pre .1 .1 .0 .2),
 )
   where
     after-plan-parts : tie.After-plan-parts
@@ -93,8 +105,9 @@ plan-end-spec =
     (tie.spec
     slice-aggregate-copy-marks
     copy-marks-requires
-    mul-area
     add-area
+    mul-area
+    add-area-2
     sub-area
     part-area-start
     part-area-end

@@ -6,6 +6,9 @@ use borrow.Author.Needs.{needs}
 use Rattle.change.proofs.save_old.Statement.{statement}
 use Rattle.change.proofs.save_old.Tie as tie
 
+add-front : tie.Need-add-front
+add-front c = search needs
+
 mul-start : tie.Need-mul-start
 mul-start c = search needs
 
@@ -31,25 +34,61 @@ copy-requires : tie.Need-copy-requires
 copy-requires c κs = search needs
 
 add-copy-2 : tie.Need-add-copy-2
-add-copy-2 c = search needs
+add-copy-2 c = omega (arith, start .pre .0, start .pre .1 .1)
+  where
+    first : tie.After-copy
+    first = search
+
+    found : tie.After-entries-start
+    found = search first
+
+    start : tie.Start
+    start = search found
 
 mul-copy : tie.Need-mul-copy
-mul-copy c = search needs
+mul-copy c = omega (arith, start .pre .0)
+  where
+    first : tie.After-copy
+    first = search
+
+    found : tie.After-entries-start
+    found = search first
+
+    start : tie.Start
+    start = search found
 
 sub-copy : tie.Need-sub-copy
-sub-copy c = search needs
+sub-copy c = omega (arith, start .pre .1 .1)
+  where
+    first : tie.After-copy
+    first = search
+
+    found : tie.After-entries-start
+    found = search first
+
+    start : tie.Start
+    start = search found
 
 copy-requires-2 : tie.Need-copy-requires-2
-copy-requires-2 c κs = search needs
+copy-requires-2 c κs = (omega (arith, first .copy .ensures .1, found .entries-start .ensures .1, start .pre .0, start .pre .1), omega (arith, start .pre .1))
+  where
+    first : tie.After-copy
+    first = search
+
+    found : tie.After-entries-start
+    found = search first
+
+    start : tie.Start
+    start = search found
 
 same-length : tie.Need-same-length
 same-length c = search needs
 
 returns : tie.Need-returns
 returns c = (
-  saved (start .args .image .now) (start .args .work .now) (first .copy .last .0) _ (start .args .v) (start .args .t)
+  saved (start .args .image .now) (start .args .work .now) (first .copy .last .0) _ (start .args .v)
       _ _ (found .entries-start .ensures .0) refl (first .copy .ensures .0) (second .copy2 .ensures .0)
-      (omega (arith, found .entries-start .ensures .1, start .pre .0, start .pre .1)) (start .pre .1 .1) (omega (arith, start .pre .0, start .pre .1)),
+      (omega (arith, found .entries-start .ensures .1, start .pre .0, start .pre .1)) (start .pre .1 .1 .1) (omega (arith, start .pre .0, start .pre .1)),
   (omega (arith, found .entries-start .ensures .1, start .pre .0, start .pre .1), omega (arith, first .copy .ensures .1, second .copy2 .ensures .1)),
 )
   where
@@ -69,6 +108,7 @@ pub save-old-spec : {M : Type 1} → statement M
 save-old-spec =
     tie.close
     (tie.spec
+    add-front
     mul-start
     add-start
     entries-start-requires

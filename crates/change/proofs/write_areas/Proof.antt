@@ -28,24 +28,32 @@ use Rattle.change.proofs.write_areas.Tie as tie
 abbrev after-index-of-copy-moved : tie.After-copy-moved → tie.After-index
 after-index-of-copy-moved c = search
 
+abbrev after-form-of-copy-moved : tie.After-copy-moved → tie.After-form
+after-form-of-copy-moved c = search (after-index-of-copy-moved c)
+
 abbrev start-of-copy-moved : tie.After-copy-moved → tie.Start
-start-of-copy-moved c = search (after-index-of-copy-moved c)
+start-of-copy-moved c = search (after-form-of-copy-moved c)
 
 -- the image keeps its length from call to call
 moved-kept : (c : tie.After-copy-moved)
-    → length (take (256 + 256 * start-of-copy-moved c .args .v .n) (start-of-copy-moved c .args .image .now) ++ (c .copy-moved .last .0 ++ drop
-    (length (start-of-copy-moved c .args .image .now) - (256 + 256 * start-of-copy-moved c .args .v .n))
-    (drop (256 + 256 * start-of-copy-moved c .args .v .n) (start-of-copy-moved c .args .image .now))))
+    → length
+    (take (256 + start-of-copy-moved c .args .v .old .form .extended + 256 * start-of-copy-moved c .args .v .old .n) (start-of-copy-moved c .args .image .now) ++ (c .copy-moved .last .0 ++ drop
+    (length (start-of-copy-moved c .args .image .now) - (256 + start-of-copy-moved c .args .v .old .form .extended + 256 * start-of-copy-moved c .args .v .old .n))
+    (drop (256 + start-of-copy-moved c .args .v .old .form .extended + 256 * start-of-copy-moved c .args .v .old .n) (start-of-copy-moved c .args .image .now))))
     ≡ length (start-of-copy-moved c .args .image .now)
 moved-kept c =
-    length-lent (256 + 256 * start .args .v .n) (length (start .args .image .now) - (256 + 256 * start .args .v .n)) (start .args .image .now)
-    (c .copy-moved .last .0) refl (start-room _ _ _ _ _ _ _ _ (start .pre .0) _ (start .pre .1)) (c .copy-moved .ensures .1)
+    length-lent (256 + start .args .v .old .form .extended + 256 * start .args .v .old .n)
+    (length (start .args .image .now) - (256 + start .args .v .old .form .extended + 256 * start .args .v .old .n)) (start .args .image .now)
+    (c .copy-moved .last .0) refl (start-room _ _ _ _ _ _ (start .pre .0) _ (start .pre .1)) (c .copy-moved .ensures .1)
   where
     after-index : tie.After-index
     after-index = search
 
+    after-form : tie.After-form
+    after-form = search after-index
+
     start : tie.Start
-    start = search after-index
+    start = search after-form
 
 abbrev after-image-of-copy-elements : tie.After-copy-elements → tie.After-image
 after-image-of-copy-elements c = search
@@ -53,10 +61,13 @@ after-image-of-copy-elements c = search
 abbrev after-index-of-copy-elements : tie.After-copy-elements → tie.After-index
 after-index-of-copy-elements c = search (after-image-of-copy-elements c)
 
-abbrev start-of-copy-elements : tie.After-copy-elements → tie.Start
-start-of-copy-elements c = search (after-index-of-copy-elements c)
+abbrev after-form-of-copy-elements : tie.After-copy-elements → tie.After-form
+after-form-of-copy-elements c = search (after-index-of-copy-elements c)
 
-before-kept : (c : tie.After-copy-elements) → length (c .copy-elements .last .0) ≡ length (start-of-copy-elements c .args .image .now)
+abbrev start-of-copy-elements : tie.After-copy-elements → tie.Start
+start-of-copy-elements c = search (after-form-of-copy-elements c)
+
+before-kept : (c : tie.After-copy-elements) → length (c .copy-elements .last .1 .0) ≡ length (start-of-copy-elements c .args .image .now)
 before-kept c = c .copy-elements .ensures .1 .1 ∙ moved-kept after-copy-moved
   where
     after-copy-moved : tie.After-copy-moved
@@ -68,10 +79,13 @@ after-run-of-write-parts c = search
 abbrev after-index-of-write-parts : tie.After-write-parts → tie.After-index
 after-index-of-write-parts c = search (after-run-of-write-parts c)
 
-abbrev start-of-write-parts : tie.After-write-parts → tie.Start
-start-of-write-parts c = search (after-index-of-write-parts c)
+abbrev after-form-of-write-parts : tie.After-write-parts → tie.After-form
+after-form-of-write-parts c = search (after-index-of-write-parts c)
 
-parts-kept : (c : tie.After-write-parts) → length (c .write-parts .last .0) ≡ length (start-of-write-parts c .args .image .now)
+abbrev start-of-write-parts : tie.After-write-parts → tie.Start
+start-of-write-parts c = search (after-form-of-write-parts c)
+
+parts-kept : (c : tie.After-write-parts) → length (c .write-parts .last .1 .0) ≡ length (start-of-write-parts c .args .image .now)
 parts-kept c = c .write-parts .ensures .1 .0 ∙ before-kept after-copy-elements
   where
     after-copy-elements : tie.After-copy-elements
@@ -86,116 +100,152 @@ after-run-of-copy-elements2 c = search (after-write-parts-of-copy-elements2 c)
 abbrev after-index-of-copy-elements2 : tie.After-copy-elements2 → tie.After-index
 after-index-of-copy-elements2 c = search (after-run-of-copy-elements2 c)
 
-abbrev start-of-copy-elements2 : tie.After-copy-elements2 → tie.Start
-start-of-copy-elements2 c = search (after-index-of-copy-elements2 c)
+abbrev after-form-of-copy-elements2 : tie.After-copy-elements2 → tie.After-form
+after-form-of-copy-elements2 c = search (after-index-of-copy-elements2 c)
 
-after-kept : (c : tie.After-copy-elements2) → length (c .copy-elements2 .last .0) ≡ length (start-of-copy-elements2 c .args .image .now)
+abbrev start-of-copy-elements2 : tie.After-copy-elements2 → tie.Start
+start-of-copy-elements2 c = search (after-form-of-copy-elements2 c)
+
+after-kept : (c : tie.After-copy-elements2) → length (c .copy-elements2 .last .1 .0) ≡ length (start-of-copy-elements2 c .args .image .now)
 after-kept c = c .copy-elements2 .ensures .1 .1 ∙ parts-kept after-write-parts
   where
     after-write-parts : tie.After-write-parts
     after-write-parts = search
 
+add-front : tie.Need-add-front
+add-front c = omega (arith, starts-inside _ _ _ _ _ _ (start .pre .0) _ (start .pre .1))
+  where
+    start : tie.Start
+    start = search
+
 mul-start : tie.Need-mul-start
-mul-start c = omega (arith, starts-inside _ _ _ _ _ _ _ _ (start .pre .0) _ (start .pre .1))
+mul-start c = omega (arith, starts-inside _ _ _ _ _ _ (start .pre .0) _ (start .pre .1))
   where
     start : tie.Start
     start = search
 
 add-start : tie.Need-add-start
-add-start c = omega (arith, starts-inside _ _ _ _ _ _ _ _ (start .pre .0) _ (start .pre .1))
+add-start c = omega (arith, starts-inside _ _ _ _ _ _ (start .pre .0) _ (start .pre .1))
+  where
+    start : tie.Start
+    start = search
+
+mul-end : tie.Need-mul-end
+mul-end c = omega (arith, starts-inside _ _ _ _ _ _ (start .pre .0) _ (start .pre .1))
+  where
+    start : tie.Start
+    start = search
+
+add-end : tie.Need-add-end
+add-end c = omega (arith, starts-inside _ _ _ _ _ _ (start .pre .0) _ (start .pre .1))
   where
     start : tie.Start
     start = search
 
 sub-index : tie.Need-sub-index
-sub-index c = omega (arith, starts-inside _ _ _ _ _ _ _ _ (start .pre .0) _ (start .pre .1))
+sub-index c = omega (arith, starts-inside _ _ _ _ _ _ (start .pre .0) _ (start .pre .1))
   where
     start : tie.Start
     start = search
 
 part-index-start : tie.Need-part-index-start
-part-index-start c = omega (arith, starts-inside _ _ _ _ _ _ _ _ (start .pre .0) _ (start .pre .1))
+part-index-start c = omega (arith, starts-inside _ _ _ _ _ _ (start .pre .0) _ (start .pre .1))
   where
     start : tie.Start
     start = search
 
 part-index-end : tie.Need-part-index-end
-part-index-end c = omega (arith, starts-inside _ _ _ _ _ _ _ _ (start .pre .0) _ (start .pre .1))
+part-index-end c = omega (arith, starts-inside _ _ _ _ _ _ (start .pre .0) _ (start .pre .1))
   where
     start : tie.Start
     start = search
 
 sub-area : tie.Need-sub-area
-sub-area c = omega (arith, starts-inside _ _ _ _ _ _ _ _ (start .pre .0) _ (start .pre .1))
+sub-area c = omega (arith, starts-inside _ _ _ _ _ _ (start .pre .0) _ (start .pre .1))
   where
     start : tie.Start
     start = search
 
 part-area-start : tie.Need-part-area-start
-part-area-start c = omega (arith, starts-inside _ _ _ _ _ _ _ _ (start .pre .0) _ (start .pre .1))
+part-area-start c = omega (arith, starts-inside _ _ _ _ _ _ (start .pre .0) _ (start .pre .1))
   where
     start : tie.Start
     start = search
 
 part-area-end : tie.Need-part-area-end
-part-area-end c = omega (arith, starts-inside _ _ _ _ _ _ _ _ (start .pre .0) _ (start .pre .1))
+part-area-end c = omega (arith, starts-inside _ _ _ _ _ _ (start .pre .0) _ (start .pre .1))
   where
     start : tie.Start
     start = search
 
 sub-copy-moved : tie.Need-sub-copy-moved
-sub-copy-moved c = omega (arith, starts-inside _ _ _ _ _ _ _ _ (start .pre .0) _ (start .pre .1))
+sub-copy-moved c = omega (arith, starts-inside _ _ _ _ _ _ (start .pre .0) _ (start .pre .1))
   where
     after-index : tie.After-index
     after-index = search
 
+    after-form : tie.After-form
+    after-form = search after-index
+
     start : tie.Start
-    start = search after-index
+    start = search after-form
 
 part-copy-moved-start : tie.Need-part-copy-moved-start
-part-copy-moved-start c = omega (arith, starts-inside _ _ _ _ _ _ _ _ (start .pre .0) _ (start .pre .1))
+part-copy-moved-start c = omega (arith, starts-inside _ _ _ _ _ _ (start .pre .0) _ (start .pre .1))
   where
     after-index : tie.After-index
     after-index = search
 
+    after-form : tie.After-form
+    after-form = search after-index
+
     start : tie.Start
-    start = search after-index
+    start = search after-form
 
 part-copy-moved-end : tie.Need-part-copy-moved-end
-part-copy-moved-end c = omega (arith, starts-inside _ _ _ _ _ _ _ _ (start .pre .0) _ (start .pre .1))
+part-copy-moved-end c = omega (arith, starts-inside _ _ _ _ _ _ (start .pre .0) _ (start .pre .1))
   where
     after-index : tie.After-index
     after-index = search
 
+    after-form : tie.After-form
+    after-form = search after-index
+
     start : tie.Start
-    start = search after-index
+    start = search after-form
 
 copy-moved-requires : tie.Need-copy-moved-requires
-copy-moved-requires c κs = moved-asks _ _ _ _ _ _ _ _ (start .pre .0) _ (start .pre .1)
+copy-moved-requires c κs = moved-asks _ _ _ _ _ _ (start .pre .0) _ (start .pre .1)
   where
     after-index : tie.After-index
     after-index = search
 
+    after-form : tie.After-form
+    after-form = search after-index
+
     start : tie.Start
-    start = search after-index
+    start = search after-form
 
 entries-start-requires : tie.Need-entries-start-requires
-entries-start-requires c κs = run-asks _ _ _ _ _ _ _ _ (start .pre .0) _ (start .pre .1)
+entries-start-requires c κs = run-asks _ _ _ _ _ _ (start .pre .0) _ (start .pre .1)
   where
     after-index : tie.After-index
     after-index = search
 
+    after-form : tie.After-form
+    after-form = search after-index
+
     start : tie.Start
-    start = search after-index
+    start = search after-form
 
 add-run : tie.Need-add-run
 add-run c =
     omega (
       arith,
-      run-asks _ _ _ _ _ _ _ _ (start .pre .0) _ (start .pre .1),
+      run-asks _ _ _ _ _ _ (start .pre .0) _ (start .pre .1),
       after-entries-start .entries-start .ensures,
-      run-inside _ _ _ _ _ _ _ _ (start .pre .0) _ (start .pre .1),
-      area-long _ _ _ _ _ _ _ _ (start .pre .0) _ (start .pre .1),
+      run-inside _ _ _ _ _ _ (start .pre .0) _ (start .pre .1),
+      area-long _ _ _ _ _ _ (start .pre .0) _ (start .pre .1),
     )
   where
     after-entries-start : tie.After-entries-start
@@ -204,17 +254,20 @@ add-run c =
     after-index : tie.After-index
     after-index = search after-entries-start
 
+    after-form : tie.After-form
+    after-form = search after-index
+
     start : tie.Start
-    start = search after-index
+    start = search after-form
 
 mul-run : tie.Need-mul-run
 mul-run c =
     omega (
       arith,
-      run-asks _ _ _ _ _ _ _ _ (start .pre .0) _ (start .pre .1),
+      run-asks _ _ _ _ _ _ (start .pre .0) _ (start .pre .1),
       after-entries-start .entries-start .ensures,
-      run-inside _ _ _ _ _ _ _ _ (start .pre .0) _ (start .pre .1),
-      area-long _ _ _ _ _ _ _ _ (start .pre .0) _ (start .pre .1),
+      run-inside _ _ _ _ _ _ (start .pre .0) _ (start .pre .1),
+      area-long _ _ _ _ _ _ (start .pre .0) _ (start .pre .1),
     )
   where
     after-entries-start : tie.After-entries-start
@@ -223,17 +276,20 @@ mul-run c =
     after-index : tie.After-index
     after-index = search after-entries-start
 
+    after-form : tie.After-form
+    after-form = search after-index
+
     start : tie.Start
-    start = search after-index
+    start = search after-form
 
 sub-run : tie.Need-sub-run
 sub-run c =
     omega (
       arith,
-      run-asks _ _ _ _ _ _ _ _ (start .pre .0) _ (start .pre .1),
+      run-asks _ _ _ _ _ _ (start .pre .0) _ (start .pre .1),
       after-entries-start .entries-start .ensures,
-      run-inside _ _ _ _ _ _ _ _ (start .pre .0) _ (start .pre .1),
-      area-long _ _ _ _ _ _ _ _ (start .pre .0) _ (start .pre .1),
+      run-inside _ _ _ _ _ _ (start .pre .0) _ (start .pre .1),
+      area-long _ _ _ _ _ _ (start .pre .0) _ (start .pre .1),
     )
   where
     after-entries-start : tie.After-entries-start
@@ -242,17 +298,20 @@ sub-run c =
     after-index : tie.After-index
     after-index = search after-entries-start
 
+    after-form : tie.After-form
+    after-form = search after-index
+
     start : tie.Start
-    start = search after-index
+    start = search after-form
 
 part-run-start : tie.Need-part-run-start
 part-run-start c =
     omega (
       arith,
-      run-asks _ _ _ _ _ _ _ _ (start .pre .0) _ (start .pre .1),
+      run-asks _ _ _ _ _ _ (start .pre .0) _ (start .pre .1),
       after-entries-start .entries-start .ensures,
-      run-inside _ _ _ _ _ _ _ _ (start .pre .0) _ (start .pre .1),
-      area-long _ _ _ _ _ _ _ _ (start .pre .0) _ (start .pre .1),
+      run-inside _ _ _ _ _ _ (start .pre .0) _ (start .pre .1),
+      area-long _ _ _ _ _ _ (start .pre .0) _ (start .pre .1),
     )
   where
     after-entries-start : tie.After-entries-start
@@ -261,17 +320,20 @@ part-run-start c =
     after-index : tie.After-index
     after-index = search after-entries-start
 
+    after-form : tie.After-form
+    after-form = search after-index
+
     start : tie.Start
-    start = search after-index
+    start = search after-form
 
 part-run-end : tie.Need-part-run-end
 part-run-end c =
     omega (
       arith,
-      run-asks _ _ _ _ _ _ _ _ (start .pre .0) _ (start .pre .1),
+      run-asks _ _ _ _ _ _ (start .pre .0) _ (start .pre .1),
       after-entries-start .entries-start .ensures,
-      run-inside _ _ _ _ _ _ _ _ (start .pre .0) _ (start .pre .1),
-      area-long _ _ _ _ _ _ _ _ (start .pre .0) _ (start .pre .1),
+      run-inside _ _ _ _ _ _ (start .pre .0) _ (start .pre .1),
+      area-long _ _ _ _ _ _ (start .pre .0) _ (start .pre .1),
     )
   where
     after-entries-start : tie.After-entries-start
@@ -280,11 +342,14 @@ part-run-end c =
     after-index : tie.After-index
     after-index = search after-entries-start
 
+    after-form : tie.After-form
+    after-form = search after-index
+
     start : tie.Start
-    start = search after-index
+    start = search after-form
 
 copy-elements-requires : tie.Need-copy-elements-requires
-copy-elements-requires c κs = before-asks _ _ _ _ _ _ _ _ (start .pre .0) _ (start .pre .1) _ (moved-kept after-copy-moved)
+copy-elements-requires c κs = before-asks _ _ _ _ _ _ (start .pre .0) _ (start .pre .1) _ (moved-kept after-copy-moved)
   where
     after-copy-moved : tie.After-copy-moved
     after-copy-moved = search
@@ -292,12 +357,15 @@ copy-elements-requires c κs = before-asks _ _ _ _ _ _ _ _ (start .pre .0) _ (st
     after-index : tie.After-index
     after-index = search after-copy-moved
 
+    after-form : tie.After-form
+    after-form = search after-index
+
     start : tie.Start
-    start = search after-index
+    start = search after-form
 
 write-parts-requires : tie.Need-write-parts-requires
 write-parts-requires c κs =
-    parts-asks _ _ _ _ _ _ _ _ (start .pre .0) _ (start .pre .1) _ _ _ (before-kept after-copy-elements) (after-entries-start .entries-start .ensures .0)
+    parts-asks _ _ _ _ _ _ (start .pre .0) _ (start .pre .1) _ _ _ (before-kept after-copy-elements) (after-entries-start .entries-start .ensures .0)
     (after-copy-elements .copy-elements .ensures .1 .0)
   where
     after-copy-elements : tie.After-copy-elements
@@ -309,13 +377,16 @@ write-parts-requires c κs =
     after-index : tie.After-index
     after-index = search after-entries-start
 
+    after-form : tie.After-form
+    after-form = search after-index
+
     start : tie.Start
-    start = search after-index
+    start = search after-form
 
 copy-elements-requires-2 : tie.Need-copy-elements-requires-2
 copy-elements-requires-2 c κs =
-    after-asks _ _ _ _ _ _ _ _ (start .pre .0) _ (start .pre .1) _ _ _ (parts-kept after-write-parts) (after-copy-elements .copy-elements .ensures .1 .0)
-    (parts-bytes _ _ _ _ _ _ _ _ (start .pre .0) _ (start .pre .1) _ (after-entries-start .entries-start .ensures .0) _ _
+    after-asks _ _ _ _ _ _ (start .pre .0) _ (start .pre .1) _ _ _ (parts-kept after-write-parts) (after-copy-elements .copy-elements .ensures .1 .0)
+    (parts-bytes _ _ _ _ _ _ (start .pre .0) _ (start .pre .1) _ (after-entries-start .entries-start .ensures .0) _ _
     (after-write-parts .write-parts .ensures .0 .1))
   where
     after-write-parts : tie.After-write-parts
@@ -330,73 +401,20 @@ copy-elements-requires-2 c κs =
     after-index : tie.After-index
     after-index = search after-entries-start
 
-    start : tie.Start
-    start = search after-index
-
-mul-fill-zero : tie.Need-mul-fill-zero
-mul-fill-zero c =
-    omega (
-      arith,
-      index-end _ _ _ _ _ _ _ _ (start .pre .0) _ (start .pre .1) _ _ _ (after-copy-elements .copy-elements .ensures .1 .0)
-          (parts-bytes _ _ _ _ _ _ _ _ (start .pre .0) _ (start .pre .1) _ (after-entries-start .entries-start .ensures .0) _ _
-          (after-write-parts .write-parts .ensures .0 .1)) (after-copy-elements2 .copy-elements2 .ensures .1 .0),
-      starts-inside _ _ _ _ _ _ _ _ (start .pre .0) _ (start .pre .1),
-    )
-  where
-    after-copy-elements2 : tie.After-copy-elements2
-    after-copy-elements2 = search
-
-    after-write-parts : tie.After-write-parts
-    after-write-parts = search after-copy-elements2
-
-    after-copy-elements : tie.After-copy-elements
-    after-copy-elements = search after-write-parts
-
-    after-entries-start : tie.After-entries-start
-    after-entries-start = search after-copy-elements
-
-    after-index : tie.After-index
-    after-index = search after-entries-start
+    after-form : tie.After-form
+    after-form = search after-index
 
     start : tie.Start
-    start = search after-index
-
-add-fill-zero : tie.Need-add-fill-zero
-add-fill-zero c =
-    omega (
-      arith,
-      index-end _ _ _ _ _ _ _ _ (start .pre .0) _ (start .pre .1) _ _ _ (after-copy-elements .copy-elements .ensures .1 .0)
-          (parts-bytes _ _ _ _ _ _ _ _ (start .pre .0) _ (start .pre .1) _ (after-entries-start .entries-start .ensures .0) _ _
-          (after-write-parts .write-parts .ensures .0 .1)) (after-copy-elements2 .copy-elements2 .ensures .1 .0),
-      starts-inside _ _ _ _ _ _ _ _ (start .pre .0) _ (start .pre .1),
-    )
-  where
-    after-copy-elements2 : tie.After-copy-elements2
-    after-copy-elements2 = search
-
-    after-write-parts : tie.After-write-parts
-    after-write-parts = search after-copy-elements2
-
-    after-copy-elements : tie.After-copy-elements
-    after-copy-elements = search after-write-parts
-
-    after-entries-start : tie.After-entries-start
-    after-entries-start = search after-copy-elements
-
-    after-index : tie.After-index
-    after-index = search after-entries-start
-
-    start : tie.Start
-    start = search after-index
+    start = search after-form
 
 sub-fill-zero : tie.Need-sub-fill-zero
 sub-fill-zero c =
     omega (
       arith,
-      index-end _ _ _ _ _ _ _ _ (start .pre .0) _ (start .pre .1) _ _ _ (after-copy-elements .copy-elements .ensures .1 .0)
-          (parts-bytes _ _ _ _ _ _ _ _ (start .pre .0) _ (start .pre .1) _ (after-entries-start .entries-start .ensures .0) _ _
+      index-end _ _ _ _ _ _ (start .pre .0) _ (start .pre .1) _ _ _ (after-copy-elements .copy-elements .ensures .1 .0)
+          (parts-bytes _ _ _ _ _ _ (start .pre .0) _ (start .pre .1) _ (after-entries-start .entries-start .ensures .0) _ _
           (after-write-parts .write-parts .ensures .0 .1)) (after-copy-elements2 .copy-elements2 .ensures .1 .0),
-      starts-inside _ _ _ _ _ _ _ _ (start .pre .0) _ (start .pre .1),
+      starts-inside _ _ _ _ _ _ (start .pre .0) _ (start .pre .1),
     )
   where
     after-copy-elements2 : tie.After-copy-elements2
@@ -414,15 +432,18 @@ sub-fill-zero c =
     after-index : tie.After-index
     after-index = search after-entries-start
 
+    after-form : tie.After-form
+    after-form = search after-index
+
     start : tie.Start
-    start = search after-index
+    start = search after-form
 
 fill-zero-requires : tie.Need-fill-zero-requires
 fill-zero-requires c κs =
     omega (
       arith,
-      index-end _ _ _ _ _ _ _ _ (start .pre .0) _ (start .pre .1) _ _ _ (after-copy-elements .copy-elements .ensures .1 .0)
-          (parts-bytes _ _ _ _ _ _ _ _ (start .pre .0) _ (start .pre .1) _ (after-entries-start .entries-start .ensures .0) _ _
+      index-end _ _ _ _ _ _ (start .pre .0) _ (start .pre .1) _ _ _ (after-copy-elements .copy-elements .ensures .1 .0)
+          (parts-bytes _ _ _ _ _ _ (start .pre .0) _ (start .pre .1) _ (after-entries-start .entries-start .ensures .0) _ _
           (after-write-parts .write-parts .ensures .0 .1)) (after-copy-elements2 .copy-elements2 .ensures .1 .0),
       after-kept after-copy-elements2,
     )
@@ -442,8 +463,11 @@ fill-zero-requires c κs =
     after-index : tie.After-index
     after-index = search after-entries-start
 
+    after-form : tie.After-form
+    after-form = search after-index
+
     start : tie.Start
-    start = search after-index
+    start = search after-form
 
 same-length : tie.Need-same-length
 same-length c = after-fill-zero .fill-zero .ensures .1 ∙ after-kept after-copy-elements2
@@ -459,16 +483,16 @@ same-length-2 c = search needs
 
 returns : tie.Need-returns
 returns c = (
-  areas-done _ _ _ _ _ _ _ _ (start .pre .0) _ (start .pre .1) _ _ _ _ _ _ _ _ (ap (λ (x : List ℕ). take (256 + 256 * start .args .v .n)
-      (start .args .image .now) ++ (x ++ drop (length (start .args .image .now) - (256 + 256 * start .args .v .n))
-      (drop (256 + 256 * start .args .v .n) (start .args .image .now)))) (after-copy-moved .copy-moved .ensures .0))
-      (after-copy-elements .copy-elements .ensures .0) (after-copy-elements .copy-elements .ensures .1 .0) (parts-image _ _ _ _ _ _ _ _
+  areas-done _ _ _ _ _ _ (start .pre .0) _ (start .pre .1) _ _ _ _ _ _ _ _ (ap (λ (x : List ℕ). take (256 + start .args .v .old .form .extended + 256 * start .args .v .old .n)
+      (start .args .image .now) ++ (x ++ drop (length (start .args .image .now) - (256 + start .args .v .old .form .extended + 256 * start .args .v .old .n))
+      (drop (256 + start .args .v .old .form .extended + 256 * start .args .v .old .n) (start .args .image .now)))) (after-copy-moved .copy-moved .ensures .0))
+      (after-copy-elements .copy-elements .ensures .0) (after-copy-elements .copy-elements .ensures .1 .0) (parts-image _ _ _ _ _ _
       (start .pre .0) _ (start .pre .1) _ (after-entries-start .entries-start .ensures .0) _ _ _ (after-write-parts .write-parts .ensures .0 .0))
-      (parts-bytes _ _ _ _ _ _ _ _ (start .pre .0) _ (start .pre .1) _ (after-entries-start .entries-start .ensures .0) _ _
+      (parts-bytes _ _ _ _ _ _ (start .pre .0) _ (start .pre .1) _ (after-entries-start .entries-start .ensures .0) _ _
       (after-write-parts .write-parts .ensures .0 .1)) (after-copy-elements2 .copy-elements2 .ensures .0)
       (after-copy-elements2 .copy-elements2 .ensures .1 .0) (after-fill-zero .fill-zero .ensures .0),
   (
-    parts-marks _ _ _ _ _ _ _ _ (start .pre .0) _
+    parts-marks _ _ _ _ _ _ (start .pre .0) _
         (start .pre .1) _ (after-entries-start .entries-start .ensures .0) _ (after-write-parts .write-parts .ensures .0 .2),
     (after-fill-zero .fill-zero .ensures .1 ∙ after-kept after-copy-elements2, search needs),
   ),
@@ -495,15 +519,21 @@ returns c = (
     after-index : tie.After-index
     after-index = search after-copy-moved
 
+    after-form : tie.After-form
+    after-form = search after-index
+
     start : tie.Start
-    start = search after-index
+    start = search after-form
 
 pub write-areas-spec : {M : Type 1} → statement M
 write-areas-spec =
     tie.close
     (tie.spec
+    add-front
     mul-start
     add-start
+    mul-end
+    add-end
     sub-index
     part-index-start
     part-index-end
@@ -523,8 +553,6 @@ write-areas-spec =
     copy-elements-requires
     write-parts-requires
     copy-elements-requires-2
-    mul-fill-zero
-    add-fill-zero
     sub-fill-zero
     fill-zero-requires
     same-length

@@ -2,10 +2,14 @@
 use mathlib.Core.Path.{refl, sym}
 use native.Mathlib.Omega.{arith}
 use lib.Seq.{length-take-le}
+use Rattle.change.proofs.FinishLaws.{ready-form, ready-few}
 use Rattle.change.proofs.KeptLaws.{end-inside, at-inside, kept-asks, kept-marks, new-inside, kept-areas}
 use borrow.Author.Needs.{needs}
 use Rattle.change.proofs.write_kept.Statement.{statement}
 use Rattle.change.proofs.write_kept.Tie as tie
+
+add-front : tie.Need-add-front
+add-front c = search needs
 
 mul-start : tie.Need-mul-start
 mul-start c = search needs
@@ -17,7 +21,7 @@ mul-rest : tie.Need-mul-rest
 mul-rest c = search needs
 
 sub-rest : tie.Need-sub-rest
-sub-rest c = end-inside _ _ _ _ _ _ _ _ (start .pre .0) _ (start .pre .1 .0) (start .pre .1 .1 .0) (λ k. omega (arith, known .slice-known .given k))
+sub-rest c = end-inside _ _ _ _ _ _ (start .pre .0) _ (start .pre .1 .0) (start .pre .1 .1 .0) (λ k. omega (arith, known .slice-known .given k))
   where
     known : tie.After-slice-known
     known = search
@@ -27,29 +31,39 @@ sub-rest c = end-inside _ _ _ _ _ _ _ _ (start .pre .0) _ (start .pre .1 .0) (st
 
 save-old-requires : tie.Need-save-old-requires
 save-old-requires c κs = (
-  (omega (arith, start .pre .0 .few-index), start .pre .0 .few-blocks, omega (arith, start .pre .0 .whole, start .pre .1 .0 .shorter), start .pre .1 .1 .1),
+  (ready-form _ _ _ _ _ _ (start .pre .0), omega (arith, start .pre .0 .few-index), omega (arith, ready-few _ _ _ _ _ _ (start .pre .0))),
   (
-    start .pre .0 .inside,
-    end-inside _ _ _ _ _ _ _ _ (start .pre .0) _ (start .pre .1 .0) (start .pre .1 .1 .0) (λ k. omega (arith, known .slice-known .given k)),
+    (omega (arith, start .pre .0 .whole, start .pre .1 .0 .shorter), start .pre .1 .1 .1),
+    (start .pre .0 .inside, end-inside _ _ _ _ _ _ (start .pre .0) _ (start .pre .1 .0) (start .pre .1 .1 .0) (λ k. omega (arith, known .slice-known .given k))),
   ),
 )
   where
+    formed : tie.After-form
+    formed = search
+
     known : tie.After-slice-known
-    known = search
+    known = search formed
 
     start : tie.Start
     start = search known
 
-add-write-parts : tie.Need-add-write-parts
-add-write-parts c =
+add-put-rest : tie.Need-add-put-rest
+add-put-rest c =
     omega (
       arith,
-      at-inside _ _ _ _ _ _ _ _ (start .pre .0) _ (start .pre .1 .0) (start .pre .1 .1 .0) (λ k. omega (arith, known .slice-known .given k)),
+      at-inside _ _ _ _ _ _ (start .pre .0) _ (start .pre .1 .0) (start .pre .1 .1 .0) (λ k. omega (arith, known .slice-known .given k)),
       start .pre .0 .few-index,
+      ready-form _ _ _ _ _ _ (start .pre .0) .2,
     )
   where
+    save : tie.After-save-old
+    save = search
+
+    formed : tie.After-form
+    formed = search save
+
     known : tie.After-slice-known
-    known = search
+    known = search formed
 
     start : tie.Start
     start = search known
@@ -65,26 +79,38 @@ slice-aggregate-write-parts c = sym (length-take-le _ _ (omega (arith, save .sav
 
 write-parts-requires : tie.Need-write-parts-requires
 write-parts-requires c κs =
-    kept-asks _ _ _ _ _ _ _ _ (start .pre .0) _ (start .pre .1 .0) (start .pre .1 .1 .0) (λ k. omega (arith, known .slice-known .given k)) _ _
-    (save .save-old .ensures .0) _ refl
+    kept-asks _ _ _ _ _ _ (start .pre .0) _ (start .pre .1 .0) (start .pre .1 .1 .0) (λ k. omega (arith, known .slice-known .given k))
+    _ _ (save .save-old .ensures .0) _ refl
   where
     save : tie.After-save-old
     save = search
 
+    formed : tie.After-form
+    formed = search save
+
     known : tie.After-slice-known
-    known = search save
+    known = search formed
 
     start : tie.Start
     start = search known
 
-add-put-rest : tie.Need-add-put-rest
-add-put-rest c = omega (arith, save .save-old .ensures .0 .0, start .pre .0 .inside, start .pre .0 .few-blocks, start .pre .0 .few-index)
+add-put-rest-2 : tie.Need-add-put-rest-2
+add-put-rest-2 c = omega (arith, save .save-old .ensures .0 .0, start .pre .0 .inside, ready-few _ _ _ _ _ _ (start .pre .0), start .pre .0 .few-index)
   where
+    parts : tie.After-write-parts
+    parts = search
+
     save : tie.After-save-old
-    save = search
+    save = search parts
+
+    formed : tie.After-form
+    formed = search save
+
+    known : tie.After-slice-known
+    known = search formed
 
     start : tie.Start
-    start = search save
+    start = search known
 
 sub-put-rest : tie.Need-sub-put-rest
 sub-put-rest c = search needs
@@ -97,7 +123,7 @@ part-put-rest-end c = search needs
 
 put-rest-requires : tie.Need-put-rest-requires
 put-rest-requires c κs =
-    let i = new-inside _ _ _ _ _ _ _ _ (start .pre .0) _ (start .pre .1 .0) (start .pre .1 .1 .0) (λ k. omega (arith, known .slice-known .given k))
+    let i = new-inside _ _ _ _ _ _ (start .pre .0) _ (start .pre .1 .0) (start .pre .1 .1 .0) (λ k. omega (arith, known .slice-known .given k))
     _ _ (save .save-old .ensures .0) _ (parts .write-parts .ensures .0 .1) in
     (i .0, omega (arith, i .1, parts .write-parts .ensures .1 .0))
   where
@@ -107,8 +133,11 @@ put-rest-requires c κs =
     save : tie.After-save-old
     save = search parts
 
+    formed : tie.After-form
+    formed = search save
+
     known : tie.After-slice-known
-    known = search save
+    known = search formed
 
     start : tie.Start
     start = search known
@@ -124,11 +153,11 @@ same-length-3 c = search needs
 
 returns : tie.Need-returns
 returns c = (
-  kept-areas _ _ _ _ _ _ _ _ (start .pre .0) _ (start .pre .1 .0) (start .pre .1 .1 .0) (λ k. omega (arith, known .slice-known .given k))
+  kept-areas _ _ _ _ _ _ (start .pre .0) _ (start .pre .1 .0) (start .pre .1 .1 .0) (λ k. omega (arith, known .slice-known .given k))
       _ _ (save .save-old .ensures .0) _ (parts .write-parts .ensures .0 .1) _ _ (parts .write-parts .ensures .0 .0) (parts .write-parts .ensures .1 .0)
       (put .put-rest .ensures .0),
   (
-    kept-marks _ _ _ _ _ _ _ _ (start .pre .0) _ (start .pre .1 .0) (start .pre .1 .1 .0) (λ k. omega (arith, known .slice-known .given k))
+    kept-marks _ _ _ _ _ _ (start .pre .0) _ (start .pre .1 .0) (start .pre .1 .1 .0) (λ k. omega (arith, known .slice-known .given k))
         _ _ (save .save-old .ensures .0) _ (parts .write-parts .ensures .0 .2),
     (
       omega (arith, put .put-rest .ensures .1, parts .write-parts .ensures .1 .0),
@@ -147,8 +176,11 @@ returns c = (
     save : tie.After-save-old
     save = search parts
 
+    formed : tie.After-form
+    formed = search save
+
     known : tie.After-slice-known
-    known = search save
+    known = search formed
 
     start : tie.Start
     start = search known
@@ -157,16 +189,17 @@ pub write-kept-spec : {M : Type 1} → statement M
 write-kept-spec =
     tie.close
     (tie.spec
+    add-front
     mul-start
     add-start
     mul-rest
     sub-rest
     save-old-requires
-    add-write-parts
+    add-put-rest
     slice-reshare-prefix-write-parts
     slice-aggregate-write-parts
     write-parts-requires
-    add-put-rest
+    add-put-rest-2
     sub-put-rest
     part-put-rest-start
     part-put-rest-end

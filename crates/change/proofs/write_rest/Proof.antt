@@ -28,7 +28,7 @@ same-length c = search needs
 returns : tie.Need-returns
 returns c =
     let f = after-write-free-list .write-free-list .ensures in (
-      rest-sealed (start .args .image .now) _ _ _ (start .args .front) (start .args .v) _ (f .0) (f .1 .0) (after-write-counts .write-counts .ensures .0),
+      rest-sealed (start .args .image .now) _ _ _ (start .args .front) (start .args .v) _ (start .pre .0) (start .pre .1) (f .0) (f .1 .0) (after-write-counts .write-counts .ensures .0),
       search needs,
     )
   where

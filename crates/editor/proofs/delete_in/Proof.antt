@@ -3,11 +3,40 @@ use mathlib.Core.Path.{_≡_, refl}
 use mathlib.Core.Bool.{true}
 use Rattle.spec.specs.Entry.{headword-ok}
 use Rattle.parts.proofs.Laws.{first-bytes}
-use Rattle.change.proofs.FinishLaws.{front-blocks}
-use Rattle.editor.proofs.Changes.{head-good, delete-some, delete-ready, delete-eleven, delete-twelve, delete-absent, delete-fifteen, delete-done}
+use Rattle.editor.proofs.Rows.{front-blocks, whole-blocks}
+use Rattle.editor.proofs.Changes.{head-good, draft-measured, draft-inside, draft-marked, delete-some, delete-ready, delete-eleven, delete-twelve, delete-absent, delete-fifteen, delete-done}
 use borrow.Author.Needs.{needs}
 use Rattle.editor.proofs.delete_in.Statement.{statement}
 use Rattle.editor.proofs.delete_in.Tie as tie
+
+-- where the headword passed its test, from the start of the call on
+abbrev start : tie.Else2 → tie.Start
+start c = start-place
+  where
+    else1 : tie.Else1
+    else1 = search
+
+    start-place : tie.Start
+    start-place = search else1
+
+-- it is a headword
+good : (c : tie.Else2) → headword-ok (start c .args .headword .now) ≡ true
+good c = head-good (start c .args .headword .now) _ (c .before .headword-ok .ensures) (c .if2 .left)
+
+add-len : tie.Need-add-len
+add-len c = search needs
+
+mul-len : tie.Need-mul-len
+mul-len c = search needs
+
+add-len-2 : tie.Need-add-len-2
+add-len-2 c = search needs
+
+mul-len-2 : tie.Need-mul-len-2
+mul-len-2 c = search needs
+
+add-len-3 : tie.Need-add-len-3
+add-len-3 c = search needs
 
 writable-requires : tie.Need-writable-requires
 writable-requires c κs = search needs
@@ -17,8 +46,8 @@ same-length c = search needs
 
 returns : tie.Need-returns
 returns c =
-    let r = delete-eleven (start-place .args .image .now) (start-place .args .len) (start-place .args .work .now) (start-place .pre .1 .0 .0)
-    (start-place .pre .1 .0 .1) (start-place .pre .1 .0 .2) (start-place .pre .1 .0 .3) _ _ (start-place .pre .0) _ (after-writable .writable .ensures)
+    let r = delete-eleven (start-place .args .image .now) (start-place .args .work .now) (start-place .args .v) (start-place .pre .0 .0) (start-place .pre .1 .0)
+    (start-place .pre .1 .1) _ (after-writable .writable .ensures)
     (start-place .args .headword .now) (c .if1 .taken) in
     (r .0, (r .1, refl))
   where
@@ -36,8 +65,8 @@ same-length-2 c = search needs
 
 returns-2 : tie.Need-returns-2
 returns-2 c =
-    let r = delete-twelve (start-place .args .image .now) (start-place .args .len) (start-place .args .work .now) (start-place .pre .1 .0 .0)
-    (start-place .pre .1 .0 .1) (start-place .pre .1 .0 .2) (start-place .pre .1 .0 .3) _ _ (start-place .pre .0) _ (after-writable .writable .ensures)
+    let r = delete-twelve (start-place .args .image .now) (start-place .args .work .now) (start-place .args .v) (start-place .pre .0 .0) (start-place .pre .1 .0)
+    (start-place .pre .1 .1) _ (after-writable .writable .ensures)
     (start-place .args .headword .now) (else1 .if1 .left) _ (after-headword-ok .headword-ok .ensures) (c .if2 .taken) in
     (r .0, (r .1, refl))
   where
@@ -62,24 +91,13 @@ slice-aggregate-measure-change c = search first-bytes
 slice-aggregate-measure-change-2 : tie.Need-slice-aggregate-measure-change-2
 slice-aggregate-measure-change-2 c = search needs
 
--- where the headword passed its test, from the start of the call on
-abbrev start : tie.Else2 → tie.Start
-start c = start-place
-  where
-    else1 : tie.Else1
-    else1 = search
-
-    start-place : tie.Start
-    start-place = search else1
-
--- it is a headword
-good : (c : tie.Else2) → headword-ok (start c .args .headword .now) ≡ true
-good c = head-good (start c .args .headword .now) _ (c .before .headword-ok .ensures) (c .if2 .left)
-
 measure-change-requires : tie.Need-measure-change-requires
 measure-change-requires c κs =
-    let p = start (c .before .before) .pre in
-    (p .0, (front-blocks _ _ (p .1 .0 .2) (p .1 .0 .1), good (c .before .before), search needs, p .1 .0 .5))
+    let p = start else2 .pre in
+    (p .0 .0, (front-blocks _ _ (p .1 .0) (whole-blocks _ _ (p .0 .0)), good else2, search needs))
+  where
+    else2 : tie.Else2
+    else2 = search
 
 same-length-3 : tie.Need-same-length-3
 same-length-3 c = search needs
@@ -88,10 +106,9 @@ returns-3 : tie.Need-returns-3
 returns-3 c =
     let p = start-place .pre in
     let k = after-measure-change .measure-change .ensures in
-    let r = delete-absent (start-place .args .image .now) (start-place .args .len) (start-place .args .work .now) (p .1 .0 .0) (p .1 .0 .1) (p .1 .0 .2)
-    (p .1 .0 .3) _ _ (p .0)
-    _ (after-writable .writable .ensures) (start-place .args .headword .now) (else1 .if1 .left) _ (after-headword-ok .headword-ok .ensures) (else2 .if2 .left)
-    _ (k .found-is) (c .if3 .taken) in
+    let r = delete-absent (start-place .args .image .now) (start-place .args .work .now) (start-place .args .v) (p .0 .0) (p .1 .0) (p .1 .1)
+    _ (after-writable .writable .ensures) (start-place .args .headword .now) (else1 .if1 .left)
+    _ (after-headword-ok .headword-ok .ensures) (else2 .if2 .left) _ _ k (c .if3 .taken) in
     (r .0, (r .1, refl))
   where
     after-measure-change : tie.After-measure-change
@@ -112,13 +129,10 @@ returns-3 c =
     start-place : tie.Start
     start-place = search after-writable
 
-slice-aggregate-change : tie.Need-slice-aggregate-change
-slice-aggregate-change c = search needs
-
-sub-change : tie.Need-sub-change
-sub-change c =
+sub-words : tie.Need-sub-words
+sub-words c =
     let p = start-place .pre in
-    delete-some _ _ _ (p .1 .1 .1) _ (after-measure-change .measure-change .ensures .found-is) (else3 .if3 .left) _ _ (p .0)
+    delete-some _ (start-place .args .v) (p .0 .0) _ _ _ (after-measure-change .measure-change .ensures) (else3 .if3 .left)
   where
     else3 : tie.Else3
     else3 = search
@@ -132,12 +146,20 @@ sub-change c =
     start-place : tie.Start
     start-place = search else1
 
+slice-aggregate-change : tie.Need-slice-aggregate-change
+slice-aggregate-change c = search needs
+
 change-requires : tie.Need-change-requires
 change-requires c κs =
+    let v = start-place .args .v in
     let p = start-place .pre in
-    let k = after-measure-change .measure-change .ensures in
-    let f = else3 .if3 .left in
-    (k, ((p .1 .0 .2, p .1 .0 .1, p .1 .0 .3, p .1 .0 .4), (p .1 .1 .0, ((good else2, search needs), delete-ready _ _ _ (p .1 .1 .1) _ (k .found-is) f _))))
+    let k = after-measure-change .measure-change .ensures in (
+      draft-measured _ v _ _ _ _ k,
+      (
+        (draft-inside _ v _ _ _ _ k (p .1 .0), p .1 .1, p .1 .2),
+        (draft-marked _ v _ _ _ _ k _ (p .0 .1), ((good else2, search needs), delete-ready _ v (p .0 .0) _ _ _ k (else3 .if3 .left) _ refl)),
+      ),
+    )
   where
     else3 : tie.Else3
     else3 = search
@@ -154,6 +176,12 @@ change-requires c κs =
     start-place : tie.Start
     start-place = search else1
 
+enum-told : tie.Need-enum-told
+enum-told c = search needs
+
+enum-known-r : tie.Need-enum-known-r
+enum-known-r c = search needs
+
 same-length-4 : tie.Need-same-length-4
 same-length-4 c = search needs
 
@@ -168,10 +196,9 @@ returns-4 c =
     let p = start-place .pre in
     let k = after-measure-change .measure-change .ensures in
     let q = after-change .change .ensures in
-    let r = delete-fifteen (start-place .args .image .now) (start-place .args .len) (start-place .args .work .now) (p .1 .0 .0) (p .1 .0 .1) (p .1 .0 .2)
-    (p .1 .0 .3) _ _ (p .0)
-    _ (after-writable .writable .ensures) (start-place .args .headword .now) (else1 .if1 .left) _ (after-headword-ok .headword-ok .ensures) (else2 .if2 .left)
-    _ (k .found-is) (else3 .if3 .left) _ _ _ (q .0) (c .if4 .taken) in
+    let r = delete-fifteen (start-place .args .image .now) (start-place .args .work .now) (start-place .args .v) (p .0 .0) (p .1 .0) (p .1 .1)
+    _ (after-writable .writable .ensures) (start-place .args .headword .now) (else1 .if1 .left)
+    _ (after-headword-ok .headword-ok .ensures) (else2 .if2 .left) _ _ k (else3 .if3 .left) (after-change .change .result) (after-change .change .last .0) (q .0) (search needs) in
     (r .0, (r .1, q .1 .1))
   where
     after-change : tie.After-change
@@ -212,14 +239,17 @@ returns-5 c =
     let p = start-place .pre in
     let k = after-measure-change .measure-change .ensures in
     let q = after-change .change .ensures in
-    let r = delete-done (start-place .args .image .now) (start-place .args .len) (start-place .args .work .now) (p .1 .0 .0) (p .1 .0 .1) (p .1 .0 .2)
-    (p .1 .0 .3) _ _ (p .0)
-    _ (after-writable .writable .ensures) (start-place .args .headword .now) (else1 .if1 .left) _ (after-headword-ok .headword-ok .ensures) (else2 .if2 .left)
-    _ (k .found-is) (else3 .if3 .left) _ _ _ (q .0) (c .if4 .left) in
+    let r = delete-done (start-place .args .image .now) (start-place .args .work .now) (start-place .args .v) (p .0 .0) (p .1 .0) (p .1 .1)
+    _ (after-writable .writable .ensures) (start-place .args .headword .now) (else1 .if1 .left)
+    _ (after-headword-ok .headword-ok .ensures) (else2 .if2 .left) _ _ k (else3 .if3 .left) (after-change .change .result)
+    (after-change .change .last .0) (q .0) (after-r .r .given .0 .0) (search needs) in
     (r .0, (r .1, q .1 .1))
   where
+    after-r : tie.After-r
+    after-r = search
+
     after-change : tie.After-change
-    after-change = search
+    after-change = search after-r
 
     else3 : tie.Else3
     else3 = search after-change
@@ -246,6 +276,11 @@ pub delete-in-spec : {M : Type 1} → statement M
 delete-in-spec =
     tie.close
     (tie.spec
+    add-len
+    mul-len
+    add-len-2
+    mul-len-2
+    add-len-3
     writable-requires
     same-length
     returns
@@ -258,9 +293,11 @@ delete-in-spec =
     measure-change-requires
     same-length-3
     returns-3
+    sub-words
     slice-aggregate-change
-    sub-change
     change-requires
+    enum-told
+    enum-known-r
     same-length-4
     same-length-5
     same-length-6

@@ -1,14 +1,13 @@
 -- `delete_tested` meets its contract.
 use mathlib.Core.Path.{_≡_, refl}
-use lib.ListN.{length, take}
-use Rattle.spec.specs.Outcome.{ok}
-use Rattle.spec.specs.Check.{Image, image-from, entries-of}
+use lib.ListN.{take}
 use Rattle.marks.proofs.Laws.{marks-zero}
-use Rattle.inspect.specs.Overview.{index-end, AcceptedImage}
+use Rattle.inspect.specs.Overview.{AcceptedImage}
+use Rattle.change.specs.Ready.{old-length}
 use Rattle.parts.proofs.Laws.{first-bytes}
-use Rattle.change.proofs.FinishLaws.{front-blocks}
-use Rattle.inspect.proofs.Accepted.{front-header, is-accepted, words-are, end-is, free-are}
-use Rattle.editor.proofs.Rows.{delete-refused}
+use Rattle.inspect.proofs.Laws.{is-refused, is-accepted, is-marked}
+use Rattle.inspect.proofs.Accepted.{front-header}
+use Rattle.editor.proofs.Rows.{front-blocks, front-whole, delete-refused}
 use borrow.Author.Needs.{needs}
 use Rattle.editor.proofs.delete_tested.Statement.{statement}
 use Rattle.editor.proofs.delete_tested.Tie as tie
@@ -24,19 +23,12 @@ start-of-known-told2 c = search (at-match-keys2-of-known-told2 c)
 
 -- the image is accepted
 accepted : (c : tie.After-known-told2)
-    → AcceptedImage (take (start-of-known-told2 c .args .len) (start-of-known-told2 c .args .image .now)) (after-r2-of-known-told2 c .r2 .given .0 .1 .0)
-    (after-r2-of-known-told2 c .r2 .given .0 .1 .1 .0)
+    → AcceptedImage (take (start-of-known-told2 c .args .len) (start-of-known-told2 c .args .image .now)) (after-r2-of-known-told2 c .r2 .given .0 .0)
 accepted c = search is-accepted
 
--- with so many entries
-counted : (c : tie.After-known-told2) (i : Image) → image-from (take (start-of-known-told2 c .args .len) (start-of-known-told2 c .args .image .now)) ≡ ok i
-    → after-r2-of-known-told2 c .r2 .given .0 .0 ≡ length (entries-of i)
-counted c = search words-are
-
--- its elements end there
-ends : (c : tie.After-known-told2) → after-r2-of-known-told2 c .r2 .given .0 .1 .1 .1 .0
-    ≡ index-end (take (start-of-known-told2 c .args .len) (start-of-known-told2 c .args .image .now)) (after-r2-of-known-told2 c .r2 .given .0 .1 .0)
-ends c = search end-is
+-- what is told of it is as long as it
+whole : (c : tie.After-known-told2) → old-length (after-r2-of-known-told2 c .r2 .given .0 .0) ≡ start-of-known-told2 c .args .len
+whole c = let p = start-of-known-told2 c .pre in front-whole _ _ (p .2) (p .1) _ (accepted c)
 
 slice-reshare-prefix-inspect : tie.Need-slice-reshare-prefix-inspect
 slice-reshare-prefix-inspect c = search needs
@@ -60,10 +52,9 @@ slice-aggregate-delete-in : tie.Need-slice-aggregate-delete-in
 slice-aggregate-delete-in c = search needs
 
 delete-in-requires : tie.Need-delete-in-requires
-delete-in-requires c κs = (
-  accepted after-known-told2,
-  ((start .pre .0, start .pre .1, start .pre .2, start .pre .3, search needs, ends after-known-told2), (search free-are, counted after-known-told2)),
-)
+delete-in-requires c κs =
+    let e = whole after-known-told2 in
+    ((rw e (accepted after-known-told2), rw e (search is-marked)), (rw e (start .pre .2), start .pre .3, search needs))
   where
     after-known-told2 : tie.After-known-told2
     after-known-told2 = search
@@ -80,9 +71,8 @@ same-length c = search needs
 returns : tie.Need-returns
 returns c =
     let p = start .pre in
-    let r = delete-refused (start .args .image .now) (start .args .len) (start .args .work .now) (p .0) (p .1) (p .2) (p .3) _ _ _
-    (after-inspect .inspect .ensures .0)
-    (after-r .r .given .0 .0) (search needs) (start .args .headword .now) in
+    let r = delete-refused (start .args .image .now) (start .args .len) (start .args .work .now) (p .0) (p .1) (p .2) (p .3)
+    (after-r .r .given .0 .0) (search is-refused) (start .args .headword .now) in
     (r .0, (r .1, refl))
   where
     after-r : tie.After-r
@@ -101,7 +91,10 @@ same-length-3 : tie.Need-same-length-3
 same-length-3 c = search needs
 
 returns-2 : tie.Need-returns-2
-returns-2 c = search needs
+returns-2 c = rw (← whole after-known-told2) (search needs)
+  where
+    after-known-told2 : tie.After-known-told2
+    after-known-told2 = search
 
 pub delete-tested-spec : {M : Type 1} → statement M
 delete-tested-spec =

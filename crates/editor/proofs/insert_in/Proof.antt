@@ -6,13 +6,17 @@ use mathlib.Core.Bool.{true}
 use mathlib.Core.List.{_∷_}
 use lib.ListN.{length, take}
 use Rattle.spec.specs.Entry.{headword-ok}
+use Rattle.encoder.specs.Limits.{longest-body}
 use Rattle.parts.proofs.Laws.{first-bytes}
-use Rattle.change.proofs.FinishLaws.{front-blocks}
+use Rattle.editor.proofs.Rows.{front-blocks, whole-blocks}
 use Rattle.editor.proofs.Changes.{
   text-short,
   head-good,
   body-made,
   body-few,
+  draft-measured,
+  draft-inside,
+  draft-marked,
   insert-ready,
   insert-eleven,
   insert-twelve,
@@ -25,6 +29,95 @@ use borrow.Author.Needs.{needs}
 use Rattle.editor.proofs.insert_in.Statement.{statement}
 use Rattle.editor.proofs.insert_in.Tie as tie
 
+-- where the body is made, from the start of the call on
+abbrev start : tie.After-body4 → tie.Start
+start c = start-place
+  where
+    else4 : tie.Else4
+    else4 = search
+
+    after-writable : tie.After-writable
+    after-writable = search else4
+
+    start-place : tie.Start
+    start-place = search after-writable
+
+-- the text is short
+text-few : (c : tie.After-body4) → length (start c .args .text .now) ≤ 3000
+text-few c =
+    let q = after-text-ok .text-ok .ensures in
+    text-short (start-place .args .text .now) _ q (else3 .if3 .left)
+  where
+    else3 : tie.Else3
+    else3 = search
+
+    after-text-ok : tie.After-text-ok
+    after-text-ok = search else3
+
+    after-writable : tie.After-writable
+    after-writable = search after-text-ok
+
+    start-place : tie.Start
+    start-place = search after-writable
+
+-- the body is the attribute and the text
+made : (c : tie.After-body4) → take (1 + length (start c .args .text .now)) (c .before .copy .last .0) ≡ start c .args .attribute ∷ start c .args .text .now
+made c =
+    body-made (start-place .args .attribute) (start-place .args .text .now) _ _ _ (omega (arith, text-few c)) (after-write-u8 .write-u8 .ensures .0)
+    (after-copy .copy .ensures .0)
+  where
+    after-copy : tie.After-copy
+    after-copy = search
+
+    after-write-u8 : tie.After-write-u8
+    after-write-u8 = search after-copy
+
+    else1 : tie.Else1
+    else1 = search after-write-u8
+
+    start-place : tie.Start
+    start-place = search else1
+
+abbrev after-copy-of-body4 : tie.After-body4 → tie.After-copy
+after-copy-of-body4 c = search
+
+-- what measuring asks of the entry, and the change too
+entry-good : (c : tie.After-body4) → (headword-ok (start c .args .headword .now) ≡ true)
+    × (length (take (1 + length (start c .args .text .now)) (after-copy-of-body4 c .copy .last .0)) ≤ longest-body)
+entry-good c =
+    let q = after-headword-ok .headword-ok .ensures in
+    (head-good (start-place .args .headword .now) _ q (else2 .if2 .left), body-few _ _ _ (made c) (text-few c))
+  where
+    after-body : tie.After-body
+    after-body = search
+
+    else2 : tie.Else2
+    else2 = search after-body
+
+    after-headword-ok : tie.After-headword-ok
+    after-headword-ok = search else2
+
+    after-writable : tie.After-writable
+    after-writable = search after-headword-ok
+
+    start-place : tie.Start
+    start-place = search after-writable
+
+add-len : tie.Need-add-len
+add-len c = search needs
+
+mul-len : tie.Need-mul-len
+mul-len c = search needs
+
+add-len-2 : tie.Need-add-len-2
+add-len-2 c = search needs
+
+mul-len-2 : tie.Need-mul-len-2
+mul-len-2 c = search needs
+
+add-len-3 : tie.Need-add-len-3
+add-len-3 c = search needs
+
 writable-requires : tie.Need-writable-requires
 writable-requires c κs = search needs
 
@@ -33,8 +126,8 @@ same-length c = search needs
 
 returns : tie.Need-returns
 returns c =
-    let r = insert-eleven (start-place .args .image .now) (start-place .args .len) (start-place .args .work .now) (start-place .pre .1 .0 .0)
-    (start-place .pre .1 .0 .1) (start-place .pre .1 .0 .2) (start-place .pre .1 .0 .3) _ _ (start-place .pre .0) _ (after-writable .writable .ensures)
+    let r = insert-eleven (start-place .args .image .now) (start-place .args .work .now) (start-place .args .v) (start-place .pre .0 .0) (start-place .pre .1 .0)
+    (start-place .pre .1 .1) _ (after-writable .writable .ensures)
     (start-place .args .headword .now) (c .if1 .taken) _ _ in
     (r .0, (r .1, refl))
   where
@@ -52,8 +145,8 @@ same-length-2 c = search needs
 
 returns-2 : tie.Need-returns-2
 returns-2 c =
-    let r = insert-twelve (start-place .args .image .now) (start-place .args .len) (start-place .args .work .now) (start-place .pre .1 .0 .0)
-    (start-place .pre .1 .0 .1) (start-place .pre .1 .0 .2) (start-place .pre .1 .0 .3) _ _ (start-place .pre .0) _ (after-writable .writable .ensures)
+    let r = insert-twelve (start-place .args .image .now) (start-place .args .work .now) (start-place .args .v) (start-place .pre .0 .0) (start-place .pre .1 .0)
+    (start-place .pre .1 .1) _ (after-writable .writable .ensures)
     (start-place .args .headword .now) (else1 .if1 .left) _ (after-headword-ok .headword-ok .ensures) (c .if2 .taken) _ _ in
     (r .0, (r .1, refl))
   where
@@ -77,8 +170,8 @@ same-length-3 c = search needs
 
 returns-3 : tie.Need-returns-3
 returns-3 c =
-    let r = insert-thirteen (start-place .args .image .now) (start-place .args .len) (start-place .args .work .now) (start-place .pre .1 .0 .0)
-    (start-place .pre .1 .0 .1) (start-place .pre .1 .0 .2) (start-place .pre .1 .0 .3) _ _ (start-place .pre .0) _ (after-writable .writable .ensures)
+    let r = insert-thirteen (start-place .args .image .now) (start-place .args .work .now) (start-place .args .v) (start-place .pre .0 .0) (start-place .pre .1 .0)
+    (start-place .pre .1 .1) _ (after-writable .writable .ensures)
     (start-place .args .headword .now) (else1 .if1 .left) _ (after-headword-ok .headword-ok .ensures) (else2 .if2 .left) (start-place .args .attribute)
     (start-place .args .text .now) _ (after-text-ok .text-ok .ensures) (c .if3 .taken) in
     (r .0, (r .1, refl))
@@ -109,8 +202,8 @@ same-length-4 c = search needs
 
 returns-4 : tie.Need-returns-4
 returns-4 c =
-    let r = insert-attribute (start-place .args .image .now) (start-place .args .len) (start-place .args .work .now) (start-place .pre .1 .0 .0)
-    (start-place .pre .1 .0 .1) (start-place .pre .1 .0 .2) (start-place .pre .1 .0 .3) _ _ (start-place .pre .0) _ (after-writable .writable .ensures)
+    let r = insert-attribute (start-place .args .image .now) (start-place .args .work .now) (start-place .args .v) (start-place .pre .0 .0) (start-place .pre .1 .0)
+    (start-place .pre .1 .1) _ (after-writable .writable .ensures)
     (start-place .args .headword .now) (else1 .if1 .left) _ (after-headword-ok .headword-ok .ensures) (else2 .if2 .left) (start-place .args .attribute)
     (start-place .args .text .now) _ (after-text-ok .text-ok .ensures) (else3 .if3 .left) _ (after-attribute-ok .attribute-ok .ensures) (c .if4 .taken) in
     (r .0, (r .1, refl))
@@ -163,55 +256,6 @@ copy-requires c κs = (omega (arith, text-short (start-place .args .text .now) _
     start-place : tie.Start
     start-place = search after-writable
 
--- where the body is made, from the start of the call on
-abbrev start : tie.After-body4 → tie.Start
-start c = start-place
-  where
-    else4 : tie.Else4
-    else4 = search
-
-    after-writable : tie.After-writable
-    after-writable = search else4
-
-    start-place : tie.Start
-    start-place = search after-writable
-
--- the text is short
-text-few : (c : tie.After-body4) → length (start c .args .text .now) ≤ 3000
-text-few c =
-    let q = after-text-ok .text-ok .ensures in
-    text-short (start-place .args .text .now) _ q (else3 .if3 .left)
-  where
-    else3 : tie.Else3
-    else3 = search
-
-    after-text-ok : tie.After-text-ok
-    after-text-ok = search else3
-
-    after-writable : tie.After-writable
-    after-writable = search after-text-ok
-
-    start-place : tie.Start
-    start-place = search after-writable
-
--- the body is the attribute and the text
-made : (c : tie.After-body4) → take (1 + length (start c .args .text .now)) (c .before .copy .last .0) ≡ start c .args .attribute ∷ start c .args .text .now
-made c =
-    body-made (start-place .args .attribute) (start-place .args .text .now) _ _ _ (omega (arith, text-few c)) (after-write-u8 .write-u8 .ensures .0)
-    (after-copy .copy .ensures .0)
-  where
-    after-copy : tie.After-copy
-    after-copy = search
-
-    after-write-u8 : tie.After-write-u8
-    after-write-u8 = search after-copy
-
-    else1 : tie.Else1
-    else1 = search after-write-u8
-
-    start-place : tie.Start
-    start-place = search else1
-
 add-body : tie.Need-add-body
 add-body c = omega (arith, text-few c)
 
@@ -222,52 +266,30 @@ slice-aggregate-new : tie.Need-slice-aggregate-new
 slice-aggregate-new c = first-bytes _ _ (omega (arith, text-few (c .before)))
 
 slice-reshare-prefix-measure-change : tie.Need-slice-reshare-prefix-measure-change
-slice-reshare-prefix-measure-change c = search needs
+slice-reshare-prefix-measure-change c = omega (arith, start after-body4 .pre .1 .0)
+  where
+    after-body4 : tie.After-body4
+    after-body4 = search
 
 slice-aggregate-measure-change : tie.Need-slice-aggregate-measure-change
-slice-aggregate-measure-change c = search first-bytes
-
-abbrev after-copy-of-body4 : tie.After-body4 → tie.After-copy
-after-copy-of-body4 c = search
-
--- what measuring asks of the entry, and the change too
-entry-good : (c : tie.After-body4) → (headword-ok (start c .args .headword .now) ≡ true)
-    × (length (take (1 + length (start c .args .text .now)) (after-copy-of-body4 c .copy .last .0)) ≤ 3001)
-entry-good c =
-    let q = after-headword-ok .headword-ok .ensures in
-    (head-good (start-place .args .headword .now) _ q (else2 .if2 .left), body-few _ _ _ (made c) (text-few c))
+slice-aggregate-measure-change c = first-bytes _ _ (omega (arith, start after-body4 .pre .1 .0))
   where
-    after-body : tie.After-body
-    after-body = search
-
-    else2 : tie.Else2
-    else2 = search after-body
-
-    after-headword-ok : tie.After-headword-ok
-    after-headword-ok = search else2
-
-    after-writable : tie.After-writable
-    after-writable = search after-headword-ok
-
-    start-place : tie.Start
-    start-place = search after-writable
+    after-body4 : tie.After-body4
+    after-body4 = search
 
 measure-change-requires : tie.Need-measure-change-requires
 measure-change-requires c κs =
-    let p = start (c .before .before) .pre in
-    (p .0, (front-blocks _ _ (p .1 .0 .2) (p .1 .0 .1), entry-good (c .before .before) .0, entry-good (c .before .before) .1, p .1 .0 .5))
+    let p = start after-body4 .pre in
+    (p .0 .0, (front-blocks _ _ (p .1 .0) (whole-blocks _ _ (p .0 .0)), entry-good after-body4 .0, entry-good after-body4 .1))
+  where
+    after-body4 : tie.After-body4
+    after-body4 = search
 
 words-after-requires : tie.Need-words-after-requires
-words-after-requires c κs = start-place .pre .1 .1 .1 .1
+words-after-requires c κs = start after-body4 .pre .1 .3
   where
-    after-body : tie.After-body
-    after-body = search
-
-    after-writable : tie.After-writable
-    after-writable = search after-body
-
-    start-place : tie.Start
-    start-place = search after-writable
+    after-body4 : tie.After-body4
+    after-body4 = search
 
 change-requires : tie.Need-change-requires
 change-requires c κs =
@@ -277,11 +299,16 @@ change-requires c κs =
     let h = after-headword-ok .headword-ok .ensures in
     let t = after-text-ok .text-ok .ensures in
     let w = after-words-after .words-after .ensures in
-    let ready = insert-ready _ (a .headword .now) _ h (else2 .if2 .left)
+    let ready = insert-ready _ (a .v) (p .0 .0) (a .headword .now) _ h (else2 .if2 .left)
     (a .text .now) _ t (else3 .if3 .left)
     (a .attribute) _ (after-attribute-ok .attribute-ok .ensures) (else4 .if4 .left)
-    _ (p .1 .1 .1 .0) _ (m .found-is) _ w _ (made after-body4) in
-    (m, ((p .1 .0 .2, p .1 .0 .1, p .1 .0 .3, p .1 .0 .4), (p .1 .1 .0, (entry-good after-body4, ready))))
+    _ (made after-body4) _ m _ w in (
+      draft-measured _ (a .v) _ _ _ _ m,
+      (
+        (draft-inside _ (a .v) _ _ _ _ m (p .1 .0), p .1 .1, p .1 .2),
+        (draft-marked _ (a .v) _ _ _ _ m _ (p .0 .1), (entry-good after-body4, ready)),
+      ),
+    )
   where
     after-words-after : tie.After-words-after
     after-words-after = search
@@ -316,6 +343,12 @@ change-requires c κs =
     start-place : tie.Start
     start-place = search after-writable
 
+enum-told : tie.Need-enum-told
+enum-told c = search needs
+
+enum-known-r : tie.Need-enum-known-r
+enum-known-r c = search needs
+
 same-length-5 : tie.Need-same-length-5
 same-length-5 c = search needs
 
@@ -331,20 +364,24 @@ returns-5 c =
     let v = after-writable .writable .ensures in
     let h = after-headword-ok .headword-ok .ensures in
     let t = after-text-ok .text-ok .ensures in
+    let m = after-measure-change .measure-change .ensures in
     let q = after-change .change .ensures in
-    let r = insert-fifteen (start-place .args .image .now) (start-place .args .len) (start-place .args .work .now) (p .1 .0 .0) (p .1 .0 .1) (p .1 .0 .2)
-    (p .1 .0 .3) _ _ (p .0) _ v
+    let r = insert-fifteen (start-place .args .image .now) (start-place .args .work .now) (start-place .args .v) (p .0 .0) (p .1 .0) (p .1 .1) _ v
     (start-place .args .headword .now) (else1 .if1 .left)
     _ h (else2 .if2 .left)
     (start-place .args .attribute) (start-place .args .text .now) _ t (else3 .if3 .left)
-    _ (after-attribute-ok .attribute-ok .ensures) (else4 .if4 .left) _ (made after-body4) _ _ (q .0) (c .if5 .taken) in
+    _ (after-attribute-ok .attribute-ok .ensures) (else4 .if4 .left) _ (made after-body4) _ m
+    (after-change .change .result) (after-change .change .last .0) (q .0) (search needs) in
     (r .0, (r .1, q .1 .1))
   where
     after-change : tie.After-change
     after-change = search
 
+    after-measure-change : tie.After-measure-change
+    after-measure-change = search after-change
+
     after-body4 : tie.After-body4
-    after-body4 = search after-change
+    after-body4 = search after-measure-change
 
     else4 : tie.Else4
     else4 = search after-body4
@@ -388,20 +425,27 @@ returns-6 c =
     let v = after-writable .writable .ensures in
     let h = after-headword-ok .headword-ok .ensures in
     let t = after-text-ok .text-ok .ensures in
+    let m = after-measure-change .measure-change .ensures in
     let q = after-change .change .ensures in
-    let r = insert-done (start-place .args .image .now) (start-place .args .len) (start-place .args .work .now) (p .1 .0 .0) (p .1 .0 .1) (p .1 .0 .2)
-    (p .1 .0 .3) _ _ (p .0) _ v
+    let r = insert-done (start-place .args .image .now) (start-place .args .work .now) (start-place .args .v) (p .0 .0) (p .1 .0) (p .1 .1) _ v
     (start-place .args .headword .now) (else1 .if1 .left)
     _ h (else2 .if2 .left)
     (start-place .args .attribute) (start-place .args .text .now) _ t (else3 .if3 .left)
-    _ (after-attribute-ok .attribute-ok .ensures) (else4 .if4 .left) _ (made after-body4) _ _ (q .0) (c .if5 .left) in
+    _ (after-attribute-ok .attribute-ok .ensures) (else4 .if4 .left) _ (made after-body4) _ m
+    (after-change .change .result) (after-change .change .last .0) (q .0) (after-r .r .given .0 .0) (search needs) in
     (r .0, (r .1, q .1 .1))
   where
+    after-r : tie.After-r
+    after-r = search
+
     after-change : tie.After-change
-    after-change = search
+    after-change = search after-r
+
+    after-measure-change : tie.After-measure-change
+    after-measure-change = search after-change
 
     after-body4 : tie.After-body4
-    after-body4 = search after-change
+    after-body4 = search after-measure-change
 
     else4 : tie.Else4
     else4 = search after-body4
@@ -434,6 +478,11 @@ pub insert-in-spec : {M : Type 1} → statement M
 insert-in-spec =
     tie.close
     (tie.spec
+    add-len
+    mul-len
+    add-len-2
+    mul-len-2
+    add-len-3
     writable-requires
     same-length
     returns
@@ -458,6 +507,8 @@ insert-in-spec =
     measure-change-requires
     words-after-requires
     change-requires
+    enum-told
+    enum-known-r
     same-length-5
     same-length-6
     same-length-7

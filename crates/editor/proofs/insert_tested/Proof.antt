@@ -1,15 +1,14 @@
 -- `insert_tested` meets its contract.
 use native.Mathlib.Omega.{arith}
 use mathlib.Core.Path.{_≡_, refl}
-use lib.ListN.{length, take}
-use Rattle.spec.specs.Outcome.{ok}
-use Rattle.spec.specs.Check.{Image, image-from, entries-of}
+use lib.ListN.{take}
 use Rattle.marks.proofs.Laws.{marks-zero}
-use Rattle.inspect.specs.Overview.{index-end, AcceptedImage}
+use Rattle.inspect.specs.Overview.{AcceptedImage}
+use Rattle.change.specs.Ready.{old-length}
 use Rattle.parts.proofs.Laws.{first-bytes}
-use Rattle.change.proofs.FinishLaws.{front-blocks}
-use Rattle.inspect.proofs.Accepted.{front-header, is-accepted, words-are, end-is, free-are}
-use Rattle.editor.proofs.Rows.{words-few, insert-refused}
+use Rattle.inspect.proofs.Laws.{is-refused, is-accepted, is-marked}
+use Rattle.inspect.proofs.Accepted.{front-header}
+use Rattle.editor.proofs.Rows.{front-blocks, front-whole, words-few, insert-refused}
 use borrow.Author.Needs.{needs}
 use Rattle.editor.proofs.insert_tested.Statement.{statement}
 use Rattle.editor.proofs.insert_tested.Tie as tie
@@ -25,19 +24,12 @@ start-of-known-told2 c = search (after-inspect-of-known-told2 c)
 
 -- the image is accepted
 accepted : (c : tie.After-known-told2)
-    → AcceptedImage (take (start-of-known-told2 c .args .len) (start-of-known-told2 c .args .image .now)) (after-r2-of-known-told2 c .r2 .given .0 .1 .0)
-    (after-r2-of-known-told2 c .r2 .given .0 .1 .1 .0)
+    → AcceptedImage (take (start-of-known-told2 c .args .len) (start-of-known-told2 c .args .image .now)) (after-r2-of-known-told2 c .r2 .given .0 .0)
 accepted c = search is-accepted
 
--- with so many entries
-counted : (c : tie.After-known-told2) (i : Image) → image-from (take (start-of-known-told2 c .args .len) (start-of-known-told2 c .args .image .now)) ≡ ok i
-    → after-r2-of-known-told2 c .r2 .given .0 .0 ≡ length (entries-of i)
-counted c = search words-are
-
--- its elements end there
-ends : (c : tie.After-known-told2) → after-r2-of-known-told2 c .r2 .given .0 .1 .1 .1 .0
-    ≡ index-end (take (start-of-known-told2 c .args .len) (start-of-known-told2 c .args .image .now)) (after-r2-of-known-told2 c .r2 .given .0 .1 .0)
-ends c = search end-is
+-- what is told of it is as long as it
+whole : (c : tie.After-known-told2) → old-length (after-r2-of-known-told2 c .r2 .given .0 .0) ≡ start-of-known-told2 c .args .len
+whole c = let p = start-of-known-told2 c .pre in front-whole _ _ (p .2) (p .1) _ (accepted c)
 
 slice-reshare-prefix-inspect : tie.Need-slice-reshare-prefix-inspect
 slice-reshare-prefix-inspect c = search needs
@@ -61,20 +53,10 @@ slice-aggregate-insert-in : tie.Need-slice-aggregate-insert-in
 slice-aggregate-insert-in c = search needs
 
 insert-in-requires : tie.Need-insert-in-requires
-insert-in-requires c κs = (
-  accepted after-known-told2,
-  (
-    (start .pre .0, start .pre .1, start .pre .2, start .pre .3, search needs, ends after-known-told2),
-    (
-      search free-are,
-      (
-        counted after-known-told2,
-        words-few _ _ (start .pre .2) (start .pre .0) (λ k. omega (arith, after-slice-known .slice-known .given k)) _ _ (accepted after-known-told2) _
-            (counted after-known-told2),
-      ),
-    ),
-  ),
-)
+insert-in-requires c κs =
+    let e = whole after-known-told2 in
+    let few = words-few _ _ (start .pre .2) (start .pre .0) (λ k. omega (arith, after-slice-known .slice-known .given k)) _ (accepted after-known-told2) in
+    ((rw e (accepted after-known-told2), rw e (search is-marked)), (rw e (start .pre .2), start .pre .3, search needs, few))
   where
     after-known-told2 : tie.After-known-told2
     after-known-told2 = search
@@ -94,9 +76,8 @@ same-length c = search needs
 returns : tie.Need-returns
 returns c =
     let p = start .pre in
-    let r = insert-refused (start .args .image .now) (start .args .len) (start .args .work .now) (p .0) (p .1) (p .2) (p .3) _ _ _
-    (after-inspect .inspect .ensures .0)
-    (after-r .r .given .0 .0) (search needs) (start .args .headword .now) (start .args .attribute) (start .args .text .now) in
+    let r = insert-refused (start .args .image .now) (start .args .len) (start .args .work .now) (p .0) (p .1) (p .2) (p .3)
+    (after-r .r .given .0 .0) (search is-refused) (start .args .headword .now) (start .args .attribute) (start .args .text .now) in
     (r .0, (r .1, refl))
   where
     after-r : tie.After-r
@@ -115,7 +96,10 @@ same-length-3 : tie.Need-same-length-3
 same-length-3 c = search needs
 
 returns-2 : tie.Need-returns-2
-returns-2 c = search needs
+returns-2 c = rw (← whole after-known-told2) (search needs)
+  where
+    after-known-told2 : tie.After-known-told2
+    after-known-told2 = search
 
 pub insert-tested-spec : {M : Type 1} → statement M
 insert-tested-spec =

@@ -1,17 +1,15 @@
 -- `optimise_tested` meets its contract.
 use Prim.Native.Nat.{ℕ}
-use mathlib.Core.Path.{_≡_, refl}
+use mathlib.Core.Path.{refl}
 use mathlib.Core.List.{List}
-use lib.ListN.{length, take}
-use Rattle.spec.specs.Outcome.{ok}
-use Rattle.spec.specs.Check.{Image, image-from, entries-of}
-use Rattle.inspect.specs.Overview.{index-end, AcceptedImage}
+use lib.ListN.{take}
+use Rattle.inspect.specs.Overview.{AcceptedImage}
 use native.Mathlib.Omega.{arith}
 use Rattle.marks.proofs.Laws.{marks-zero}
-use Rattle.inspect.proofs.Accepted.{front-header, is-accepted, words-are, end-is}
-use Rattle.editor.proofs.Rows.{copy-is, copy-inside, copy-accepted, copy-whole, copy-end, copy-words, optimise-refused, optimise-eleven, optimise-done}
+use Rattle.inspect.proofs.Laws.{is-refused, is-accepted}
+use Rattle.inspect.proofs.Accepted.{front-header}
+use Rattle.editor.proofs.Rows.{front-blocks, copy-is, copy-inside, copy-accepted, copy-blocks, copy-front, optimise-refused, optimise-eleven, optimise-done}
 use Rattle.parts.proofs.Laws.{first-bytes}
-use Rattle.change.proofs.FinishLaws.{front-blocks}
 use borrow.Author.Needs.{needs}
 use Rattle.editor.proofs.optimise_tested.Statement.{statement}
 use Rattle.editor.proofs.optimise_tested.Tie as tie
@@ -28,16 +26,8 @@ lent c =
     start = search at-match-keys2
 
 -- it is accepted
-accepted : (c : tie.After-known-told2) → AcceptedImage (lent c) (c .before .r2 .given .0 .1 .0) (c .before .r2 .given .0 .1 .1 .0)
+accepted : (c : tie.After-known-told2) → AcceptedImage (lent c) (c .before .r2 .given .0 .0)
 accepted c = search is-accepted
-
--- with so many entries
-counted : (c : tie.After-known-told2) (i : Image) → image-from (lent c) ≡ ok i → c .before .r2 .given .0 .0 ≡ length (entries-of i)
-counted c = search words-are
-
--- its elements end there
-ends : (c : tie.After-known-told2) → c .before .r2 .given .0 .1 .1 .1 .0 ≡ index-end (lent c) (c .before .r2 .given .0 .1 .0)
-ends c = search end-is
 
 slice-reshare-prefix-inspect : tie.Need-slice-reshare-prefix-inspect
 slice-reshare-prefix-inspect c = search needs
@@ -65,7 +55,7 @@ same-length c = search needs
 
 returns : tie.Need-returns
 returns c =
-    let r = optimise-eleven _ _ _ (start .pre .0) (start .pre .1) (start .pre .2) (start .pre .3) _ _ (accepted after-known-told2) _
+    let r = optimise-eleven _ _ _ (start .pre .0) (start .pre .1) (start .pre .2) (start .pre .3) _ (accepted after-known-told2) _
     (after-writable .writable .ensures) (c .if1 .taken) in
     (r .0, (r .1, refl))
   where
@@ -102,16 +92,9 @@ slice-aggregate-pack c = first-bytes (after-copy .copy .last .0) (start .args .l
 pack-requires : tie.Need-pack-requires
 pack-requires c κs =
     let copied = after-copy .copy .ensures .0 in
-    let p = start .pre in
-    let a = accepted after-known-told2 in (
-      copy-accepted _ _ (p .2) _ _ copied _ _ a,
-      (
-        (copy-whole _ _ (p .2) _ _ copied _ _ a (p .1), copy-inside _ _ (p .2) _ _ copied),
-        (
-          copy-end _ _ (p .2) _ _ copied (after-r2 .r2 .given .0 .1 .0) _ (ends after-known-told2),
-          copy-words _ _ (p .2) _ _ copied _ (counted after-known-told2),
-        ),
-      ),
+    let p = start .pre in (
+      copy-accepted _ _ (p .2) _ _ copied _ (accepted after-known-told2),
+      (copy-blocks _ _ (p .2) _ _ copied (p .1), copy-inside _ _ (p .2) _ _ copied, copy-front _ _ (p .2) _ _ copied),
     )
   where
     after-copy : tie.After-copy
@@ -120,11 +103,11 @@ pack-requires c κs =
     after-known-told2 : tie.After-known-told2
     after-known-told2 = search after-copy
 
-    after-r2 : tie.After-r2
-    after-r2 = search after-known-told2
+    at-match-keys2 : tie.At-match-keys2
+    at-match-keys2 = search after-known-told2
 
     start : tie.Start
-    start = search after-r2
+    start = search at-match-keys2
 
 same-length-2 : tie.Need-same-length-2
 same-length-2 c = search needs
@@ -132,9 +115,8 @@ same-length-2 c = search needs
 returns-2 : tie.Need-returns-2
 returns-2 c =
     let p = start .pre in
-    let seen = after-inspect .inspect .ensures .0 in
-    let r = optimise-refused (start .args .image .now) (start .args .len) (start .args .work .now) (p .0) (p .1) (p .2) (p .3) _ _ _ seen
-    (after-r .r .given .0 .0) (search needs) in
+    let r = optimise-refused (start .args .image .now) (start .args .len) (start .args .work .now) (p .0) (p .1) (p .2) (p .3)
+    (after-r .r .given .0 .0) (search is-refused) in
     (r .0, (r .1, refl))
   where
     after-r : tie.After-r
@@ -155,7 +137,7 @@ same-length-4 c = search needs
 returns-3 : tie.Need-returns-3
 returns-3 c =
     let r = optimise-done (start .args .image .now) (start .args .len) (start .args .work .now) (start .pre .0) (start .pre .1) (start .pre .2) (start .pre .3)
-    _ _ (accepted after-known-told2) _ (after-writable .writable .ensures) (else1 .if1 .left) (λ k. omega (arith, after-slice-known .slice-known .given k))
+    _ (accepted after-known-told2) _ (after-writable .writable .ensures) (else1 .if1 .left) (λ k. omega (arith, after-slice-known .slice-known .given k))
     _ _ (copy-is _ _ (start .pre .2) _ _ (after-copy .copy .ensures .0)) _ (after-pack .pack .ensures .1 .0) (after-pack .pack .ensures .0) in
     (r .0, (r .1, after-copy .copy .ensures .1))
   where

@@ -5,17 +5,18 @@ use lib.ListN.{length}
 use Rattle.spec.specs.Bytes.{write}
 use Rattle.index.specs.Elements.{elements-at, Inside}
 use Rattle.elements.proofs.Laws.{renewed-bytes, room, copy-laws}
+use borrow.Author.Needs.{needs}
 use Rattle.elements.proofs.copy_elements.Statement.{statement}
 use Rattle.elements.proofs.copy_elements.Tie as tie
 
 abbrev Inv-loop : tie.InvT-loop
-Inv-loop dst₀ at index from n numbers g out₀ pos₀ left₀ dst out pos left =
-    (length dst ≡ length dst₀) × (at + room (elements-at index from n) ≤ length dst) × Inside index pos left
-    × (out + room (elements-at index pos left) ≡ at + room (elements-at index from n))
-    × (write out (renewed-bytes numbers g (elements-at index pos left)) dst ≡ write at (renewed-bytes numbers g (elements-at index from n)) dst₀)
+Inv-loop width dst₀ at index numbers g out₀ pos₀ left₀ dst out pos left =
+    (length dst ≡ length dst₀) × (at + room width (elements-at width index pos₀ left₀) ≤ length dst) × Inside width index pos left
+    × (out + room width (elements-at width index pos left) ≡ at + room width (elements-at width index pos₀ left₀))
+    × (write out (renewed-bytes width numbers g (elements-at width index pos left)) dst ≡ write at (renewed-bytes width numbers g (elements-at width index pos₀ left₀)) dst₀)
 
 abbrev μ-loop : tie.MeasureT-loop
-μ-loop dst₀ at index from n numbers g out₀ pos₀ left₀ dst out pos left = left
+μ-loop width dst₀ at index numbers g out₀ pos₀ left₀ dst out pos left = left
 
 loop-holds : tie.Need-loop-holds Inv-loop μ-loop
 loop-holds c = search copy-laws
@@ -23,8 +24,8 @@ loop-holds c = search copy-laws
 element-end-requires : tie.Need-element-end-requires Inv-loop μ-loop
 element-end-requires c κs = search copy-laws
 
-read-u16-requires : tie.Need-read-u16-requires Inv-loop μ-loop
-read-u16-requires c κs = search copy-laws
+read-number-requires : tie.Need-read-number-requires Inv-loop μ-loop
+read-number-requires c κs = search copy-laws
 
 number-after-requires : tie.Need-number-after-requires Inv-loop μ-loop
 number-after-requires c κs = search copy-laws
@@ -42,7 +43,7 @@ part-put-element-end : tie.Need-part-put-element-end Inv-loop μ-loop
 part-put-element-end c = search copy-laws
 
 put-element-requires : tie.Need-put-element-requires Inv-loop μ-loop
-put-element-requires c κs = search copy-laws
+put-element-requires c κs = (search needs, search copy-laws)
 
 add-pos : tie.Need-add-pos Inv-loop μ-loop
 add-pos c = search copy-laws
@@ -70,7 +71,7 @@ copy-elements-spec =
     μ-loop
     loop-holds
     element-end-requires
-    read-u16-requires
+    read-number-requires
     number-after-requires
     add-put-element
     sub-put-element

@@ -1,25 +1,21 @@
 -- `put_element` meets its contract.
-use mathlib.Core.Path.{refl}
 use native.Mathlib.Omega.{arith}
 use Rattle.elements.proofs.Laws.{element-put}
 use borrow.Author.Needs.{needs}
 use Rattle.elements.proofs.put_element.Statement.{statement}
 use Rattle.elements.proofs.put_element.Tie as tie
 
-write-u16-requires : tie.Need-write-u16-requires
-write-u16-requires c κs = search needs
+add-from : tie.Need-add-from
+add-from c = search needs
 
-add-copy : tie.Need-add-copy
-add-copy c = search needs
+add-end : tie.Need-add-end
+add-end c = search needs
+
+write-number-requires : tie.Need-write-number-requires
+write-number-requires c κs = search needs
 
 copy-requires : tie.Need-copy-requires
 copy-requires c κs = search needs
-
-add-write-u8 : tie.Need-add-write-u8
-add-write-u8 c = search needs
-
-add-write-u8-2 : tie.Need-add-write-u8-2
-add-write-u8-2 c = search needs
 
 write-u8-requires : tie.Need-write-u8-requires
 write-u8-requires c κs = search needs
@@ -27,26 +23,21 @@ write-u8-requires c κs = search needs
 add-result : tie.Need-add-result
 add-result c = search needs
 
-add-result-2 : tie.Need-add-result-2
-add-result-2 c = search needs
-
 same-length : tie.Need-same-length
 same-length c = search needs
 
 returns : tie.Need-returns
-returns c = (search (element-put, needs), (refl, omega arith))
+returns c = (search (element-put, needs), (omega arith, omega arith))
 
 pub put-element-spec : {M : Type 1} → statement M
 put-element-spec =
     tie.close
     (tie.spec
-    write-u16-requires
-    add-copy
+    add-from
+    add-end
+    write-number-requires
     copy-requires
-    add-write-u8
-    add-write-u8-2
     write-u8-requires
     add-result
-    add-result-2
     same-length
     returns)

@@ -6,10 +6,10 @@ use Rattle.freelist.proofs.read_free_list.Statement.{statement}
 use Rattle.freelist.proofs.read_free_list.Tie as tie
 
 abbrev Inv-loop : tie.InvT-loop
-Inv-loop area d first n used₀ free₀ b₀ left₀ used free b left = Sofar area d first n used₀ free₀ used free b left
+Inv-loop area d first count used₀ free₀ b₀ left₀ used free b left = Sofar area d first count used₀ free₀ used free b left
 
 abbrev μ-loop : tie.MeasureT-loop
-μ-loop area d first n used₀ free₀ b₀ left₀ used free b left = left
+μ-loop area d first count used₀ free₀ b₀ left₀ used free b left = left
 
 loop-holds : tie.Need-loop-holds Inv-loop μ-loop
 loop-holds c = search (list-start, needs)

@@ -9,12 +9,12 @@ use Rattle.index.proofs.concerned.Statement.{statement}
 use Rattle.index.proofs.concerned.Tie as tie
 
 abbrev Inv-loop : tie.InvT-loop
-Inv-loop index n h at₀ left₀ end₀ at left end =
-    (1 ≤ left) × (end < length index) × Inside index at left × (end ≡ element-end index at)
-    × (concerned-from (below-of 0) index h 0 (n - 1) ≡ concerned-from (below-of 0) index h at (left - 1))
+Inv-loop width order index elements h at₀ left₀ end₀ at left end =
+    (1 ≤ left) × (end < length index) × Inside width index at left × (end ≡ element-end width index at)
+    × (concerned-from width (below-of order) index h 0 (elements - 1) ≡ concerned-from width (below-of order) index h at (left - 1))
 
 abbrev μ-loop : tie.MeasureT-loop
-μ-loop index n h at₀ left₀ end₀ at left end = left
+μ-loop width order index elements h at₀ left₀ end₀ at left end = left
 
 element-end-requires : tie.Need-element-end-requires Inv-loop μ-loop
 element-end-requires c κs = search concerned-laws

@@ -15,13 +15,13 @@ use Rattle.index.proofs.read_elements.Statement.{statement}
 use Rattle.index.proofs.read_elements.Tie as tie
 
 abbrev Inv-loop : tie.InvT-loop
-Inv-loop index n at₀ left₀ start₀ end₀ at left start end =
+Inv-loop width order index elements at₀ left₀ start₀ end₀ at left start end =
     (at ≤ length index) × (start ≤ end) × (end ≤ length index)
-    × (accepted (elements-from 2 (below-of 0) n [] index) ≡ accepted (elements-from 2 (below-of 0) left (bytes-at start (end - start) index) (drop at index)))
-    × (elements-end index at left ≡ elements-end index 0 n)
+    × (accepted (elements-from width (below-of order) elements [] index) ≡ accepted (elements-from width (below-of order) left (bytes-at start (end - start) index) (drop at index)))
+    × (elements-end width index at left ≡ elements-end width index 0 elements)
 
 abbrev μ-loop : tie.MeasureT-loop
-μ-loop index n at₀ left₀ start₀ end₀ at left start end = left
+μ-loop width order index elements at₀ left₀ start₀ end₀ at left start end = left
 
 loop-holds : tie.Need-loop-holds Inv-loop μ-loop
 loop-holds c = search elements-laws
@@ -92,7 +92,7 @@ loop-again c =
       search needs,
       search needs,
       search needs,
-      element-good _ _ _ _ _ _ (so .3) (search) (search) _ (search) (search) _ (after-is-below .is-below .ensures) (search) (search),
+      element-good _ _ _ _ _ _ _ _ (so .3) (search) (search) (search) _ (search) (search) _ (after-is-below .is-below .ensures) (search) (search),
       search end-turn,
     )
   where

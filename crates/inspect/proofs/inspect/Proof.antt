@@ -1,5 +1,5 @@
-use Rattle.header.proofs.Laws.{frame-read, frame-length-is}
-use Rattle.inspect.proofs.Laws.{areas-frame, areas-index-few, areas-data-few}
+use Rattle.header.proofs.Laws.{frame-read}
+use Rattle.inspect.proofs.Laws.{areas-frame, areas-fit, areas-good, areas-whole, areas-index-few, areas-data-few}
 use borrow.Author.Needs.{needs}
 use Rattle.inspect.proofs.inspect.Statement.{statement}
 use Rattle.inspect.proofs.inspect.Tie as tie
@@ -14,11 +14,13 @@ enum-known-f-2 : tie.Need-enum-known-f-2
 enum-known-f-2 c = search needs
 
 inspect-areas-requires : tie.Need-inspect-areas-requires
-inspect-areas-requires c κs =
-    (search frame-read, ((search (frame-length-is, frame-read), search areas-index-few, search areas-data-few, search needs), search needs))
+inspect-areas-requires c κs = (
+  (search frame-read, search areas-good),
+  ((search areas-whole, search areas-index-few, search areas-data-few, search areas-fit), search needs),
+)
 
 returns : tie.Need-returns
-returns c = (search areas-frame, tt)
+returns c = search areas-frame
 
 same-length : tie.Need-same-length
 same-length c = search needs

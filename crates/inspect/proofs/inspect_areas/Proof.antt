@@ -1,8 +1,11 @@
 use Rattle.marks.proofs.Laws.{marks-zero}
-use Rattle.inspect.proofs.Laws.{areas-index, areas-end, areas-inside, areas-runs, areas-read, index-few, data-long}
+use Rattle.inspect.proofs.Laws.{areas-index, areas-inside, areas-runs, areas-read, index-few, data-long}
 use borrow.Author.Needs.{needs}
 use Rattle.inspect.proofs.inspect_areas.Statement.{statement}
 use Rattle.inspect.proofs.inspect_areas.Tie as tie
+
+add-from : tie.Need-add-from
+add-from c = search needs
 
 mul-start : tie.Need-mul-start
 mul-start c = search needs
@@ -57,12 +60,13 @@ slice-aggregate-settle c = search needs
 
 settle-requires : tie.Need-settle-requires
 settle-requires c κs =
-    let frame = start .pre .0 in
+    let frame = start .pre .0 .0 in
+    let good = start .pre .0 .1 in
     let number = after-nindex2 .nindex2 .ensures .0 in
     let ends = after-read-index .read-index .ensures in
     let end = after-ended .ended .given .0 .0 in (
-      areas-read _ _ _ frame _ number _ ends end (search) _ _ _ 65536 (after-read-runs .read-runs .ensures) (marks-zero 1024) (search) _ _ (search),
-      ((search needs, search needs, search needs, search needs), (areas-end _ _ _ frame _ number _ ends end (search), search needs)),
+      areas-read _ _ _ _ frame good _ number _ ends end (search) _ _ _ 65536 (after-read-runs .read-runs .ensures) (marks-zero 1024) (search) _ _ (search),
+      ((search needs, search needs, search needs, search needs), search needs),
     )
   where
     after-read-runs : tie.After-read-runs
@@ -81,10 +85,10 @@ settle-requires c κs =
     start = search after-nindex2
 
 returns : tie.Need-returns
-returns c = (search areas-index, tt)
+returns c = search areas-index
 
 returns-2 : tie.Need-returns-2
-returns-2 c = (search areas-runs, tt)
+returns-2 c = search areas-runs
 
 same-length : tie.Need-same-length
 same-length c = search needs
@@ -96,6 +100,7 @@ pub inspect-areas-spec : {M : Type 1} → statement M
 inspect-areas-spec =
     tie.close
     (tie.spec
+    add-from
     mul-start
     add-start
     sub-index

@@ -16,4 +16,8 @@ returns-3 : tie.Need-returns-3
 returns-3 c = search index-some
 
 pub read-index-spec : {M : Type 1} → statement M
-read-index-spec = tie.close (tie.spec returns returns-2 read-elements-requires returns-3)
+read-index-spec = tie.close (tie.spec
+    returns
+    returns-2
+    read-elements-requires
+    returns-3)

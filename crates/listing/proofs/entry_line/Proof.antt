@@ -5,21 +5,6 @@ use borrow.Author.Needs.{needs}
 use Rattle.listing.proofs.entry_line.Statement.{statement}
 use Rattle.listing.proofs.entry_line.Tie as tie
 
-add-wide : tie.Need-add-wide
-add-wide c = search needs
-
-shared-slice-read-wide : tie.Need-shared-slice-read-wide
-shared-slice-read-wide c = search needs
-
-wide-requires : tie.Need-wide-requires
-wide-requires c κs = search needs
-
-add-entry-numbers : tie.Need-add-entry-numbers
-add-entry-numbers c = search needs
-
-sub-entry-numbers : tie.Need-sub-entry-numbers
-sub-entry-numbers c = search needs
-
 entry-numbers-requires : tie.Need-entry-numbers-requires
 entry-numbers-requires c κs = search needs
 
@@ -60,11 +45,6 @@ pub entry-line-spec : {M : Type 1} → statement M
 entry-line-spec =
     tie.close
     (tie.spec
-    add-wide
-    shared-slice-read-wide
-    wide-requires
-    add-entry-numbers
-    sub-entry-numbers
     entry-numbers-requires
     add-write-u8
     write-u8-requires

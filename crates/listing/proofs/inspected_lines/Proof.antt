@@ -14,6 +14,15 @@ inspect-requires c κs = ((omega arith, search needs, omega arith), marks-zero 1
 enum-known-inspected : tie.Need-enum-known-inspected
 enum-known-inspected c = search needs
 
+cast-refused-line : tie.Need-cast-refused-line
+cast-refused-line c = search needs
+
+refused-line-requires : tie.Need-refused-line-requires
+refused-line-requires c κs = search needs
+
+enum-known-inspected-2 : tie.Need-enum-known-inspected-2
+enum-known-inspected-2 c = search needs
+
 slice-aggregate-count : tie.Need-slice-aggregate-count
 slice-aggregate-count c = search needs
 
@@ -23,26 +32,17 @@ count-requires c κs = search needs
 accepted-lines-requires : tie.Need-accepted-lines-requires
 accepted-lines-requires c κs = (search told-sound, (omega arith, omega arith, search needs, omega arith))
 
-enum-known-inspected-2 : tie.Need-enum-known-inspected-2
-enum-known-inspected-2 c = search needs
-
-cast-refused-line : tie.Need-cast-refused-line
-cast-refused-line c = search needs
-
-refused-line-requires : tie.Need-refused-line-requires
-refused-line-requires c κs = search needs
-
 same-length : tie.Need-same-length
 same-length c = search needs
 
 returns : tie.Need-returns
-returns c = search needs
+returns c = ((search (list-end, told-refused), omega arith), search (list-stored, told-refused))
 
 same-length-2 : tie.Need-same-length-2
 same-length-2 c = search needs
 
 returns-2 : tie.Need-returns-2
-returns-2 c = ((search (list-end, told-refused), omega arith), search (list-stored, told-refused))
+returns-2 c = search needs
 
 pub inspected-lines-spec : {M : Type 1} → statement M
 inspected-lines-spec =
@@ -51,12 +51,12 @@ inspected-lines-spec =
     slice-aggregate-inspect
     inspect-requires
     enum-known-inspected
+    cast-refused-line
+    refused-line-requires
+    enum-known-inspected-2
     slice-aggregate-count
     count-requires
     accepted-lines-requires
-    enum-known-inspected-2
-    cast-refused-line
-    refused-line-requires
     same-length
     returns
     same-length-2

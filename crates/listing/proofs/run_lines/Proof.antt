@@ -4,7 +4,6 @@ use native.Mathlib.Omega.{arith}
 use lib.ListN.{length}
 use borrow.Author.Needs.{needs}
 use Rattle.spec.specs.Order.{below-of}
-use Rattle.runs.proofs.Laws.{inside-body, inside-run}
 use Rattle.listing.proofs.Entries.{
   Printing,
   printing-start,
@@ -20,11 +19,11 @@ use Rattle.listing.proofs.run_lines.Statement.{statement}
 use Rattle.listing.proofs.run_lines.Tie as tie
 
 abbrev Inv-loop : tie.InvT-loop
-Inv-loop out₀ start k block blocks run word₀ len₀ pos₀ at₀ ordinal₀ out word len pos at ordinal =
-    Printing (below-of 0) run word len pos block blocks out₀ out start at k ordinal
+Inv-loop order out₀ block blocks run word₀ len₀ pos₀ at₀ ordinal₀ out word len pos at ordinal =
+    Printing (below-of order) run word len pos block blocks out₀ out at₀ at ordinal₀ ordinal
 
 abbrev μ-loop : tie.MeasureT-loop
-μ-loop out₀ start k block blocks run word₀ len₀ pos₀ at₀ ordinal₀ out word len pos at ordinal = length run - pos
+μ-loop order out₀ block blocks run word₀ len₀ pos₀ at₀ ordinal₀ out word len pos at ordinal = length run - pos
 
 loop-holds : tie.Need-loop-holds Inv-loop μ-loop
 loop-holds c = search (printing-start, needs)
@@ -56,6 +55,45 @@ returns-2 c = (search printing-end, ((omega arith, omega arith), omega arith))
 enum-known-st : tie.Need-enum-known-st Inv-loop μ-loop
 enum-known-st c = search needs
 
+add-wide : tie.Need-add-wide Inv-loop μ-loop
+add-wide c = omega (arith, step .read-entry .ensures .1 .0 (there .st .given .0 .0) (there .st .given .0 .1 .0) (there .st .given .0 .1 .1 .0) (search))
+  where
+    there : tie.After-st Inv-loop μ-loop
+    there = search
+
+    step : tie.After-read-entry Inv-loop μ-loop
+    step = search there
+
+shared-slice-read-wide : tie.Need-shared-slice-read-wide Inv-loop μ-loop
+shared-slice-read-wide c = omega (arith, step .read-entry .ensures .1 .0 (there .st .given .0 .0) (there .st .given .0 .1 .0) (there .st .given .0 .1 .1 .0) (search))
+  where
+    there : tie.After-st Inv-loop μ-loop
+    there = search
+
+    step : tie.After-read-entry Inv-loop μ-loop
+    step = search there
+
+wide-requires : tie.Need-wide-requires Inv-loop μ-loop
+wide-requires c κs = search needs
+
+add-text : tie.Need-add-text Inv-loop μ-loop
+add-text c = omega (arith, step .read-entry .ensures .1 .0 (there .st .given .0 .0) (there .st .given .0 .1 .0) (there .st .given .0 .1 .1 .0) (search))
+  where
+    there : tie.After-st Inv-loop μ-loop
+    there = search
+
+    step : tie.After-read-entry Inv-loop μ-loop
+    step = search there
+
+sub-text : tie.Need-sub-text Inv-loop μ-loop
+sub-text c = omega (arith, step .read-entry .ensures .1 .0 (there .st .given .0 .0) (there .st .given .0 .1 .0) (there .st .given .0 .1 .1 .0) (search))
+  where
+    there : tie.After-st Inv-loop μ-loop
+    there = search
+
+    step : tie.After-read-entry Inv-loop μ-loop
+    step = search there
+
 array-share-prefix-word : tie.Need-array-share-prefix-word Inv-loop μ-loop
 array-share-prefix-word c = search printing-fits
 
@@ -63,7 +101,7 @@ slice-aggregate-entry-line : tie.Need-slice-aggregate-entry-line Inv-loop μ-loo
 slice-aggregate-entry-line c = search printing-word
 
 entry-line-requires : tie.Need-entry-line-requires Inv-loop μ-loop
-entry-line-requires c κs = (search inside-body, search inside-run, search printing-room)
+entry-line-requires c κs = search printing-room
 
 add-ordinal : tie.Need-add-ordinal Inv-loop μ-loop
 add-ordinal c = search needs
@@ -90,6 +128,11 @@ run-lines-spec =
     same-length-2
     returns-2
     enum-known-st
+    add-wide
+    shared-slice-read-wide
+    wide-requires
+    add-text
+    sub-text
     array-share-prefix-word
     slice-aggregate-entry-line
     entry-line-requires

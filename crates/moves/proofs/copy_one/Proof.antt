@@ -49,13 +49,7 @@ mul-copy-2 c = omega (arith, ready-run _ _ _ _ _ (else1 .if1 .left) (start .pre 
     start = search else1
 
 size-at-requires : tie.Need-size-at-requires
-size-at-requires c κs = (search needs, search needs, omega (arith, ready-run _ _ _ _ _ (else1 .if1 .left) (start .pre .1)))
-  where
-    else1 : tie.Else1
-    else1 = search
-
-    start : tie.Start
-    start = search else1
+size-at-requires c κs = search needs
 
 mul-copy-3 : tie.Need-mul-copy-3
 mul-copy-3 c = search needs

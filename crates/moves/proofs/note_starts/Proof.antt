@@ -11,18 +11,18 @@ use Rattle.moves.proofs.note_starts.Statement.{statement}
 use Rattle.moves.proofs.note_starts.Tie as tie
 
 abbrev Inv-loop : tie.InvT-loop
-Inv-loop index from n numbers₀ g at₀ left₀ numbers at left =
-    (length numbers ≡ length numbers₀) × (noted g (blocks (elements-at index at left)) numbers ≡ noted g (blocks (elements-at index from n)) numbers₀)
-    × Inside index at left
+Inv-loop width index numbers₀ g at₀ left₀ numbers at left =
+    (length numbers ≡ length numbers₀) × (noted g (blocks (elements-at width index at left)) numbers ≡ noted g (blocks (elements-at width index at₀ left₀)) numbers₀)
+    × Inside width index at left
 
 abbrev μ-loop : tie.MeasureT-loop
-μ-loop index from n numbers₀ g at₀ left₀ numbers at left = left
+μ-loop width index numbers₀ g at₀ left₀ numbers at left = left
 
 loop-holds : tie.Need-loop-holds Inv-loop μ-loop
 loop-holds c = (refl, refl, search needs)
 
-read-u16-requires : tie.Need-read-u16-requires Inv-loop μ-loop
-read-u16-requires c κs = search (inside-start, needs)
+read-number-requires : tie.Need-read-number-requires Inv-loop μ-loop
+read-number-requires c κs = search (inside-start, needs)
 
 note-requires : tie.Need-note-requires Inv-loop μ-loop
 note-requires c κs = search needs
@@ -55,7 +55,7 @@ note-starts-spec =
     Inv-loop
     μ-loop
     loop-holds
-    read-u16-requires
+    read-number-requires
     note-requires
     element-end-requires
     add-at

@@ -1,10 +1,12 @@
 -- `plan_parts` meets its contract.
-use Prim.Native.Nat.{_≤_}
+use Prim.Native.Nat.{_+_, _*_, _≤_}
 use mathlib.Core.Path.{_≡_, refl}
 use native.Mathlib.Omega.{arith}
 use borrow.Author.Needs.{needs}
 use lib.ListN.{length}
 use Rattle.marks.specs.Marks.{marks}
+use Rattle.encoder.specs.Limits.{longest-run}
+use Rattle.parts.specs.Room.{part-room}
 use Rattle.parts.specs.Merge.{todo, changed-entries, CursorOk}
 use Rattle.parts.proofs.Laws.{none-zero, begun-todo}
 use Rattle.newruns.proofs.Laws.{Planning, planning-start, planning-more, planned, planned-over}
@@ -13,13 +15,13 @@ use Rattle.newruns.proofs.plan_parts.Statement.{statement}
 use Rattle.newruns.proofs.plan_parts.Tie as tie
 
 abbrev Inv-loop : tie.InvT-loop
-Inv-loop run h body fresh free₀ g end limit word₀ part₀ cur₀ d₀ free word part cur d =
-    (length word ≡ 256) × (length part ≡ 3328) × CursorOk run word cur × (length free ≡ length free₀) × (g ≤ d) × (end ≤ d) × (d ≤ limit) × (limit ≤ 98304)
-    × (2560 ≤ length free)
-    × Planning g end (marks free₀) (changed-entries run h body fresh) d (marks free) (todo run word h body cur)
+Inv-loop run h body free₀ most form fresh g word₀ part₀ cur₀ last₀ free word part cur last =
+    (length word ≡ 256) × (length part ≡ part-room) × CursorOk run word cur × (length free ≡ length free₀) × (g ≤ last) × (last₀ ≤ last) × (last ≤ most) × (most ≤ 0xFFFFFFFF)
+    × (most + longest-run ≤ 64 * length free)
+    × Planning (form .limit) g last₀ (marks free₀) (changed-entries (form .order) run h body fresh) last (marks free) (todo (form .order) run word h body cur)
 
 abbrev μ-loop : tie.MeasureT-loop
-μ-loop run h body fresh free₀ g end limit word₀ part₀ cur₀ d₀ free word part cur d = length (todo run word h body cur)
+μ-loop run h body free₀ most form fresh g word₀ part₀ cur₀ last₀ free word part cur last = length (todo (form .order) run word h body cur)
 
 slice-aggregate-advance : tie.Need-slice-aggregate-advance Inv-loop μ-loop
 slice-aggregate-advance c = refl
@@ -29,17 +31,20 @@ advance-requires c κs = (omega arith, (omega arith, omega arith, none-zero))
 
 loop-holds : tie.Need-loop-holds Inv-loop μ-loop
 loop-holds c = (
-  c .before .advance .ensures .1 .1 .1,
+  after-advance .advance .ensures .1 .1 .1,
   refl,
-  c .before .advance .ensures .1 .1 .0,
+  after-advance .advance .ensures .1 .1 .0,
   refl,
   omega arith,
   omega arith,
   omega arith,
   omega arith,
   omega arith,
-  planning-start _ _ _ _ _ (begun-todo _ _ _ _ _ _ (c .before .advance .ensures .0) (c .before .advance .ensures .1 .0)),
+  planning-start _ _ _ _ _ _ (begun-todo _ _ _ _ _ _ _ (after-advance .advance .ensures .0) (after-advance .advance .ensures .1 .0)),
 )
+  where
+    after-advance : tie.After-advance Inv-loop μ-loop
+    after-advance = search
 
 slice-aggregate-encode-part : tie.Need-slice-aggregate-encode-part Inv-loop μ-loop
 slice-aggregate-encode-part c = omega arith
@@ -48,7 +53,7 @@ slice-aggregate-encode-part-2 : tie.Need-slice-aggregate-encode-part-2 Inv-loop 
 slice-aggregate-encode-part-2 c = omega arith
 
 encode-part-requires : tie.Need-encode-part-requires Inv-loop μ-loop
-encode-part-requires c κs = (at-loop .loop .inv .2, (start .pre .0 .0, start .pre .0 .1, omega arith))
+encode-part-requires c κs = (at-loop .loop .inv .2, (start .pre .0 .0, start .pre .0 .1, omega arith, start .pre .0 .3))
   where
     at-loop : tie.At-loop Inv-loop μ-loop
     at-loop = search
@@ -61,7 +66,7 @@ same-length c = omega arith
 
 returns : tie.Need-returns Inv-loop μ-loop
 returns c = (
-  planned _ _ _ _ _ _ _ (at-loop .loop .inv .9) _ (none-left _ _ (after-encode-part .encode-part .ensures .1 .0) (c .if1 .taken)),
+  planned _ _ _ _ _ _ _ _ (at-loop .loop .inv .9) _ (none-left _ _ _ (after-encode-part .encode-part .ensures .1 .0) (c .if1 .taken)),
   (omega arith, omega arith, omega arith),
 )
   where
@@ -91,7 +96,7 @@ same-length-2 c = omega arith
 
 returns-2 : tie.Need-returns-2 Inv-loop μ-loop
 returns-2 c = (
-  planned-over _ _ _ _ _ _ _ (planning-more _ _ (after-encode-part .encode-part .ensures .1 .0) (else1 .if1 .left) _
+  planned-over _ _ _ _ _ _ _ _ (planning-more _ _ _ (after-encode-part .encode-part .ensures .1 .0) (else1 .if1 .left) _
       (after-encode-part .encode-part .ensures .1 .1 .0) _ _ _ _ _ _ _ (after-run-blocks .run-blocks .ensures .0) (after-place .place .ensures .0)
       (after-larger .larger .ensures) (after-place .place .ensures .1 .1 .0) _ _ _ (at-loop .loop .inv .9)) _ (c .if2 .taken),
   (omega arith, omega arith, omega arith),
@@ -116,7 +121,7 @@ returns-2 c = (
     at-loop = search after-encode-part
 
 loop-less : tie.Need-loop-less Inv-loop μ-loop
-loop-less c = fewer-left _ _ (after-encode-part .encode-part .ensures .1 .0) (else1 .if1 .left) _ (after-encode-part .encode-part .ensures .1 .1 .0)
+loop-less c = fewer-left _ _ _ (after-encode-part .encode-part .ensures .1 .0) (else1 .if1 .left) _ (after-encode-part .encode-part .ensures .1 .1 .0)
   where
     else1 : tie.Else1 Inv-loop μ-loop
     else1 = search
@@ -135,7 +140,7 @@ loop-again c = (
   omega arith,
   omega arith,
   omega arith,
-  planning-more _ _ (after-encode-part .encode-part .ensures .1 .0) (else1 .if1 .left) _ (after-encode-part .encode-part .ensures .1 .1 .0) _ _ _ _ _ _ _
+  planning-more _ _ _ (after-encode-part .encode-part .ensures .1 .0) (else1 .if1 .left) _ (after-encode-part .encode-part .ensures .1 .1 .0) _ _ _ _ _ _ _
       (after-run-blocks .run-blocks .ensures .0) (after-place .place .ensures .0) (after-larger .larger .ensures) (after-place .place .ensures .1 .1 .0) _ _ _
       (at-loop .loop .inv .9),
 )

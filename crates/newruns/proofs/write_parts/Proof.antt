@@ -9,6 +9,8 @@ use denote.Ref.{now}
 use lib.ListN.{length, take, drop}
 use Rattle.marks.specs.Marks.{marks}
 use Rattle.spec.specs.Place.{first-headword}
+use Rattle.encoder.specs.Limits.{longest-run}
+use Rattle.parts.specs.Room.{part-room}
 use Rattle.parts.specs.Part.{part-of}
 use Rattle.parts.specs.Merge.{todo, changed-entries, CursorOk}
 use Rattle.parts.proofs.PartLaws.{none-left, used-some, fewer-left}
@@ -19,19 +21,20 @@ use Rattle.newruns.proofs.write_parts.Statement.{statement}
 use Rattle.newruns.proofs.write_parts.Tie as tie
 
 abbrev Inv-loop : tie.InvT-loop
-Inv-loop image₀ start at run h body fresh free₀ g end word₀ part₀ cur₀ d₀ out₀ image free word part cur d out =
-    (length word ≡ 256) × (length part ≡ 3328) × CursorOk run word cur × (length image ≡ length image₀) × (length free ≡ length free₀) × (2560 ≤ length free)
-    × (g ≤ d)
-    × (laid 1024 g end (marks free₀) (changed-entries run h body fresh) .end ≤ 98304)
-    × (start + 256 * laid 1024 g end (marks free₀) (changed-entries run h body fresh) .end ≤ length image₀)
-    × (at + elements-long 2 1024 g (laid 1024 g end (marks free₀) (changed-entries run h body fresh) .places) (changed-entries run h body fresh) ≤ length image₀)
-    × Writing start g at end (marks free₀) (changed-entries run h body fresh) image₀ out d (marks free) (todo run word h body cur) image
+Inv-loop image₀ run h body free₀ form fresh start g word₀ part₀ cur₀ last₀ out₀ image free word part cur last out =
+    (length word ≡ 256) × (length part ≡ part-room) × CursorOk run word cur × (length image ≡ length image₀) × (length free ≡ length free₀) × (g ≤ last)
+    × (laid (form .limit) g last₀ (marks free₀) (changed-entries (form .order) run h body fresh) .end + longest-run ≤ 64 * length free₀)
+    × (start + 256 * laid (form .limit) g last₀ (marks free₀) (changed-entries (form .order) run h body fresh) .end ≤ length image₀)
+    × (out₀ + elements-long (form .width) (form .limit) g (laid (form .limit) g last₀ (marks free₀) (changed-entries (form .order) run h body fresh) .places)
+    (changed-entries (form .order) run h body fresh) ≤ length image₀)
+    × Writing (form .width) (form .limit) start g out₀ last₀ (marks free₀) (changed-entries (form .order) run h body fresh) image₀ out last (marks free)
+    (todo (form .order) run word h body cur) image
 
 abbrev μ-loop : tie.MeasureT-loop
-μ-loop image₀ start at run h body fresh free₀ g end word₀ part₀ cur₀ d₀ out₀ image free word part cur d out = length (todo run word h body cur)
+μ-loop image₀ run h body free₀ form fresh start g word₀ part₀ cur₀ last₀ out₀ image free word part cur last out = length (todo (form .order) run word h body cur)
 
 -- the part fits its slice
-part-filled : (c : tie.After-encode-part Inv-loop μ-loop) → c .encode-part .result .used ≤ length (c .encode-part .last .1 .1 .1 .1 .1 .0)
+part-filled : (c : tie.After-encode-part Inv-loop μ-loop) → c .encode-part .result .used ≤ length (c .encode-part .last .1 .1 .1 .1 .1 .1 .0)
 part-filled c = omega (arith, c .encode-part .ensures .1 .1 .1 .1 .0 .0, c .encode-part .ensures .1 .1 .1 .1 .0 .1, at-loop .loop .inv .1)
   where
     at-loop : tie.At-loop Inv-loop μ-loop
@@ -53,17 +56,17 @@ abbrev start-of-larger : tie.After-larger Inv-loop μ-loop → tie.Start Inv-loo
 start-of-larger c = search (after-advance-of-larger c)
 
 -- its run fits the image
-run-fits : (c : tie.After-larger Inv-loop μ-loop) → start-of-larger c .args .start + 256 * after-place-of-larger c .place .result + 256
+run-fits : (c : tie.After-larger Inv-loop μ-loop) → start-of-larger c .args .to .start + 256 * after-place-of-larger c .place .result + 256
     * after-run-blocks-of-larger c .run-blocks .result ≤ length (at-loop-of-larger c .loop .image)
 run-fits c =
     omega (
       arith,
       at-loop .loop .inv .3,
+      at-loop .loop .inv .6,
       at-loop .loop .inv .7,
-      at-loop .loop .inv .8,
-      planning-under _ _ _ _ _ _ _ (planning-more _ _
+      planning-under _ _ _ _ _ _ _ _ (planning-more _ _ _
           (after-encode-part .encode-part .ensures .1 .0) (else1 .if1 .left) _ (after-encode-part .encode-part .ensures .1 .1 .0) _ _ _ _ _ _ _
-          (after-run-blocks .run-blocks .ensures .0) (after-place .place .ensures .0) refl refl _ _ _ (at-loop .loop .inv .10 .planning)),
+          (after-run-blocks .run-blocks .ensures .0) (after-place .place .ensures .0) refl refl _ _ _ (at-loop .loop .inv .9 .planning)),
     )
   where
     after-place : tie.After-place Inv-loop μ-loop
@@ -82,7 +85,7 @@ run-fits c =
     at-loop = search after-encode-part
 
 run-starts : (c : tie.After-larger Inv-loop μ-loop)
-    → start-of-larger c .args .start + 256 * after-place-of-larger c .place .result ≤ length (at-loop-of-larger c .loop .image)
+    → start-of-larger c .args .to .start + 256 * after-place-of-larger c .place .result ≤ length (at-loop-of-larger c .loop .image)
 run-starts c = omega (arith, run-fits c)
 
 abbrev after-place-of-write-run : tie.After-write-run Inv-loop μ-loop → tie.After-place Inv-loop μ-loop
@@ -101,8 +104,8 @@ abbrev start-of-write-run : tie.After-write-run Inv-loop μ-loop → tie.Start I
 start-of-write-run c = search (after-advance-of-write-run c)
 
 -- the image after it is as long
-run-kept : (c : tie.After-write-run Inv-loop μ-loop) → length (putMid (start-of-write-run c .args .start + 256 * after-place-of-write-run c .place .result)
-    (length (at-loop-of-write-run c .loop .image) - (start-of-write-run c .args .start + 256 * after-place-of-write-run c .place .result))
+run-kept : (c : tie.After-write-run Inv-loop μ-loop) → length (putMid (start-of-write-run c .args .to .start + 256 * after-place-of-write-run c .place .result)
+    (length (at-loop-of-write-run c .loop .image) - (start-of-write-run c .args .to .start + 256 * after-place-of-write-run c .place .result))
     (at-loop-of-write-run c .loop .image) (c .write-run .last .0)) ≡ length (at-loop-of-write-run c .loop .image)
 run-kept c = length-lent _ _ (at-loop .loop .image) (c .write-run .last .0) refl (run-starts after-larger) (c .write-run .ensures .1)
   where
@@ -115,32 +118,33 @@ run-kept c = length-lent _ _ (at-loop .loop .image) (c .write-run .last .0) refl
     at-loop : tie.At-loop Inv-loop μ-loop
     at-loop = search else1
 
-abbrev after-write-run-of-head-end : tie.After-head-end Inv-loop μ-loop → tie.After-write-run Inv-loop μ-loop
-after-write-run-of-head-end c = search
+abbrev after-write-run-of-head-length : tie.After-head-length Inv-loop μ-loop → tie.After-write-run Inv-loop μ-loop
+after-write-run-of-head-length c = search
 
-abbrev after-place-of-head-end : tie.After-head-end Inv-loop μ-loop → tie.After-place Inv-loop μ-loop
-after-place-of-head-end c = search (after-write-run-of-head-end c)
+abbrev after-place-of-head-length : tie.After-head-length Inv-loop μ-loop → tie.After-place Inv-loop μ-loop
+after-place-of-head-length c = search (after-write-run-of-head-length c)
 
-abbrev after-encode-part-of-head-end : tie.After-head-end Inv-loop μ-loop → tie.After-encode-part Inv-loop μ-loop
-after-encode-part-of-head-end c = search (after-place-of-head-end c)
+abbrev after-encode-part-of-head-length : tie.After-head-length Inv-loop μ-loop → tie.After-encode-part Inv-loop μ-loop
+after-encode-part-of-head-length c = search (after-place-of-head-length c)
 
-abbrev at-loop-of-head-end : tie.After-head-end Inv-loop μ-loop → tie.At-loop Inv-loop μ-loop
-at-loop-of-head-end c = search (after-encode-part-of-head-end c)
+abbrev at-loop-of-head-length : tie.After-head-length Inv-loop μ-loop → tie.At-loop Inv-loop μ-loop
+at-loop-of-head-length c = search (after-encode-part-of-head-length c)
 
-abbrev after-advance-of-head-end : tie.After-head-end Inv-loop μ-loop → tie.After-advance Inv-loop μ-loop
-after-advance-of-head-end c = search (at-loop-of-head-end c)
+abbrev after-advance-of-head-length : tie.After-head-length Inv-loop μ-loop → tie.After-advance Inv-loop μ-loop
+after-advance-of-head-length c = search (at-loop-of-head-length c)
 
-abbrev start-of-head-end : tie.After-head-end Inv-loop μ-loop → tie.Start Inv-loop μ-loop
-start-of-head-end c = search (after-advance-of-head-end c)
+abbrev start-of-head-length : tie.After-head-length Inv-loop μ-loop → tie.Start Inv-loop μ-loop
+start-of-head-length c = search (after-advance-of-head-length c)
 
 -- the element's headword is that of the part
-part-head : (c : tie.After-head-end Inv-loop μ-loop)
-    → take (c .head-end .result - 3) (drop 3 (after-encode-part-of-head-end c .encode-part .last .1 .1 .1 .1 .1 .0)) ≡ first-headword
-    (part-of 1024 0 [] (todo (now (start-of-head-end c .args .run)) (at-loop-of-head-end c .loop .word) (now (start-of-head-end c .args .h))
-    (now (start-of-head-end c .args .body)) (at-loop-of-head-end c .loop .cur)))
+part-head : (c : tie.After-head-length Inv-loop μ-loop)
+    → take (3 + c .head-length .result - 3) (drop 3 (after-encode-part-of-head-length c .encode-part .last .1 .1 .1 .1 .1 .1 .0))
+    ≡ first-headword (part-of (start-of-head-length c .args .edit .form .limit) 0 []
+    (todo (start-of-head-length c .args .edit .form .order) (now (start-of-head-length c .args .run)) (at-loop-of-head-length c .loop .word)
+    (now (start-of-head-length c .args .h)) (now (start-of-head-length c .args .body)) (at-loop-of-head-length c .loop .cur)))
 part-head c =
-    head-stands _ _ _ _ (after-encode-part .encode-part .ensures .1 .0) (after-encode-part .encode-part .ensures .0) (else1 .if1 .left)
-    (todo-short _ _ _ _ _ (at-loop .loop .inv .2) (start .pre .0 .0) (start .pre .0 .1)) _ (c .head-end .ensures .1)
+    head-stands _ _ _ _ _ (after-encode-part .encode-part .ensures .1 .0) (after-encode-part .encode-part .ensures .0) (else1 .if1 .left)
+    (todo-short _ _ _ _ _ _ (at-loop .loop .inv .2) (start .pre .0 .0) (start .pre .0 .1)) _ (c .head-length .ensures .1) (3 + c .head-length .result - 3) (omega arith)
   where
     after-larger : tie.After-larger Inv-loop μ-loop
     after-larger = search
@@ -173,12 +177,11 @@ loop-holds c = (
   after-advance .advance .ensures .1 .1 .0,
   refl,
   refl,
-  start .pre .1 .0 .1,
-  start .pre .1 .0 .0,
+  start .pre .1 .0 .2,
   start .pre .1 .1 .0 .0,
   start .pre .1 .1 .0 .1,
   start .pre .1 .1 .1,
-  writing-start _ _ _ _ _ _ _ _ (begun-todo _ _ _ _ _ _ (after-advance .advance .ensures .0) (after-advance .advance .ensures .1 .0)),
+  writing-start _ _ _ _ _ _ _ _ _ _ (begun-todo _ _ _ _ _ _ _ (after-advance .advance .ensures .0) (after-advance .advance .ensures .1 .0)),
 )
   where
     after-advance : tie.After-advance Inv-loop μ-loop
@@ -194,7 +197,7 @@ slice-aggregate-encode-part-2 : tie.Need-slice-aggregate-encode-part-2 Inv-loop 
 slice-aggregate-encode-part-2 c = omega arith
 
 encode-part-requires : tie.Need-encode-part-requires Inv-loop μ-loop
-encode-part-requires c κs = (at-loop .loop .inv .2, (start .pre .0 .0, start .pre .0 .1, omega arith))
+encode-part-requires c κs = (at-loop .loop .inv .2, (start .pre .0 .0, start .pre .0 .1, omega arith, start .pre .1 .0 .1))
   where
     at-loop : tie.At-loop Inv-loop μ-loop
     at-loop = search
@@ -213,9 +216,9 @@ same-length-2 c = omega arith
 
 returns : tie.Need-returns Inv-loop μ-loop
 returns c =
-    let none = none-left _ _ (after-encode-part .encode-part .ensures .1 .0) (c .if1 .taken) in
-    let w = at-loop .loop .inv .10 in (
-      (written-image _ _ _ _ _ _ _ _ _ _ _ _ w none, written-size _ _ _ _ _ _ _ _ _ _ _ _ w none, written-free _ _ _ _ _ _ _ _ _ _ _ _ w none),
+    let none = none-left _ _ _ (after-encode-part .encode-part .ensures .1 .0) (c .if1 .taken) in
+    let w = at-loop .loop .inv .9 in (
+      (written-image _ _ _ _ _ _ _ _ _ _ _ _ _ _ w none, written-size _ _ _ _ _ _ _ _ _ _ _ _ _ _ w none, written-free _ _ _ _ _ _ _ _ _ _ _ _ _ _ w none),
       (omega arith, omega arith),
     )
   where
@@ -232,7 +235,7 @@ run-blocks-requires c κs = after-encode-part .encode-part .ensures .1 .1 .1 .1 
     after-encode-part = search
 
 place-requires : tie.Need-place-requires Inv-loop μ-loop
-place-requires c κs = (omega arith, omega (arith, planning-under _ _ _ _ _ _ _ (at-loop .loop .inv .10 .planning)), omega arith)
+place-requires c κs = (omega arith, omega (arith, planning-under _ _ _ _ _ _ _ _ (at-loop .loop .inv .9 .planning)), omega arith)
   where
     after-word4 : tie.After-word4 Inv-loop μ-loop
     after-word4 = search
@@ -241,7 +244,7 @@ place-requires c κs = (omega arith, omega (arith, planning-under _ _ _ _ _ _ _ 
     at-loop = search after-word4
 
 add-larger : tie.Need-add-larger Inv-loop μ-loop
-add-larger c = omega (arith, planning-under _ _ _ _ _ _ _ (at-loop .loop .inv .10 .planning))
+add-larger c = omega (arith, planning-under _ _ _ _ _ _ _ _ (at-loop .loop .inv .9 .planning), at-loop .loop .inv .7, start .good .1 .0)
   where
     after-part2 : tie.After-part2 Inv-loop μ-loop
     after-part2 = search
@@ -249,11 +252,17 @@ add-larger c = omega (arith, planning-under _ _ _ _ _ _ _ (at-loop .loop .inv .1
     at-loop : tie.At-loop Inv-loop μ-loop
     at-loop = search after-part2
 
+    after-advance : tie.After-advance Inv-loop μ-loop
+    after-advance = search at-loop
+
+    start : tie.Start Inv-loop μ-loop
+    start = search after-advance
+
 larger-requires : tie.Need-larger-requires Inv-loop μ-loop
 larger-requires c κs = search needs
 
 mul-write-run : tie.Need-mul-write-run Inv-loop μ-loop
-mul-write-run c = omega (arith, run-starts c, start .good .0 .0)
+mul-write-run c = omega (arith, run-starts c, start .good .1 .0)
   where
     after-part2 : tie.After-part2 Inv-loop μ-loop
     after-part2 = search
@@ -265,7 +274,7 @@ mul-write-run c = omega (arith, run-starts c, start .good .0 .0)
     start = search after-advance
 
 add-write-run : tie.Need-add-write-run Inv-loop μ-loop
-add-write-run c = omega (arith, run-starts c, start .good .0 .0)
+add-write-run c = omega (arith, run-starts c, start .good .1 .0)
   where
     after-part2 : tie.After-part2 Inv-loop μ-loop
     after-part2 = search
@@ -277,7 +286,7 @@ add-write-run c = omega (arith, run-starts c, start .good .0 .0)
     start = search after-advance
 
 sub-write-run : tie.Need-sub-write-run Inv-loop μ-loop
-sub-write-run c = omega (arith, run-starts c, start .good .0 .0)
+sub-write-run c = omega (arith, run-starts c, start .good .1 .0)
   where
     after-part2 : tie.After-part2 Inv-loop μ-loop
     after-part2 = search
@@ -330,8 +339,8 @@ write-run-requires c κs =
     at-loop : tie.At-loop Inv-loop μ-loop
     at-loop = search after-encode-part
 
-slice-aggregate-head-end : tie.Need-slice-aggregate-head-end Inv-loop μ-loop
-slice-aggregate-head-end c =
+slice-aggregate-head-length : tie.Need-slice-aggregate-head-length Inv-loop μ-loop
+slice-aggregate-head-length c =
     sym (after-encode-part .encode-part .ensures .1 .1 .1 .1 .0 .1 ∙ at-loop .loop .inv .1)
   where
     after-free : tie.After-free Inv-loop μ-loop
@@ -343,8 +352,8 @@ slice-aggregate-head-end c =
     at-loop : tie.At-loop Inv-loop μ-loop
     at-loop = search after-encode-part
 
-head-end-requires : tie.Need-head-end-requires Inv-loop μ-loop
-head-end-requires c κs = (omega (arith, used-some _ _ (after-encode-part .encode-part .ensures .1 .0) (else1 .if1 .left)), part-filled after-encode-part)
+head-length-requires : tie.Need-head-length-requires Inv-loop μ-loop
+head-length-requires c κs = (omega (arith, used-some _ _ _ (after-encode-part .encode-part .ensures .1 .0) (else1 .if1 .left)), part-filled after-encode-part)
   where
     after-larger : tie.After-larger Inv-loop μ-loop
     after-larger = search
@@ -354,6 +363,9 @@ head-end-requires c κs = (omega (arith, used-some _ _ (after-encode-part .encod
 
     after-encode-part : tie.After-encode-part Inv-loop μ-loop
     after-encode-part = search else1
+
+add-end : tie.Need-add-end Inv-loop μ-loop
+add-end c = search needs
 
 sub-put-element : tie.Need-sub-put-element Inv-loop μ-loop
 sub-put-element c = omega (arith, after-place .place .ensures .1 .0 .0)
@@ -365,25 +377,30 @@ sub-put-element c = omega (arith, after-place .place .ensures .1 .0 .0)
     after-place = search after-part3
 
 sub-put-element-2 : tie.Need-sub-put-element-2 Inv-loop μ-loop
-sub-put-element-2 c = omega (arith, c .before .head-end .ensures .0 .0)
+sub-put-element-2 c = omega arith
 
 part-put-element-start : tie.Need-part-put-element-start Inv-loop μ-loop
-part-put-element-start c = omega (arith, c .before .before .head-end .ensures .0 .0)
+part-put-element-start c = omega arith
 
 part-put-element-end : tie.Need-part-put-element-end Inv-loop μ-loop
-part-put-element-end c = omega (arith, c .before .before .head-end .ensures .0 .1)
+part-put-element-end c = omega (arith, after-head-length .head-length .ensures .0)
+  where
+    after-head-length : tie.After-head-length Inv-loop μ-loop
+    after-head-length = search
 
 put-element-requires : tie.Need-put-element-requires Inv-loop μ-loop
-put-element-requires c κs =
-    element-fits _ _ (after-encode-part .encode-part .ensures .1 .0) (else1 .if1 .left) _ (after-encode-part .encode-part .ensures .1 .1 .0) _ _ _ _ _ _ _
-    (after-run-blocks .run-blocks .ensures .0) (after-place .place .ensures .0) refl refl _ _ _ _ _ _ _ _ _ _ (part-head after-head-end)
-    (at-loop .loop .inv .10) (at-loop .loop .inv .9) (at-loop .loop .inv .3) (run-kept after-write-run)
+put-element-requires c κs = (
+  start .pre .1 .0 .0,
+  element-fits _ _ _ (after-encode-part .encode-part .ensures .1 .0) (else1 .if1 .left) _ (after-encode-part .encode-part .ensures .1 .1 .0) _ _ _ _ _ _ _
+      (after-run-blocks .run-blocks .ensures .0) (after-place .place .ensures .0) refl refl _ _ _ _ _ _ _ _ _ _ _ (part-head after-head-length)
+      (at-loop .loop .inv .9) (at-loop .loop .inv .8) (at-loop .loop .inv .3) (run-kept after-write-run),
+)
   where
-    after-head-end : tie.After-head-end Inv-loop μ-loop
-    after-head-end = search
+    after-head-length : tie.After-head-length Inv-loop μ-loop
+    after-head-length = search
 
     after-write-run : tie.After-write-run Inv-loop μ-loop
-    after-write-run = search after-head-end
+    after-write-run = search after-head-length
 
     after-place : tie.After-place Inv-loop μ-loop
     after-place = search after-write-run
@@ -400,34 +417,26 @@ put-element-requires c κs =
     at-loop : tie.At-loop Inv-loop μ-loop
     at-loop = search after-encode-part
 
+    after-advance : tie.After-advance Inv-loop μ-loop
+    after-advance = search at-loop
+
+    start : tie.Start Inv-loop μ-loop
+    start = search after-advance
+
 loop-less : tie.Need-loop-less Inv-loop μ-loop
-loop-less c = fewer-left _ _ (after-encode-part .encode-part .ensures .1 .0) (else1 .if1 .left) _ (after-encode-part .encode-part .ensures .1 .1 .0)
+loop-less c = fewer-left _ _ _ (after-encode-part .encode-part .ensures .1 .0) (else1 .if1 .left) _ (after-encode-part .encode-part .ensures .1 .1 .0)
   where
-    after-head-end : tie.After-head-end Inv-loop μ-loop
-    after-head-end = search
+    after-head-length : tie.After-head-length Inv-loop μ-loop
+    after-head-length = search
 
     after-larger : tie.After-larger Inv-loop μ-loop
-    after-larger = search after-head-end
+    after-larger = search after-head-length
 
     else1 : tie.Else1 Inv-loop μ-loop
     else1 = search after-larger
 
     after-encode-part : tie.After-encode-part Inv-loop μ-loop
     after-encode-part = search else1
-
--- where the part was encoded
-abbrev encoded : tie.After-cur Inv-loop μ-loop → tie.After-encode-part Inv-loop μ-loop
-encoded c =
-    after-encode-part
-  where
-    after-part4 : tie.After-part4 Inv-loop μ-loop
-    after-part4 = search
-
-    after-free : tie.After-free Inv-loop μ-loop
-    after-free = search after-part4
-
-    after-encode-part : tie.After-encode-part Inv-loop μ-loop
-    after-encode-part = search after-free
 
 loop-again : tie.Need-loop-again Inv-loop μ-loop
 loop-again c = (
@@ -436,29 +445,28 @@ loop-again c = (
   after-encode-part .encode-part .ensures .1 .1 .1 .0,
   after-put-element .put-element .ensures .1 .1 ∙ run-kept after-write-run ∙ at-loop .loop .inv .3,
   after-place .place .ensures .1 .1 .1 ∙ at-loop .loop .inv .4,
-  omega (arith, after-place .place .ensures .1 .1 .1, at-loop .loop .inv .5),
-  omega (arith, after-larger .larger .ensures, at-loop .loop .inv .6),
+  omega (arith, after-larger .larger .ensures, at-loop .loop .inv .5),
+  at-loop .loop .inv .6,
   at-loop .loop .inv .7,
   at-loop .loop .inv .8,
-  at-loop .loop .inv .9,
-  writing-more _ _ (after-encode-part .encode-part .ensures .1 .0) (else1 .if1 .left) _ (after-encode-part .encode-part .ensures .1 .1 .0) _ _ _ _ _ _ _
+  writing-more _ _ _ (after-encode-part .encode-part .ensures .1 .0) (else1 .if1 .left) _ (after-encode-part .encode-part .ensures .1 .1 .0) _ _ _ _ _ _ _
       (after-run-blocks .run-blocks .ensures .0) (after-place .place .ensures .0) (after-larger .larger .ensures) (after-place .place .ensures .1 .1 .0) _ _ _ _
-      _ _ _ _ _ _
-      (part-stored _ _ _ _ (after-encode-part .encode-part .ensures .1 .0) (after-encode-part .encode-part .ensures .0) _ _ _ _ _ _ _ _ _
-      (after-run-blocks .run-blocks .ensures .0) refl (run-fits after-larger) (after-write-run .write-run .ensures .0) (part-head after-head-end)
+      _ _ _ _ _ _ _
+      (part-stored _ _ _ _ _ (after-encode-part .encode-part .ensures .1 .0) (after-encode-part .encode-part .ensures .0) _ _ _ _ _ _ _ _ _ _
+      (after-run-blocks .run-blocks .ensures .0) refl (run-fits after-larger) (after-write-run .write-run .ensures .0) (part-head after-head-length)
       (after-put-element .put-element .ensures .0))
-      (element-past _ _ _ _ _ (part-head after-head-end) (after-put-element .put-element .ensures .1 .0))
-      (at-loop .loop .inv .10),
+      (element-past _ _ _ _ _ _ (part-head after-head-length) (after-put-element .put-element .ensures .1 .0))
+      (at-loop .loop .inv .9),
 )
   where
     after-put-element : tie.After-put-element Inv-loop μ-loop
     after-put-element = search
 
-    after-head-end : tie.After-head-end Inv-loop μ-loop
-    after-head-end = search after-put-element
+    after-head-length : tie.After-head-length Inv-loop μ-loop
+    after-head-length = search after-put-element
 
     after-write-run : tie.After-write-run Inv-loop μ-loop
-    after-write-run = search after-head-end
+    after-write-run = search after-head-length
 
     after-larger : tie.After-larger Inv-loop μ-loop
     after-larger = search after-write-run
@@ -505,8 +513,9 @@ write-parts-spec =
     array-share-prefix-part
     slice-aggregate-write-run
     write-run-requires
-    slice-aggregate-head-end
-    head-end-requires
+    slice-aggregate-head-length
+    head-length-requires
+    add-end
     sub-put-element
     sub-put-element-2
     part-put-element-start

@@ -1,15 +1,16 @@
 -- The stores of the code are the plan that the specification writes, and what it gives up zeroed.
-use Prim.Native.Nat.{ℕ, _+_, _*_, _≤_}
-use mathlib.Core.Path.{_∙_}
+use Prim.Native.Nat.{_+_, _*_, _≤_}
+use mathlib.Core.Path.{_≡_, _∙_}
 use mathlib.Core.List.{List}
 use native.Mathlib.Omega.{arith}
 use lib.ListN.{length}
 use denote.Ref.{now}
-use Rattle.spec.specs.Index.{elements-bytes}
+use Rattle.spec.specs.Index.{Element, elements-bytes}
 use Rattle.index.specs.Elements.{elements-at}
-use Rattle.inspect.proofs.Laws.{index-part, data-long}
-use Rattle.inspect.proofs.Accepted.{accepted-blocks, accepted-inside}
-use Rattle.pack.proofs.Optimised.{end-short, index-fewer, index-holds, runs-fit, blocks-counted, blocks-fewer, packed-length, packed-image}
+use Rattle.header.specs.declared.Form.{Form}
+use Rattle.header.specs.Form.{index-start, area-start, index-part}
+use Rattle.inspect.proofs.Accepted.{accepted-blocks, accepted-width, accepted-area, accepted-inside}
+use Rattle.pack.proofs.Optimised.{old-whole, end-short, index-fewer, index-holds, runs-fit, blocks-counted, blocks-fewer, packed-length, packed-image}
 use borrow.Author.Needs.{needs}
 use Rattle.pack.proofs.pack.Statement.{statement}
 use Rattle.pack.proofs.pack.Tie as tie
@@ -18,9 +19,9 @@ abbrev start-of-need : tie.After-need → tie.Start
 start-of-need c = search
 
 -- the new index is no longer than the old one
-fewer : (c : tie.After-need) → c .need .result ≤ start-of-need c .args .n
+fewer : (c : tie.After-need) → c .need .result ≤ start-of-need c .args .v .n
 fewer c =
-    index-fewer _ _ _ (start .pre .0) (start .pre .1 .0 .0) _ (after-nindex2 .nindex2 .ensures .0) _ _ (start .pre .1 .1 .0) (c .need .ensures)
+    index-fewer _ _ (start .pre .0) (start .pre .1 .0) _ (after-nindex2 .nindex2 .ensures .0) _ (c .need .ensures)
   where
     after-nindex2 : tie.After-nindex2
     after-nindex2 = search
@@ -32,28 +33,31 @@ abbrev start-of-nblock2 : tie.After-nblock2 → tie.Start
 start-of-nblock2 c = search
 
 -- nor has it more data blocks
-few : (c : tie.After-nblock2) → c .nblock2 .result ≤ start-of-nblock2 c .args .d
-few c = blocks-fewer _ _ _ (start .pre .0) (start .pre .1 .0 .0) _ (c .nblock2 .ensures .0)
+few : (c : tie.After-nblock2) → c .nblock2 .result ≤ start-of-nblock2 c .args .v .d
+few c = blocks-fewer _ _ (start .pre .0) (start .pre .1 .0) _ (c .nblock2 .ensures .0)
   where
     start : tie.Start
     start = search
 
--- the old index
-abbrev old-index : tie.After-need → List ℕ
-old-index c =
-    index-part (now (start .args .old)) (start .args .n)
-  where
-    start : tie.Start
-    start = search
+-- the old image's bytes behind its header are those of its blocks
+long : (c : tie.Start) → area-start (c .args .v .form) (c .args .v .n) + 256 * c .args .v .d ≡ length (now (c .args .old))
+long c = old-whole _ _ (c .pre .0) (c .pre .1 .0)
 
 abbrev after-nindex2-of-need : tie.After-need → tie.After-nindex2
 after-nindex2-of-need c = search
 
+-- the form of the old image, and its elements
+abbrev old-form : tie.After-need → Form
+old-form c = start-of-need c .args .v .form
+
+abbrev old-elements : tie.After-need → List Element
+old-elements c = elements-at (old-form c .width) (index-part (old-form c) (now (start-of-need c .args .old)) (start-of-need c .args .v .n)) 0 (after-nindex2-of-need c .nindex2 .result)
+
 -- its elements fit in the new one
 holds : (c : tie.After-need)
-    → 256 + length (elements-bytes 2 (elements-at (old-index c) 0 (after-nindex2-of-need c .nindex2 .result))) ≤ 256 + 256 * c .need .result
+    → index-start (old-form c) + length (elements-bytes (old-form c .width) (old-elements c)) ≤ area-start (old-form c) (c .need .result)
 holds c =
-    index-holds _ _ _ (start .pre .0) (start .pre .1 .0 .0) _ (after-nindex2 .nindex2 .ensures .0) _ _ (start .pre .1 .1 .0) (c .need .ensures)
+    index-holds _ _ (start .pre .0) (start .pre .1 .0) _ (after-nindex2 .nindex2 .ensures .0) _ (c .need .ensures)
   where
     after-nindex2 : tie.After-nindex2
     after-nindex2 = search
@@ -61,11 +65,42 @@ holds c =
     start : tie.Start
     start = search after-nindex2
 
+abbrev start-of-nindex2 : tie.After-nindex2 → tie.Start
+start-of-nindex2 c = search
+
+-- the old image's length can be counted
+countable : (c : tie.After-nindex2) → length (now (start-of-nindex2 c .args .old)) ≤ 18_446_744_073_709_551_615
+countable c = omega arith
+
+abbrev after-write-runs-of-counts : tie.After-write-counts → tie.After-write-runs
+after-write-runs-of-counts c = search
+
+abbrev start-of-counts : tie.After-write-counts → tie.Start
+start-of-counts c = search (after-write-runs-of-counts c)
+
+-- the slice still has room for the old image
+room : (c : tie.After-write-counts) → length (now (start-of-counts c .args .old)) ≤ length (c .write-counts .last .0)
+room c =
+    let kept = c .write-counts .ensures .1 ∙ after-fill-zero .fill-zero .ensures .1 ∙ after-write-runs-of-counts c .write-runs .ensures .1 .1 in
+    omega (arith, kept, start-of-counts c .pre .1 .1)
+  where
+    after-fill-zero : tie.After-fill-zero
+    after-fill-zero = search
+
+add-front : tie.Need-add-front
+add-front c = search needs
+
 mul-start : tie.Need-mul-start
-mul-start c = search needs
+mul-start c = omega (arith, long start)
+  where
+    start : tie.Start
+    start = search
 
 add-start : tie.Need-add-start
-add-start c = search needs
+add-start c = omega (arith, long start)
+  where
+    start : tie.Start
+    start = search
 
 sub-index : tie.Need-sub-index
 sub-index c = search needs
@@ -74,32 +109,53 @@ part-index-start : tie.Need-part-index-start
 part-index-start c = search needs
 
 part-index-end : tie.Need-part-index-end
-part-index-end c = search needs
+part-index-end c = omega (arith, long start)
+  where
+    start : tie.Start
+    start = search
 
 nindex2-requires : tie.Need-nindex2-requires
-nindex2-requires c κs = search needs
+nindex2-requires c κs = omega (arith, long start)
+  where
+    start : tie.Start
+    start = search
 
 nblock2-requires : tie.Need-nblock2-requires
-nblock2-requires c κs = search needs
+nblock2-requires c κs = omega (arith, long start)
+  where
+    start : tie.Start
+    start = search
 
 need-requires : tie.Need-need-requires
 need-requires c κs =
-    end-short _ _ _ (start .pre .0) (start .pre .1 .0 .0) _ (start .pre .1 .1 .0)
+    end-short _ _ (start .pre .0) (start .pre .1 .0)
   where
     start : tie.Start
     start = search
 
 mul-data : tie.Need-mul-data
-mul-data c = omega (arith, fewer c)
+mul-data c = omega (arith, fewer after-need, long (start-of-need after-need))
+  where
+    after-need : tie.After-need
+    after-need = search
 
 add-data : tie.Need-add-data
-add-data c = omega (arith, fewer c)
+add-data c = omega (arith, fewer after-need, long (start-of-need after-need))
+  where
+    after-need : tie.After-need
+    after-need = search
 
 sub-write-runs : tie.Need-sub-write-runs
-sub-write-runs c = search needs
+sub-write-runs c = omega (arith, long start)
+  where
+    start : tie.Start
+    start = search
 
 part-write-runs-start : tie.Need-part-write-runs-start
-part-write-runs-start c = search needs
+part-write-runs-start c = omega (arith, long start)
+  where
+    start : tie.Start
+    start = search
 
 part-write-runs-end : tie.Need-part-write-runs-end
 part-write-runs-end c = search needs
@@ -107,14 +163,14 @@ part-write-runs-end c = search needs
 write-runs-requires : tie.Need-write-runs-requires
 write-runs-requires c κs =
     let a = start .pre .0 in
-    let whole = start .pre .1 .0 .0 in
+    let in-blocks = start .pre .1 .0 in
     let number = after-nindex2 .nindex2 .ensures .0 in
-    let g = blocks-counted _ _ _ a whole _ (after-nblock2 .nblock2 .ensures .0) in
+    let g = blocks-counted _ _ a in-blocks _ (after-nblock2 .nblock2 .ensures .0) in
     let less = fewer after-need in (
-      accepted-inside _ _ _ a _ number,
+      (accepted-width _ _ a, accepted-inside _ _ a _ number),
       (
-        (data-long (now (start .args .old)) (start .args .n) (start .args .d) whole, accepted-blocks _ _ _ a),
-        runs-fit _ _ _ a whole _ number _ _ (omega (arith, holds after-need, less)) (omega (arith, g, few after-nblock2, less)),
+        (accepted-area _ _ a in-blocks, omega (arith, accepted-blocks _ _ a)),
+        runs-fit _ _ a in-blocks _ number _ _ (omega (arith, holds after-need, less)) (omega (arith, g, few after-nblock2, less, long start)),
       ),
     )
   where
@@ -131,26 +187,30 @@ write-runs-requires c κs =
     start = search after-nindex2
 
 sub-fill-zero : tie.Need-sub-fill-zero
-sub-fill-zero c = omega (arith, holds after-need, fewer after-need)
+sub-fill-zero c = omega (arith, holds after-need, fewer after-need, long (start-of-need after-need))
   where
     after-need : tie.After-need
     after-need = search
 
 fill-zero-requires : tie.Need-fill-zero-requires
-fill-zero-requires c κs = omega (arith, holds after-need, fewer after-need)
+fill-zero-requires c κs = omega (arith, holds after-need, fewer after-need, long (start-of-need after-need))
   where
     after-need : tie.After-need
     after-need = search
 
 write-counts-requires : tie.Need-write-counts-requires
-write-counts-requires c κs = search needs
+write-counts-requires c κs =
+    omega (arith, long (start-of-need after-need))
+  where
+    after-need : tie.After-need
+    after-need = search
 
 mul-len : tie.Need-mul-len
 mul-len c = search needs
 
 add-len : tie.Need-add-len
 add-len c =
-    omega (arith, few after-nblock2, fewer after-need)
+    omega (arith, few after-nblock2, fewer after-need, long (start-of-need after-need), countable after-nindex2)
   where
     after-fill-zero : tie.After-fill-zero
     after-fill-zero = search
@@ -161,12 +221,18 @@ add-len c =
     after-nblock2 : tie.After-nblock2
     after-nblock2 = search after-need
 
+    after-nindex2 : tie.After-nindex2
+    after-nindex2 = search after-nblock2
+
 sub-fill-zero-2 : tie.Need-sub-fill-zero-2
 sub-fill-zero-2 c =
-    omega (arith, few after-nblock2, fewer after-need)
+    omega (arith, few after-nblock2, fewer after-need, long (start-of-need after-need), room after-write-counts)
   where
+    after-write-counts : tie.After-write-counts
+    after-write-counts = search
+
     after-fill-zero : tie.After-fill-zero
-    after-fill-zero = search
+    after-fill-zero = search after-write-counts
 
     after-need : tie.After-need
     after-need = search after-fill-zero
@@ -176,10 +242,13 @@ sub-fill-zero-2 c =
 
 fill-zero-requires-2 : tie.Need-fill-zero-requires-2
 fill-zero-requires-2 c κs =
-    omega (arith, few after-nblock2, fewer after-need)
+    omega (arith, few after-nblock2, fewer after-need, long (start-of-need after-need), room after-write-counts)
   where
+    after-write-counts : tie.After-write-counts
+    after-write-counts = search
+
     after-fill-zero : tie.After-fill-zero
-    after-fill-zero = search
+    after-fill-zero = search after-write-counts
 
     after-need : tie.After-need
     after-need = search after-fill-zero
@@ -193,18 +262,16 @@ same-length c = search needs
 returns : tie.Need-returns
 returns c =
     let a = start .pre .0 in
-    let whole = start .pre .1 .0 .0 in
+    let in-blocks = start .pre .1 .0 in
     let number = after-nindex2 .nindex2 .ensures .0 in
     let counted = after-nblock2 .nblock2 .ensures .0 in
-    let ends = start .pre .1 .1 .0 in
     let needed = after-need .need .ensures in
     let written = after-write-runs .write-runs .ensures in
     let zeroed = after-fill-zero .fill-zero .ensures in
     let headed = after-write-counts .write-counts .ensures in
     let last = after-fill-zero2 .fill-zero2 .ensures in (
-      packed-image _ _ _ a whole _ number _ counted _ _ ends needed _ _ _ _ _ _ _ (start .pre .1 .0 .1) (written .0) (written .1 .0) (zeroed .0)
-          (start .pre .1 .1 .1) (headed .0) (last .0),
-      (packed-length _ _ _ a whole _ number _ counted _ _ ends needed, last .1 ∙ headed .1 ∙ zeroed .1 ∙ written .1 .1),
+      packed-image _ _ a in-blocks _ number _ counted _ needed _ _ _ _ _ _ (start .pre .1 .1) (start .pre .1 .2) (written .0) (written .1 .0) (zeroed .0) (headed .0) (last .0),
+      (packed-length _ _ a in-blocks _ number _ counted _ needed, last .1 ∙ headed .1 ∙ zeroed .1 ∙ written .1 .1),
     )
   where
     after-fill-zero2 : tie.After-fill-zero2
@@ -235,6 +302,7 @@ pub pack-spec : {M : Type 1} → statement M
 pack-spec =
     tie.close
     (tie.spec
+    add-front
     mul-start
     add-start
     sub-index

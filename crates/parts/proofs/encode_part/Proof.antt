@@ -4,6 +4,7 @@ use mathlib.Core.Path.{_≡_, refl, _∙_}
 use native.Mathlib.Omega.{arith}
 use lib.ListN.{length, take}
 use Rattle.spec.proofs.RunLaws.{head-bounds}
+use Rattle.encoder.specs.Limits.{longest-headword, longest-entry}
 use Rattle.parts.specs.Merge.{ahead, todo, CursorOk, Met}
 use Rattle.parts.proofs.PartLaws.{Filling, filling-start}
 use Rattle.parts.proofs.Laws.{
@@ -29,16 +30,32 @@ use Rattle.parts.proofs.encode_part.Statement.{statement}
 use Rattle.parts.proofs.encode_part.Tie as tie
 
 abbrev Inv-loop : tie.InvT-loop
-Inv-loop run word₀ h body part₀ last₀ k₀ used₀ found₀ cur₀ word part last k used found cur =
-    (k ≤ 248) × (used ≤ 3253) × (length last ≡ 256) × (length word ≡ length word₀) × (length part ≡ length part₀) × CursorOk run word cur
-    × Filling (todo run word₀ h body cur₀) part₀ (todo run word h body cur) part (take k last) used
-    × Met h (ahead run word₀ cur₀) found (ahead run word cur)
+Inv-loop run word₀ h body part₀ order limit last₀ held₀ used₀ found₀ cur₀ word part last held used found cur =
+    (held ≤ longest-headword) × (used ≤ longest-entry) × (length last ≡ 256) × (length word ≡ length word₀) × (length part ≡ length part₀) × CursorOk run word cur
+    × Filling limit (todo order run word₀ h body cur₀) part₀ (todo order run word h body cur) part (take held last) used
+    × Met h (ahead order run word₀ cur₀) found (ahead order run word cur)
 
 abbrev μ-loop : tie.MeasureT-loop
-μ-loop run word₀ h body part₀ last₀ k₀ used₀ found₀ cur₀ word part last k used found cur = work run word cur
+μ-loop run word₀ h body part₀ order limit last₀ held₀ used₀ found₀ cur₀ word part last held used found cur = work order run word cur
+
+abbrev at-loop-of-enum-told3 : tie.After-enum-told3 Inv-loop μ-loop → tie.At-loop Inv-loop μ-loop
+at-loop-of-enum-told3 c = search
+
+-- an old entry has a headword and a body
+old-some : (c : tie.After-enum-told3 Inv-loop μ-loop) → 1 ≤ at-loop-of-enum-told3 c .loop .cur .length
+old-some c = old-length _ _ _ _ _ _ (after-next-turn .next-turn .ensures) (c .enum-told3 .given .1)
+  where
+    after-next-turn : tie.After-next-turn Inv-loop μ-loop
+    after-next-turn = search
+
+old-body : (c : tie.After-enum-told3 Inv-loop μ-loop) → at-loop-of-enum-told3 c .loop .cur .zero + 2 ≤ at-loop-of-enum-told3 c .loop .cur .next
+old-body c = at-loop .loop .inv .5 .body (old-some c)
+  where
+    at-loop : tie.At-loop Inv-loop μ-loop
+    at-loop = search
 
 loop-holds : tie.Need-loop-holds Inv-loop μ-loop
-loop-holds c = (omega arith, omega arith, refl, refl, refl, start .pre .0, filling-start _ _, met-start _ _)
+loop-holds c = (omega arith, omega arith, refl, refl, refl, start .pre .0, filling-start _ _ _, met-start _ _)
   where
     start : tie.Start Inv-loop μ-loop
     start = search
@@ -57,12 +74,12 @@ same-length-2 c = search needs
 
 returns : tie.Need-returns Inv-loop μ-loop
 returns c =
-    let f = part-done _ _ _ _ _ _ _ _ _ _ _ (after-next-turn .next-turn .ensures) (at-loop .loop .inv .6) (c .enum-told .given .1) in
+    let f = part-done _ _ _ _ _ _ _ _ _ _ _ _ _ (after-next-turn .next-turn .ensures) (at-loop .loop .inv .6) (c .enum-told .given .1) in
     let l = at-loop .loop .inv in (
       f .whole,
       (
         f .size,
-        (f .behind, (l .5, ((l .1, l .4, l .3), (l .7, λ z. met-done _ _ _ _ _ (after-next-turn .next-turn .ensures) (c .enum-told .given .1))))),
+        (f .behind, (l .5, ((l .1, l .4, l .3), (l .7, λ z. met-done _ _ _ _ _ _ (after-next-turn .next-turn .ensures) (c .enum-told .given .1))))),
       ),
     )
   where
@@ -83,7 +100,7 @@ advance-requires c κs = (at-loop .loop .inv .5 .inside, (at-loop .loop .inv .5 
 
 loop-less : tie.Need-loop-less Inv-loop μ-loop
 loop-less c =
-    skip-less _ _ _ _ _ (after-next-turn .next-turn .ensures) _ _ (after-enum-told2 .enum-told2 .given .1) (after-advance .advance .ensures .0)
+    skip-less _ _ _ _ _ _ (after-next-turn .next-turn .ensures) _ _ (after-enum-told2 .enum-told2 .given .1) (after-advance .advance .ensures .0)
     (after-advance .advance .ensures .1 .0)
   where
     after-advance : tie.After-advance Inv-loop μ-loop
@@ -103,9 +120,9 @@ loop-again c = (
   after-advance .advance .ensures .1 .1 .1 ∙ at-loop .loop .inv .3,
   at-loop .loop .inv .4,
   after-advance .advance .ensures .1 .1 .0,
-  part-skips _ _ _ _ _ _ _ _ _ _ _ (after-next-turn .next-turn .ensures) (at-loop .loop .inv .6) _ _ (after-enum-told2 .enum-told2 .given .1)
+  part-skips _ _ _ _ _ _ _ _ _ _ _ _ _ (after-next-turn .next-turn .ensures) (at-loop .loop .inv .6) _ _ (after-enum-told2 .enum-told2 .given .1)
       (after-advance .advance .ensures .0) (after-advance .advance .ensures .1 .0),
-  met-skip _ _ _ _ _ (after-next-turn .next-turn .ensures) _ _ (at-loop .loop .inv .7) _ _
+  met-skip _ _ _ _ _ _ (after-next-turn .next-turn .ensures) _ _ (at-loop .loop .inv .7) _ _
       (after-advance .advance .ensures .0) (after-enum-told2 .enum-told2 .given .1),
 )
   where
@@ -123,19 +140,6 @@ loop-again c = (
 
 enum-told-3 : tie.Need-enum-told-3 Inv-loop μ-loop
 enum-told-3 c = search needs
-
-abbrev at-loop-of-enum-told3 : tie.After-enum-told3 Inv-loop μ-loop → tie.At-loop Inv-loop μ-loop
-at-loop-of-enum-told3 c = search
-
--- an old entry has a headword and a body
-old-some : (c : tie.After-enum-told3 Inv-loop μ-loop) → 1 ≤ at-loop-of-enum-told3 c .loop .cur .length
-old-some c = old-length _ _ _ _ _ (c .before .before .next-turn .ensures) (c .enum-told3 .given .1)
-
-old-body : (c : tie.After-enum-told3 Inv-loop μ-loop) → at-loop-of-enum-told3 c .loop .cur .zero + 2 ≤ at-loop-of-enum-told3 c .loop .cur .next
-old-body c = at-loop .loop .inv .5 .body (old-some c)
-  where
-    at-loop : tie.At-loop Inv-loop μ-loop
-    at-loop = search
 
 slice-aggregate-append : tie.Need-slice-aggregate-append Inv-loop μ-loop
 slice-aggregate-append c = omega arith
@@ -170,13 +174,19 @@ part-append-end c = search needs
 append-requires : tie.Need-append-requires Inv-loop μ-loop
 append-requires c κs =
     let w = word-few _ _ (at-loop .loop .inv .5 .room) (old-some after-enum-told3) (at-loop .loop .inv .5 .short) in
-    ((w .0, w .1, body-few _ _ _ (at-loop .loop .inv .5 .body-short)), (at-loop .loop .inv .0, omega arith, omega arith, at-loop .loop .inv .1))
+    ((w .0, w .1, body-few _ _ _ (at-loop .loop .inv .5 .body-short)), (at-loop .loop .inv .0, omega arith, omega arith, at-loop .loop .inv .1, start .pre .1 .3))
   where
     after-enum-told3 : tie.After-enum-told3 Inv-loop μ-loop
     after-enum-told3 = search
 
     at-loop : tie.At-loop Inv-loop μ-loop
     at-loop = search after-enum-told3
+
+    start : tie.Start Inv-loop μ-loop
+    start = search at-loop
+
+enum-told-4 : tie.Need-enum-told-4 Inv-loop μ-loop
+enum-told-4 c = search needs
 
 same-length-3 : tie.Need-same-length-3 Inv-loop μ-loop
 same-length-3 c = search needs
@@ -186,11 +196,11 @@ same-length-4 c = search needs
 
 returns-2 : tie.Need-returns-2 Inv-loop μ-loop
 returns-2 c =
-    let f = part-full-old _ _ _ _ _ _ _ _ _ _ _ (after-next-turn .next-turn .ensures) (at-loop .loop .inv .6) _ _ _ (after-enum-told3 .enum-told3 .given .1)
-    (after-append .append .ensures .0) (c .if1 .taken) in
+    let f = part-full-old _ _ _ _ _ _ _ _ _ _ _ _ _ (after-next-turn .next-turn .ensures) (at-loop .loop .inv .6) _ _ _ (after-enum-told3 .enum-told3 .given .1)
+    (after-append .append .ensures .0) (c .enum-told4 .given .1) in
     let l = at-loop .loop .inv in
     let a = after-append .append .ensures in
-    (f .whole, (f .size, (f .behind, (l .5, ((l .1, a .1 .0 ∙ l .4, l .3), (l .7, λ z. absurd (full-some _ _ _ _ _ _ _ (a .0) (c .if1 .taken) z)))))))
+    (f .whole, (f .size, (f .behind, (l .5, ((l .1, a .1 .0 ∙ l .4, l .3), (l .7, λ z. absurd (full-some _ _ _ _ _ _ _ _ (a .0) (c .enum-told4 .given .1) z)))))))
   where
     after-append : tie.After-append Inv-loop μ-loop
     after-append = search
@@ -204,6 +214,9 @@ returns-2 c =
     at-loop : tie.At-loop Inv-loop μ-loop
     at-loop = search after-next-turn
 
+enum-known-fit : tie.Need-enum-known-fit Inv-loop μ-loop
+enum-known-fit c = search needs
+
 advance-requires-2 : tie.Need-advance-requires-2 Inv-loop μ-loop
 advance-requires-2 c κs = (at-loop .loop .inv .5 .inside, (at-loop .loop .inv .5 .room, at-loop .loop .inv .5 .short, at-loop .loop .inv .5 .clean))
   where
@@ -215,7 +228,7 @@ advance-requires-2 c κs = (at-loop .loop .inv .5 .inside, (at-loop .loop .inv .
 
 loop-less-2 : tie.Need-loop-less-2 Inv-loop μ-loop
 loop-less-2 c =
-    old-less _ _ _ _ _ (after-next-turn .next-turn .ensures) _ _ (after-enum-told3 .enum-told3 .given .1) (after-advance2 .advance2 .ensures .0)
+    old-less _ _ _ _ _ _ (after-next-turn .next-turn .ensures) _ _ (after-enum-told3 .enum-told3 .given .1) (after-advance2 .advance2 .ensures .0)
     (after-advance2 .advance2 .ensures .1 .0)
   where
     after-advance2 : tie.After-advance2 Inv-loop μ-loop
@@ -233,16 +246,16 @@ loop-less-2 c =
 loop-again-2 : tie.Need-loop-again-2 Inv-loop μ-loop
 loop-again-2 c = (
   at-loop .loop .inv .5 .short,
-  after-append .append .ensures .1 .2,
+  after-append .append .ensures .0 .1 _ (after-fit .fit .given .1) .4,
   after-append .append .ensures .1 .1 ∙ at-loop .loop .inv .2,
   after-advance2 .advance2 .ensures .1 .1 .1 ∙ at-loop .loop .inv .3,
   after-append .append .ensures .1 .0 ∙ at-loop .loop .inv .4,
   after-advance2 .advance2 .ensures .1 .1 .0,
-  part-keeps _ _ _ _ _ _ _ _ _ _ _ (after-next-turn .next-turn .ensures) (at-loop .loop .inv .6) _ _ _ _ _ (after-enum-told3 .enum-told3 .given .1)
-      (after-append .append .ensures .0) (else1 .if1 .left) (omega (arith, at-loop .loop .inv .1, at-loop .loop .inv .4, start .pre .1 .2))
+  part-keeps _ _ _ _ _ _ _ _ _ _ _ _ _ (after-next-turn .next-turn .ensures) (at-loop .loop .inv .6) _ _ _ _ _ (after-enum-told3 .enum-told3 .given .1)
+      (after-append .append .ensures .0) _ (after-fit .fit .given .1) (omega (arith, at-loop .loop .inv .1, at-loop .loop .inv .4, start .pre .1 .2))
       (omega (arith, at-loop .loop .inv .5 .short, at-loop .loop .inv .5 .room)) (after-advance2 .advance2 .ensures .0)
       (after-advance2 .advance2 .ensures .1 .0),
-  met-old _ _ _ _ _ (after-next-turn .next-turn .ensures) _ _
+  met-old _ _ _ _ _ _ (after-next-turn .next-turn .ensures) _ _
       (at-loop .loop .inv .7) _ _
       (after-advance2 .advance2 .ensures .0)
       (after-enum-told3 .enum-told3 .given .1),
@@ -251,11 +264,11 @@ loop-again-2 c = (
     after-advance2 : tie.After-advance2 Inv-loop μ-loop
     after-advance2 = search
 
-    else1 : tie.Else1 Inv-loop μ-loop
-    else1 = search after-advance2
+    after-fit : tie.After-fit Inv-loop μ-loop
+    after-fit = search after-advance2
 
     after-append : tie.After-append Inv-loop μ-loop
-    after-append = search else1
+    after-append = search after-fit
 
     after-enum-told3 : tie.After-enum-told3 Inv-loop μ-loop
     after-enum-told3 = search after-append
@@ -269,8 +282,8 @@ loop-again-2 c = (
     start : tie.Start Inv-loop μ-loop
     start = search at-loop
 
-enum-told-4 : tie.Need-enum-told-4 Inv-loop μ-loop
-enum-told-4 c = search needs
+enum-told-5 : tie.Need-enum-told-5 Inv-loop μ-loop
+enum-told-5 c = search needs
 
 slice-aggregate-append-3 : tie.Need-slice-aggregate-append-3 Inv-loop μ-loop
 slice-aggregate-append-3 c = omega arith
@@ -278,13 +291,16 @@ slice-aggregate-append-3 c = omega arith
 append-requires-2 : tie.Need-append-requires-2 Inv-loop μ-loop
 append-requires-2 c κs =
     let b = head-bounds _ (start .pre .1 .0) in
-    ((b .0, b .1, start .pre .1 .1), (at-loop .loop .inv .0, omega arith, omega arith, at-loop .loop .inv .1))
+    ((b .0, b .1, start .pre .1 .1), (at-loop .loop .inv .0, omega arith, omega arith, at-loop .loop .inv .1, start .pre .1 .3))
   where
     at-loop : tie.At-loop Inv-loop μ-loop
     at-loop = search
 
     start : tie.Start Inv-loop μ-loop
     start = search at-loop
+
+enum-told-6 : tie.Need-enum-told-6 Inv-loop μ-loop
+enum-told-6 c = search needs
 
 same-length-5 : tie.Need-same-length-5 Inv-loop μ-loop
 same-length-5 c = search needs
@@ -294,54 +310,60 @@ same-length-6 c = search needs
 
 returns-3 : tie.Need-returns-3 Inv-loop μ-loop
 returns-3 c =
-    let f = part-full-new _ _ _ _ _ _ _ _ _ _ _ (after-next-turn .next-turn .ensures) (at-loop .loop .inv .6) _ _ _ (after-enum-told4 .enum-told4 .given .1)
-    (after-append2 .append2 .ensures .0) (c .if2 .taken) in
+    let f = part-full-new _ _ _ _ _ _ _ _ _ _ _ _ _ (after-next-turn .next-turn .ensures) (at-loop .loop .inv .6) _ _ _ (after-enum-told5 .enum-told5 .given .1)
+    (after-append2 .append2 .ensures .0) (c .enum-told6 .given .1) in
     let l = at-loop .loop .inv in
     let a = after-append2 .append2 .ensures in
-    (f .whole, (f .size, (f .behind, (l .5, ((l .1, a .1 .0 ∙ l .4, l .3), (l .7, λ z. absurd (full-some _ _ _ _ _ _ _ (a .0) (c .if2 .taken) z)))))))
+    (f .whole, (f .size, (f .behind, (l .5, ((l .1, a .1 .0 ∙ l .4, l .3), (l .7, λ z. absurd (full-some _ _ _ _ _ _ _ _ (a .0) (c .enum-told6 .given .1) z)))))))
   where
     after-append2 : tie.After-append2 Inv-loop μ-loop
     after-append2 = search
 
-    after-enum-told4 : tie.After-enum-told4 Inv-loop μ-loop
-    after-enum-told4 = search after-append2
+    after-enum-told5 : tie.After-enum-told5 Inv-loop μ-loop
+    after-enum-told5 = search after-append2
 
     after-next-turn : tie.After-next-turn Inv-loop μ-loop
-    after-next-turn = search after-enum-told4
+    after-next-turn = search after-enum-told5
 
     at-loop : tie.At-loop Inv-loop μ-loop
     at-loop = search after-next-turn
 
+enum-known-fit-2 : tie.Need-enum-known-fit-2 Inv-loop μ-loop
+enum-known-fit-2 c = search needs
+
 loop-less-3 : tie.Need-loop-less-3 Inv-loop μ-loop
-loop-less-3 c = new-less _ _ _ _ _ (after-next-turn .next-turn .ensures) (after-enum-told4 .enum-told4 .given .1)
+loop-less-3 c = new-less _ _ _ _ _ _ (after-next-turn .next-turn .ensures) (after-enum-told5 .enum-told5 .given .1)
   where
-    after-enum-told4 : tie.After-enum-told4 Inv-loop μ-loop
-    after-enum-told4 = search
+    after-enum-told5 : tie.After-enum-told5 Inv-loop μ-loop
+    after-enum-told5 = search
 
     after-next-turn : tie.After-next-turn Inv-loop μ-loop
-    after-next-turn = search after-enum-told4
+    after-next-turn = search after-enum-told5
 
 loop-again-3 : tie.Need-loop-again-3 Inv-loop μ-loop
 loop-again-3 c = (
   head-bounds _ (start .pre .1 .0) .1,
-  after-append2 .append2 .ensures .1 .2,
+  after-append2 .append2 .ensures .0 .1 _ (after-fit2 .fit2 .given .1) .4,
   after-append2 .append2 .ensures .1 .1 ∙ at-loop .loop .inv .2,
   at-loop .loop .inv .3,
   after-append2 .append2 .ensures .1 .0 ∙ at-loop .loop .inv .4,
   cursor-taken _ _ _ (at-loop .loop .inv .5),
-  part-enters _ _ _ _ _ _ _ _ _ _ _ (after-next-turn .next-turn .ensures) (at-loop .loop .inv .6) _ _ _ (after-enum-told4 .enum-told4 .given .1)
-      (after-append2 .append2 .ensures .0) (c .if2 .left) (omega (arith, at-loop .loop .inv .1, at-loop .loop .inv .4, start .pre .1 .2)),
-  met-new _ _ _ _ _ _ (at-loop .loop .inv .7),
+  part-enters _ _ _ _ _ _ _ _ _ _ _ _ _ (after-next-turn .next-turn .ensures) (at-loop .loop .inv .6) _ _ _ (after-enum-told5 .enum-told5 .given .1)
+      (after-append2 .append2 .ensures .0) _ (after-fit2 .fit2 .given .1) (omega (arith, at-loop .loop .inv .1, at-loop .loop .inv .4, start .pre .1 .2)),
+  met-new _ _ _ _ _ _ _ (at-loop .loop .inv .7),
 )
   where
-    after-append2 : tie.After-append2 Inv-loop μ-loop
-    after-append2 = search
+    after-fit2 : tie.After-fit2 Inv-loop μ-loop
+    after-fit2 = search
 
-    after-enum-told4 : tie.After-enum-told4 Inv-loop μ-loop
-    after-enum-told4 = search after-append2
+    after-append2 : tie.After-append2 Inv-loop μ-loop
+    after-append2 = search after-fit2
+
+    after-enum-told5 : tie.After-enum-told5 Inv-loop μ-loop
+    after-enum-told5 = search after-append2
 
     after-next-turn : tie.After-next-turn Inv-loop μ-loop
-    after-next-turn = search after-enum-told4
+    after-next-turn = search after-enum-told5
 
     at-loop : tie.At-loop Inv-loop μ-loop
     at-loop = search after-next-turn
@@ -374,17 +396,21 @@ encode-part-spec =
     part-append-start
     part-append-end
     append-requires
+    enum-told-4
     same-length-3
     same-length-4
     returns-2
+    enum-known-fit
     advance-requires-2
     loop-less-2
     loop-again-2
-    enum-told-4
+    enum-told-5
     slice-aggregate-append-3
     append-requires-2
+    enum-told-6
     same-length-5
     same-length-6
     returns-3
+    enum-known-fit-2
     loop-less-3
     loop-again-3)

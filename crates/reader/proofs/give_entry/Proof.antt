@@ -6,8 +6,8 @@ use Rattle.reader.proofs.give_entry.Tie as tie
 add-start : tie.Need-add-start
 add-start c = search needs
 
-sub-n : tie.Need-sub-n
-sub-n c = search needs
+sub-long : tie.Need-sub-long
+sub-long c = search needs
 
 returns : tie.Need-returns
 returns c = search entry-long
@@ -41,7 +41,7 @@ give-entry-spec =
     tie.close
     (tie.spec
     add-start
-    sub-n
+    sub-long
     returns
     returns-2
     copy-requires

@@ -6,8 +6,8 @@ use Rattle.reader.proofs.give_text.Tie as tie
 add-from : tie.Need-add-from
 add-from c = search needs
 
-sub-n : tie.Need-sub-n
-sub-n c = search needs
+sub-long : tie.Need-sub-long
+sub-long c = search needs
 
 returns : tie.Need-returns
 returns c = search text-short
@@ -32,7 +32,7 @@ give-text-spec =
     tie.close
     (tie.spec
     add-from
-    sub-n
+    sub-long
     returns
     copy-requires
     add-t7

@@ -1,5 +1,5 @@
 use Rattle.marks.proofs.Laws.{marks-zero}
-use Rattle.inspect.proofs.Accepted.{is-accepted}
+use Rattle.inspect.proofs.Laws.{is-accepted}
 use Rattle.reader.proofs.Laws.{slice-front, slice-header, slice-blocks, look-up-slice, look-up-refused, accepted-start, look-up-answered}
 use borrow.Author.Needs.{needs}
 use Rattle.reader.proofs.look_up.Statement.{statement}

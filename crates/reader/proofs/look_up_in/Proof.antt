@@ -1,4 +1,4 @@
-use Rattle.inspect.proofs.Accepted.{accepted-inside, accepted-area, accepted-blocks}
+use Rattle.inspect.proofs.Accepted.{accepted-width, accepted-inside, accepted-short}
 use Rattle.seek.proofs.Laws.{spot-body, spot-area, spot-room, spot-front}
 use Rattle.reader.proofs.Found.{look-up-twelve, look-up-absent, look-up-other, look-up-same}
 use borrow.Author.Needs.{needs}
@@ -10,6 +10,9 @@ headword-ok-requires c κs = search needs
 
 returns : tie.Need-returns
 returns c = search look-up-twelve
+
+add-from : tie.Need-add-from
+add-from c = search needs
 
 mul-start : tie.Need-mul-start
 mul-start c = search needs
@@ -42,7 +45,7 @@ slice-aggregate-seek : tie.Need-slice-aggregate-seek
 slice-aggregate-seek c = search needs
 
 seek-requires : tie.Need-seek-requires
-seek-requires c κs = (search accepted-inside, (search accepted-area, search accepted-blocks, search needs))
+seek-requires c κs = ((search accepted-width, search accepted-inside), (search accepted-short, search needs))
 
 enum-told : tie.Need-enum-told
 enum-told c = search needs
@@ -66,11 +69,40 @@ same-length : tie.Need-same-length
 same-length c = search needs
 
 returns-2 : tie.Need-returns-2
-returns-2 c = search look-up-same
+returns-2 c i o =
+    look-up-same _ _ _ _ (start .pre .0) (start .pre .1 .1) _ (after-headword-ok .headword-ok .ensures) (else1 .if1 .left) _ (after-nindex2 .nindex2 .ensures .0) _ _
+    (after-seek .seek .ensures .0) i o _ _ _ (after-found .found .given .1) _ (after-is-equal .is-equal .ensures) (then2 .if2 .taken) _ _ (after-give-text .give-text .ensures)
+  where
+    after-give-text : tie.After-give-text
+    after-give-text = search
+
+    then2 : tie.Then2
+    then2 = search after-give-text
+
+    after-is-equal : tie.After-is-equal
+    after-is-equal = search then2
+
+    after-found : tie.After-found
+    after-found = search after-is-equal
+
+    after-seek : tie.After-seek
+    after-seek = search after-found
+
+    after-nindex2 : tie.After-nindex2
+    after-nindex2 = search after-seek
+
+    else1 : tie.Else1
+    else1 = search after-nindex2
+
+    after-headword-ok : tie.After-headword-ok
+    after-headword-ok = search else1
+
+    start : tie.Start
+    start = search after-headword-ok
 
 returns-3 : tie.Need-returns-3
 returns-3 c =
-    look-up-absent _ _ _ _ _ (start .pre .0) _ (after-headword-ok .headword-ok .ensures) (else1 .if1 .left) _ (after-nindex2 .nindex2 .ensures .0) _ _
+    look-up-absent _ _ _ _ (start .pre .0) (start .pre .1 .1) _ (after-headword-ok .headword-ok .ensures) (else1 .if1 .left) _ (after-nindex2 .nindex2 .ensures .0) _ _
     (after-seek .seek .ensures .0) (search)
   where
     after-seek : tie.After-seek
@@ -89,7 +121,30 @@ returns-3 c =
     start = search after-headword-ok
 
 returns-4 : tie.Need-returns-4
-returns-4 c = search look-up-other
+returns-4 c i o =
+    look-up-other _ _ _ _ (start .pre .0) (start .pre .1 .1) _ (after-headword-ok .headword-ok .ensures) (else1 .if1 .left) _ (after-nindex2 .nindex2 .ensures .0) _ _
+    (after-seek .seek .ensures .0) i o _ _ _ (after-found .found .given .1) _ (after-is-equal .is-equal .ensures) (c .if2 .left)
+  where
+    after-is-equal : tie.After-is-equal
+    after-is-equal = search
+
+    after-found : tie.After-found
+    after-found = search after-is-equal
+
+    after-seek : tie.After-seek
+    after-seek = search after-found
+
+    after-nindex2 : tie.After-nindex2
+    after-nindex2 = search after-seek
+
+    else1 : tie.Else1
+    else1 = search after-nindex2
+
+    after-headword-ok : tie.After-headword-ok
+    after-headword-ok = search else1
+
+    start : tie.Start
+    start = search after-headword-ok
 
 pub look-up-in-spec : {M : Type 1} → statement M
 look-up-in-spec =
@@ -97,6 +152,7 @@ look-up-in-spec =
     (tie.spec
     headword-ok-requires
     returns
+    add-from
     mul-start
     add-start
     sub-area

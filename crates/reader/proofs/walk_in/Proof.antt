@@ -1,4 +1,4 @@
-use Rattle.inspect.proofs.Accepted.{accepted-inside, accepted-area, accepted-blocks}
+use Rattle.inspect.proofs.Accepted.{accepted-width, accepted-inside, accepted-short}
 use Rattle.seek.proofs.Laws.{spot-body, spot-area, spot-room, spot-front}
 use Rattle.reader.proofs.Found.{walk-twelve, walk-absent, walk-found}
 use borrow.Author.Needs.{needs}
@@ -10,6 +10,9 @@ start-ok-requires c κs = search needs
 
 returns : tie.Need-returns
 returns c = search walk-twelve
+
+add-from : tie.Need-add-from
+add-from c = search needs
 
 mul-start : tie.Need-mul-start
 mul-start c = search needs
@@ -42,7 +45,7 @@ slice-aggregate-seek : tie.Need-slice-aggregate-seek
 slice-aggregate-seek c = search needs
 
 seek-requires : tie.Need-seek-requires
-seek-requires c κs = (search accepted-inside, (search accepted-area, search accepted-blocks, search needs))
+seek-requires c κs = ((search accepted-width, search accepted-inside), (search accepted-short, search needs))
 
 enum-told : tie.Need-enum-told
 enum-told c = search needs
@@ -61,7 +64,7 @@ give-entry-requires c κs = (search spot-body, search spot-area)
 
 returns-2 : tie.Need-returns-2
 returns-2 c =
-    walk-absent _ _ _ _ _ _ (start .pre .0) _ _ (after-start-ok .start-ok .ensures) (else1 .if1 .left) _ (after-nindex2 .nindex2 .ensures .0) _ _
+    walk-absent _ _ _ _ _ (start .pre .0) (start .pre .1 .1) _ _ (after-start-ok .start-ok .ensures) (else1 .if1 .left) _ (after-nindex2 .nindex2 .ensures .0) _ _
     (after-seek .seek .ensures .0) (search)
   where
     after-seek : tie.After-seek
@@ -86,7 +89,30 @@ same-length-2 : tie.Need-same-length-2
 same-length-2 c = search needs
 
 returns-3 : tie.Need-returns-3
-returns-3 c = search walk-found
+returns-3 c =
+    walk-found _ _ _ _ _ (start .pre .0) (start .pre .1 .1) _ _ (after-start-ok .start-ok .ensures) (else1 .if1 .left) _ (after-nindex2 .nindex2 .ensures .0) _ _
+    (after-seek .seek .ensures .0) _ _ _ (after-found .found .given .1) _ _ _ (after-give-entry .give-entry .ensures)
+  where
+    after-give-entry : tie.After-give-entry
+    after-give-entry = search
+
+    after-found : tie.After-found
+    after-found = search after-give-entry
+
+    after-seek : tie.After-seek
+    after-seek = search after-found
+
+    after-nindex2 : tie.After-nindex2
+    after-nindex2 = search after-seek
+
+    else1 : tie.Else1
+    else1 = search after-nindex2
+
+    after-start-ok : tie.After-start-ok
+    after-start-ok = search else1
+
+    start : tie.Start
+    start = search after-start-ok
 
 pub walk-in-spec : {M : Type 1} → statement M
 walk-in-spec =
@@ -94,6 +120,7 @@ walk-in-spec =
     (tie.spec
     start-ok-requires
     returns
+    add-from
     mul-start
     add-start
     sub-area

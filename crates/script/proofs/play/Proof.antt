@@ -5,7 +5,7 @@ use native.Mathlib.Omega.{arith}
 use lib.ListN.{length, drop}
 use borrow.Author.Needs.{needs}
 use Rattle.script.specs.Script.{calls-of, played-from, played}
-use Rattle.script.proofs.Turns.{size-told, played-start, played-end, played-turn}
+use Rattle.script.proofs.Turns.{size-told, size-inside, played-start, played-end, played-turn}
 use Rattle.script.proofs.Claim.{script-claimed}
 use Rattle.script.proofs.play.Statement.{statement}
 use Rattle.script.proofs.play.Tie as tie
@@ -30,8 +30,11 @@ part-rest-start c = search needs
 part-rest-end : tie.Need-part-rest-end Inv-loop μ-loop
 part-rest-end c = search needs
 
-call-size-requires : tie.Need-call-size-requires Inv-loop μ-loop
-call-size-requires c κs = search needs
+first-call-requires : tie.Need-first-call-requires Inv-loop μ-loop
+first-call-requires c κs = search needs
+
+enum-told : tie.Need-enum-told Inv-loop μ-loop
+enum-told c = search needs
 
 same-length : tie.Need-same-length Inv-loop μ-loop
 same-length c = omega arith
@@ -46,7 +49,7 @@ returns : tie.Need-returns Inv-loop μ-loop
 returns c =
     let start = start-place .args in
     let turn = at-loop .loop in
-    let e = played-end _ (start .script .now) (turn .at) _ _ _ _ _ _ (turn .inv .5) _ (after-call-size .call-size .ensures .0) (c .if1 .taken) in
+    let e = played-end _ (start .script .now) (turn .at) _ _ _ _ _ _ (turn .inv .5) _ (after-first-call .first-call .ensures) (c .enum-told .given .1) in
     let image-bytes = after-slice-known .slice-known in
     let script-bytes = after-shared-slice-known .shared-slice-known in (
       e,
@@ -54,11 +57,11 @@ returns c =
           e,
     )
   where
-    after-call-size : tie.After-call-size Inv-loop μ-loop
-    after-call-size = search
+    after-first-call : tie.After-first-call Inv-loop μ-loop
+    after-first-call = search
 
     at-loop : tie.At-loop Inv-loop μ-loop
-    at-loop = search after-call-size
+    at-loop = search after-first-call
 
     after-slice-known : tie.After-slice-known Inv-loop μ-loop
     after-slice-known = search at-loop
@@ -69,35 +72,66 @@ returns c =
     start-place : tie.Start Inv-loop μ-loop
     start-place = search after-shared-slice-known
 
-perform-requires : tie.Need-perform-requires Inv-loop μ-loop
-perform-requires c κs = size-told _ _ (after-call-size .call-size .ensures .0) (else1 .if1 .left)
-  where
-    else1 : tie.Else1 Inv-loop μ-loop
-    else1 = search
+enum-known-first : tie.Need-enum-known-first Inv-loop μ-loop
+enum-known-first c = search needs
 
-    after-call-size : tie.After-call-size Inv-loop μ-loop
-    after-call-size = search else1
+perform-requires : tie.Need-perform-requires Inv-loop μ-loop
+perform-requires c κs = size-told _ _ (after-first-call .first-call .ensures) _ (after-first .first .given .1)
+  where
+    after-first : tie.After-first Inv-loop μ-loop
+    after-first = search
+
+    after-first-call : tie.After-first-call Inv-loop μ-loop
+    after-first-call = search after-first
 
 put-code-requires : tie.Need-put-code-requires Inv-loop μ-loop
 put-code-requires c κs = search needs
 
 add-at : tie.Need-add-at Inv-loop μ-loop
-add-at c = search needs
+add-at c =
+    let inside = size-inside (start-place .args .script .now) (at-loop .loop .at) _ (after-first-call .first-call .ensures) (at-loop .loop .inv .0) _ (after-first .first .given .1) in
+    omega arith
+  where
+    after-first : tie.After-first Inv-loop μ-loop
+    after-first = search
+
+    after-first-call : tie.After-first-call Inv-loop μ-loop
+    after-first-call = search after-first
+
+    at-loop : tie.At-loop Inv-loop μ-loop
+    at-loop = search after-first-call
+
+    start-place : tie.Start Inv-loop μ-loop
+    start-place = search at-loop
 
 add-n : tie.Need-add-n Inv-loop μ-loop
 add-n c = search needs
 
 loop-less : tie.Need-loop-less Inv-loop μ-loop
-loop-less c = omega arith
+loop-less c =
+    let inside = size-inside (start-place .args .script .now) (at-loop .loop .at) _ (after-first-call .first-call .ensures) (at-loop .loop .inv .0) _ (after-first .first .given .1) in
+    omega arith
+  where
+    after-first : tie.After-first Inv-loop μ-loop
+    after-first = search
+
+    after-first-call : tie.After-first-call Inv-loop μ-loop
+    after-first-call = search after-first
+
+    at-loop : tie.At-loop Inv-loop μ-loop
+    at-loop = search after-first-call
+
+    start-place : tie.Start Inv-loop μ-loop
+    start-place = search at-loop
 
 loop-again : tie.Need-loop-again Inv-loop μ-loop
 loop-again c =
     let turn = at-loop .loop in
     let start = start-place .args in
-    let known = after-call-size .call-size .ensures .0 in
-    let full = else1 .if1 .left in
-    let next = played-turn _ (start .script .now) (turn .at) _ _ _ _ _ _ (turn .inv .5) _ known full (turn .inv .3) _ _ _ _ (after-perform .perform .ensures .0)
+    let known = after-first-call .first-call .ensures in
+    let next = played-turn _ (start .script .now) (turn .at) _ _ _ _ _ _ (turn .inv .5) _ known _ (after-first .first .given .1) (turn .inv .3) _ _ _ _ (after-perform .perform .ensures .0)
     _ (after-put-code .put-code .ensures) in
+    let inside = size-inside (start .script .now) (turn .at) _ known (turn .inv .0) _ (after-first .first .given .1) in
     (omega arith, omega arith, omega arith, omega arith, omega arith, next)
   where
     after-put-code : tie.After-put-code Inv-loop μ-loop
@@ -106,14 +140,14 @@ loop-again c =
     after-perform : tie.After-perform Inv-loop μ-loop
     after-perform = search after-put-code
 
-    else1 : tie.Else1 Inv-loop μ-loop
-    else1 = search after-perform
+    after-first : tie.After-first Inv-loop μ-loop
+    after-first = search after-perform
 
-    after-call-size : tie.After-call-size Inv-loop μ-loop
-    after-call-size = search else1
+    after-first-call : tie.After-first-call Inv-loop μ-loop
+    after-first-call = search after-first
 
     at-loop : tie.At-loop Inv-loop μ-loop
-    at-loop = search after-call-size
+    at-loop = search after-first-call
 
     start-place : tie.Start Inv-loop μ-loop
     start-place = search at-loop
@@ -128,11 +162,13 @@ play-spec =
     sub-rest
     part-rest-start
     part-rest-end
-    call-size-requires
+    first-call-requires
+    enum-told
     same-length
     same-length-2
     same-length-3
     returns
+    enum-known-first
     perform-requires
     put-code-requires
     add-at

@@ -16,11 +16,17 @@ use borrow.Author.Needs.{needs}
 use Rattle.seek.proofs.find_at.Statement.{statement}
 use Rattle.seek.proofs.find_at.Tie as tie
 
-read-u16-requires : tie.Need-read-u16-requires
-read-u16-requires c κs = search needs
+read-number-requires : tie.Need-read-number-requires
+read-number-requires c κs = search needs
 
 run-size-requires : tie.Need-run-size-requires
 run-size-requires c κs = search needs
+
+enum-known-told : tie.Need-enum-known-told
+enum-known-told c = search needs
+
+enum-told : tie.Need-enum-told
+enum-told c = search needs
 
 returns : tie.Need-returns
 returns c = (search at-unplaced, (search absent-inside, search needs))
@@ -28,11 +34,11 @@ returns c = (search at-unplaced, (search absent-inside, search needs))
 mul-start : tie.Need-mul-start
 mul-start c = search needs
 
-mul-find-in-run : tie.Need-mul-find-in-run
-mul-find-in-run c = search at-size-fits
+mul-end : tie.Need-mul-end
+mul-end c = search at-size-fits
 
-add-find-in-run : tie.Need-add-find-in-run
-add-find-in-run c = search at-stop-fits
+add-end : tie.Need-add-end
+add-end c = search at-stop-fits
 
 sub-find-in-run : tie.Need-sub-find-in-run
 sub-find-in-run c = search needs
@@ -46,20 +52,20 @@ part-find-in-run-end c = search at-area
 find-in-run-requires : tie.Need-find-in-run-requires
 find-in-run-requires c κs = (search at-count, search needs)
 
-enum-told : tie.Need-enum-told
-enum-told c = search needs
-
 enum-told-2 : tie.Need-enum-told-2
 enum-told-2 c = search needs
+
+enum-told-3 : tie.Need-enum-told-3
+enum-told-3 c = search needs
 
 enum-known-st : tie.Need-enum-known-st
 enum-known-st c = search needs
 
-add-t25 : tie.Need-add-t25
-add-t25 c = search at-zero-fits
+add-body : tie.Need-add-body
+add-body c = search at-zero-fits
 
-add-t26 : tie.Need-add-t26
-add-t26 c = search at-next-fits
+add-behind : tie.Need-add-behind
+add-behind c = search at-next-fits
 
 same-length : tie.Need-same-length
 same-length c = search needs
@@ -83,21 +89,23 @@ pub find-at-spec : {M : Type 1} → statement M
 find-at-spec =
     tie.close
     (tie.spec
-    read-u16-requires
+    read-number-requires
     run-size-requires
+    enum-known-told
+    enum-told
     returns
     mul-start
-    mul-find-in-run
-    add-find-in-run
+    mul-end
+    add-end
     sub-find-in-run
     part-find-in-run-start
     part-find-in-run-end
     find-in-run-requires
-    enum-told
     enum-told-2
+    enum-told-3
     enum-known-st
-    add-t25
-    add-t26
+    add-body
+    add-behind
     same-length
     returns-2
     same-length-2

@@ -2,18 +2,17 @@ use Prim.Native.Nat.{_-_}
 use lib.ListN.{length}
 use borrow.Author.Needs.{needs}
 use Rattle.spec.specs.Order.{below-of}
-use Rattle.runs.proofs.Laws.{step-less, inside-rest, inside-body, inside-run, inside-short}
+use Rattle.runs.proofs.Laws.{step-less, inside-rest, inside-body, inside-run, inside-short, entry-room, entry-front}
 use Rattle.runs.proofs.Returns.{none-inside-end}
-use Rattle.tally.proofs.RunsLaws.{entry-room, entry-front}
 use Rattle.seek.proofs.Returns.{Passing, passing-start, find-broken, find-end, find-entry, find-turn, inside-from}
 use Rattle.seek.proofs.find_in_run.Statement.{statement}
 use Rattle.seek.proofs.find_in_run.Tie as tie
 
 abbrev Inv-loop : tie.InvT-loop
-Inv-loop run above h word₀ pos₀ n₀ word pos n = Passing (below-of 0) (below-of 0) above h run word₀ word pos n
+Inv-loop order run above h word₀ pos₀ held₀ word pos held = Passing (below-of order) (below-of order) above h run word₀ word pos held
 
 abbrev μ-loop : tie.MeasureT-loop
-μ-loop run above h word₀ pos₀ n₀ word pos n = length run - pos
+μ-loop order run above h word₀ pos₀ held₀ word pos held = length run - pos
 
 loop-holds : tie.Need-loop-holds Inv-loop μ-loop
 loop-holds c = search (passing-start, needs)

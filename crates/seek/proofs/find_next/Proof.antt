@@ -11,11 +11,11 @@ returns c = (search next-none, (search absent-inside, search needs))
 element-end-requires : tie.Need-element-end-requires
 element-end-requires c κs = search inside-start
 
-add-find-at : tie.Need-add-find-at
-add-find-at c = search needs
+add-next : tie.Need-add-next
+add-next c = search needs
 
 find-at-requires : tie.Need-find-at-requires
-find-at-requires c κs = (search number-next, search needs, search needs, search needs)
+find-at-requires c κs = ((search needs, search number-next), search needs)
 
 same-length : tie.Need-same-length
 same-length c = search needs
@@ -26,4 +26,10 @@ returns-2 c = (search next-found, (search needs, search needs))
 pub find-next-spec : {M : Type 1} → statement M
 find-next-spec =
     tie.close
-    (tie.spec returns element-end-requires add-find-at find-at-requires same-length returns-2)
+    (tie.spec
+    returns
+    element-end-requires
+    add-next
+    find-at-requires
+    same-length
+    returns-2)

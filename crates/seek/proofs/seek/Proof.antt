@@ -12,7 +12,7 @@ concerned-requires : tie.Need-concerned-requires
 concerned-requires c κs = search needs
 
 find-at-requires : tie.Need-find-at-requires
-find-at-requires c κs = (search inside-start, search needs, search needs, search needs)
+find-at-requires c κs = ((search needs, search inside-start), search needs)
 
 enum-known-found : tie.Need-enum-known-found
 enum-known-found c = search needs
@@ -34,7 +34,7 @@ same-length-2 c = search needs
 
 returns-3 : tie.Need-returns-3
 returns-3 c = (
-  seek-next _ _ _ _ _ _ (search) _ (search) (search) _ _ (after-find-next .find-next .ensures .0) _ _ (after-find-at .find-at .ensures .0) (search),
+  seek-next _ _ _ _ _ _ _ (search) _ (search) (search) _ _ (after-find-next .find-next .ensures .0) _ _ (after-find-at .find-at .ensures .0) (search),
   (search needs, search needs),
 )
   where

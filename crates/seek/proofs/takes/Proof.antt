@@ -19,4 +19,9 @@ returns-3 : tie.Need-returns-3
 returns-3 c = search takes-from
 
 pub takes-spec : {M : Type 1} → statement M
-takes-spec = tie.close (tie.spec returns is-below-requires returns-2 is-below-requires-2 returns-3)
+takes-spec = tie.close (tie.spec
+    returns
+    is-below-requires
+    returns-2
+    is-below-requires-2
+    returns-3)

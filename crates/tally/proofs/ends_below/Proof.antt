@@ -8,7 +8,7 @@ returns : tie.Need-returns
 returns c = search ends-none
 
 add-is-below : tie.Need-add-is-below
-add-is-below c = omega (arith, zero-behind _ _ _ (start .pre .0) (tested .if1 .left) _ (start .pre .1 .0), start .pre .1 .1)
+add-is-below c = omega (arith, zero-behind _ _ _ _ (start .pre .0) (tested .if1 .left) _ (start .pre .1 .0), start .pre .1 .1)
   where
     tested : tie.Else1
     tested = search
@@ -17,7 +17,7 @@ add-is-below c = omega (arith, zero-behind _ _ _ (start .pre .0) (tested .if1 .l
     start = search tested
 
 sub-is-below : tie.Need-sub-is-below
-sub-is-below c = omega (arith, zero-behind _ _ _ (start .pre .0) (tested .if1 .left) _ (start .pre .1 .0), start .pre .1 .1)
+sub-is-below c = omega (arith, zero-behind _ _ _ _ (start .pre .0) (tested .if1 .left) _ (start .pre .1 .0), start .pre .1 .1)
   where
     tested : tie.Else1
     tested = search
@@ -26,7 +26,7 @@ sub-is-below c = omega (arith, zero-behind _ _ _ (start .pre .0) (tested .if1 .l
     start = search tested
 
 part-is-below-start : tie.Need-part-is-below-start
-part-is-below-start c = omega (arith, zero-behind _ _ _ (start .pre .0) (tested .if1 .left) _ (start .pre .1 .0), start .pre .1 .1)
+part-is-below-start c = omega (arith, zero-behind _ _ _ _ (start .pre .0) (tested .if1 .left) _ (start .pre .1 .0), start .pre .1 .1)
   where
     tested : tie.Else1
     tested = search
@@ -35,7 +35,7 @@ part-is-below-start c = omega (arith, zero-behind _ _ _ (start .pre .0) (tested 
     start = search tested
 
 part-is-below-end : tie.Need-part-is-below-end
-part-is-below-end c = omega (arith, zero-behind _ _ _ (start .pre .0) (tested .if1 .left) _ (start .pre .1 .0), start .pre .1 .1)
+part-is-below-end c = omega (arith, zero-behind _ _ _ _ (start .pre .0) (tested .if1 .left) _ (start .pre .1 .0), start .pre .1 .1)
   where
     tested : tie.Else1
     tested = search

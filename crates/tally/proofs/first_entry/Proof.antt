@@ -1,5 +1,5 @@
-use Rattle.runs.proofs.Laws.{inside-run}
-use Rattle.tally.proofs.RunsLaws.{none-clean, entry-room, entry-front, started-broken, started-none, started-other, started-same}
+use Rattle.runs.proofs.Laws.{none-clean, entry-room, entry-front}
+use Rattle.tally.proofs.RunsLaws.{started-broken, started-none, started-other, started-same}
 use borrow.Author.Needs.{needs}
 use Rattle.tally.proofs.first_entry.Statement.{statement}
 use Rattle.tally.proofs.first_entry.Tie as tie
@@ -29,25 +29,25 @@ same-length : tie.Need-same-length
 same-length c = search needs
 
 returns : tie.Need-returns
-returns c = (search (started-same, entry-room), (search inside-run, search needs))
+returns c = (search (started-same, entry-room), search needs)
 
 same-length-2 : tie.Need-same-length-2
 same-length-2 c = search needs
 
 returns-2 : tie.Need-returns-2
-returns-2 c = (search started-broken, (search needs, search needs))
+returns-2 c = (search started-broken, search needs)
 
 same-length-3 : tie.Need-same-length-3
 same-length-3 c = search needs
 
 returns-3 : tie.Need-returns-3
-returns-3 c = (search started-none, (search needs, search needs))
+returns-3 c = (search started-none, search needs)
 
 same-length-4 : tie.Need-same-length-4
 same-length-4 c = search needs
 
 returns-4 : tie.Need-returns-4
-returns-4 c = (search started-other, (search needs, search needs))
+returns-4 c = (search started-other, search needs)
 
 pub first-entry-spec : {M : Type 1} → statement M
 first-entry-spec =
