@@ -1,8 +1,8 @@
 #!/bin/sh
 # run.sh [SECONDS [-m MODE]...]: the engine against the C baseline, call by call in turn: first without the baseline's SSE2
 # scans (libc's memchr instead), then with them. Three tables each, SECONDS (30) for a table: the glossary with images in
-# rotation, with one image, and long entries in rotation. The end is the tables of docs/BENCH.md. PDIC_LIB names another
-# folder with a libpdic.a to measure.
+# rotation, with one image, and long entries in rotation. Then come the tables of docs/BENCH.md. At the end the engine on the
+# glossary in version 5 beside itself on that in version 4, in rotation. PDIC_LIB names another folder with a libpdic.a to measure.
 set -eu
 here=$(cd "$(dirname "$0")" && pwd)
 seconds=${1:-30}
@@ -19,3 +19,4 @@ gcc -O2 -std=gnu11 -Wall -Wextra -Werror -o "$work/bench" "$here/bench.c" -ldl -
 echo "load average: $(cut -d' ' -f1-3 /proc/loadavg), processors: $(getconf _NPROCESSORS_ONLN)"
 cd "$work"
 ./bench -s "$seconds" "$@" ./engine.so ./plain.so ./SSE2.so
+./bench -s "$seconds" -m rotation ./engine.so:5 ./engine.so

@@ -1,4 +1,4 @@
-/* pdic.h - PDIC Hyper dictionaries, version 4, in code order: calls on memory that the caller lends.
+/* pdic.h - PDIC Hyper dictionaries, versions 4 and 5, in code order: calls on memory that the caller lends.
  *
  * An image is the first `len` bytes of a lent slice. Nothing is allocated, nothing is kept between
  * calls, and each call tests the whole image before it answers: no byte of an answer comes from an
@@ -8,6 +8,10 @@
  * Check, look up and walk write nothing but their outputs. Create, insert, delete and optimise write
  * the image and return its new length; bytes of the slice past the length keep their contents, but
  * optimise zeroes what it gives up.
+ *
+ * The calls take images of both versions and go by the image's own. The versions differ in where some fields
+ * of the header stand, and an image of version 5 has an identifier, eight bytes that create writes and no call
+ * alters.
  *
  * Insert, delete and optimise also borrow a working slice, at least as long as the image slice. What
  * it holds does not matter, but it is read: take it from calloc, and lend the same one again. It is all
@@ -37,9 +41,9 @@ extern "C" {
 #endif
 
 /* The version of this interface. The calls change with it until it is 1.0. */
-#define PDIC_VERSION "0.1.0"
+#define PDIC_VERSION "0.2.0"
 #define PDIC_VERSION_MAJOR 0
-#define PDIC_VERSION_MINOR 1
+#define PDIC_VERSION_MINOR 2
 #define PDIC_VERSION_PATCH 0
 
 /* What a call returns. */
@@ -51,7 +55,8 @@ enum {
     PDIC_BAD_LENGTH = 1,    /* `len` is under 256, no multiple of 256, or over the slice (create: the slice is under 256) */
     PDIC_SHORT_WORK = 2,    /* the working slice is shorter than the image slice */
     /* the image */
-    PDIC_BAD_VERSION = 3,   /* header: high version byte, block_size, header_size or attrlen is wrong */
+    PDIC_BAD_VERSION = 3,   /* header: the high version byte is not 4 or 5, or block_size, header_size or attrlen is wrong
+                               (create: the version asked for is not 4 or 5) */
     PDIC_LEFT_OUT = 4,      /* header: dicorder, dictype, os, index_blkbit or extheader is not 0 */
     PDIC_BAD_AREAS = 5,     /* header: index_block is over 32,767 or past `len`, or there are more than 65,536 data blocks */
     PDIC_BAD_INDEX = 6,     /* an index rule, or an element's headword rule, is broken */
@@ -68,6 +73,19 @@ enum {
     PDIC_SHORT_OUTPUT = 14, /* an output slice is too short for the answer; then none of the outputs is written */
     PDIC_FULL = 15          /* the changed image would be longer than its slice, or have over 65,536 data blocks or over
                                32,767 index blocks */
+};
+
+/* The versions that a dictionary can have: the high byte of the version in its header. (PDIC_VERSION is the
+ * version of this interface.) */
+enum {
+    PDIC_FORMAT_4 = 4,
+    PDIC_FORMAT_5 = 5
+};
+
+/* Where an image has its version (two bytes) and, in version 5, its identifier (eight), both low byte first. */
+enum {
+    PDIC_AT_VERSION = 140,
+    PDIC_AT_IDENT = 216
 };
 
 /* Limits, in bytes: outputs of these sizes are never too short, and no image is longer. */
@@ -118,10 +136,14 @@ uint32_t pdic_walk(const uint8_t *image, size_t image_size, size_t len,
                    uint8_t *headword_out, size_t headword_out_size, uint8_t *text, size_t text_size,
                    uint8_t *attribute, size_t *headword_len, size_t *text_len);
 
-/* Makes an empty image of 256 bytes at the start of the slice.
+/* Makes an empty image of 256 bytes at the start of the slice. `version` is PDIC_FORMAT_4 or PDIC_FORMAT_5. For
+ * 5 `ident` is written as the dictionary's identifier, low byte first, and no call alters it; take a number from
+ * the system's random bytes, not from the clock, so that no two dictionaries have the same. For 4 `ident` is not
+ * looked at.
  *
- * Returns PDIC_DONE or 1. With PDIC_DONE *new_len is 256. */
-uint32_t pdic_create(uint8_t *image, size_t image_size, size_t *new_len);
+ * Returns PDIC_DONE or 1, 3. With PDIC_DONE *new_len is 256. Any other number leaves image and *new_len as they
+ * were. */
+uint32_t pdic_create(uint8_t *image, size_t image_size, uint8_t version, uint64_t ident, size_t *new_len);
 
 /* Adds an entry, or replaces the one with this headword. A plain entry's attribute is PDIC_PLAIN.
  *

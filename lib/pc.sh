@@ -15,7 +15,7 @@ libdir=$(below "$1" "$2")
 includedir=$(below "$1" "$3")
 
 Name: pdic
-Description: PDIC Hyper dictionaries, version 4, in code order
+Description: PDIC Hyper dictionaries, versions 4 and 5, in code order
 Version: $4
 Libs: -L\${libdir} -lpdic
 Cflags: -I\${includedir}

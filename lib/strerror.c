@@ -8,7 +8,7 @@ const char *pdic_strerror(uint32_t number)
     case PDIC_ABSENT: return "no such entry";
     case PDIC_BAD_LENGTH: return "its length is under 256 bytes or no multiple of 256: cut short, or another kind of file";
     case PDIC_SHORT_WORK: return "the working slice is shorter than the image slice";
-    case PDIC_BAD_VERSION: return "no PDIC Hyper dictionary of version 4";
+    case PDIC_BAD_VERSION: return "no PDIC Hyper dictionary of version 4 or 5";
     case PDIC_LEFT_OUT:
         return "its header asks for what is left out: another order, type, system, block width or an extended header";
     case PDIC_BAD_AREAS: return "its header gives more blocks than the file or the format has";

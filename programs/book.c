@@ -2,6 +2,7 @@
 #include <inttypes.h>
 #include <stdlib.h>
 #include <string.h>
+#include <sys/random.h>
 #include "seal.h"
 
 enum { FIRST_SIZE = 65536 };
@@ -63,16 +64,24 @@ static int has_name(const char *path)
     return strcmp(path, "-") != 0;
 }
 
-int book_create(book *b, const char *path)
+/* Draws an identifier that is not told. Gives 0, or -1 where the system has no random bytes. */
+static int draw_ident(kind *k)
+{
+    if (k->version != PDIC_FORMAT_5 || k->has_ident) return 0;
+    return getrandom(&k->ident, sizeof k->ident, 0) == (ssize_t)sizeof k->ident ? 0 : -1;
+}
+
+int book_create(book *b, const char *path, kind k)
 {
     static const char what[] = "not made: ";
     *b = (book){ .file = { .fd = -1 } };
     if (!has_name(path)) return refuse(path, what, "it is no file");
     if (is_sealed(path)) return refuse(path, what, "a seal of its name is there");
     if (hold_new_file(&b->file, path) != HELD) return refuse(path, what, file_fault());
+    if (draw_ident(&k) != 0) return refuse(path, what, "the system has no random bytes for its identifier");
     book_resize(b, FIRST_SIZE);
-    pdic_create(b->image, b->size, &b->len);
-    return STATUS_DONE;
+    uint32_t number = pdic_create(b->image, b->size, k.version, k.ident, &b->len);
+    return number == PDIC_DONE ? STATUS_DONE : refuse(path, what, pdic_strerror(number));
 }
 
 /* Checks what was read, and its seal. */
@@ -130,6 +139,24 @@ void book_free(book *b)
     free(b->work);
     let_go(&b->file);
     *b = (book){ .file = { .fd = -1 } };
+}
+
+/* A number of the header, low byte first. */
+static uint64_t number_at(const book *b, size_t at, size_t size)
+{
+    uint64_t number = 0;
+    for (size_t i = size; i > 0; i--) number = number << 8 | b->image[at + i - 1];
+    return number;
+}
+
+unsigned book_version(const book *b)
+{
+    return (unsigned)number_at(b, PDIC_AT_VERSION, 2);
+}
+
+uint64_t book_ident(const book *b)
+{
+    return number_at(b, PDIC_AT_IDENT, 8);
 }
 
 uint32_t book_check(const book *b, figures *f)

@@ -13,6 +13,13 @@ typedef struct {
     held_file file; /* while the dictionary is held for a change */
 } book;
 
+/* What a new dictionary is to be: its version and, for version 5, its identifier, told or to be drawn. */
+typedef struct {
+    uint8_t version;
+    int has_ident;
+    uint64_t ident;
+} kind;
+
 /* The exit status of the programs. */
 enum { STATUS_DONE = 0, STATUS_ABSENT = 1, STATUS_REFUSED = 2, STATUS_IN_USE = 3 };
 
@@ -38,13 +45,17 @@ int book_hold(book *b, const char *path, unsigned seconds);
 /* Reads a file to try a change that is not written. */
 int book_load_to_change(book *b, const char *path);
 
-/* An empty dictionary for a file that is not there yet. */
-int book_create(book *b, const char *path);
+/* An empty dictionary for a file that is not there yet. An identifier that is not told is the system's random bytes. */
+int book_create(book *b, const char *path, kind k);
 
 /* Writes a dictionary that is held or new. */
 int book_save(const book *b, const char *path);
 
 void book_free(book *b);
+
+/* The version in the header, both bytes of it, and where its high byte is PDIC_FORMAT_5 the identifier. */
+unsigned book_version(const book *b);
+uint64_t book_ident(const book *b);
 
 /* The engine's calls. Each gives the engine's number; a change takes longer slices where it answers 15. */
 uint32_t book_check(const book *b, figures *f);

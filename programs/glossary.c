@@ -18,13 +18,14 @@
 #include "progress.h"
 #include "seal.h"
 
-enum { WAIT = 30, LONGEST_WAIT = 86400 };
+enum { WAIT = 30, LONGEST_WAIT = 86400, IDENT_DIGITS = 16 };
 
 /* What the options say. */
 typedef struct {
     int dry_run, attribute; /* attribute: -1 where none is told */
     const char *from;
     unsigned wait;
+    kind made; /* what a new dictionary is to be */
 } options;
 
 /* A command at work: the dictionary, its file, the arguments behind that, and the list that they name or are. */
@@ -68,6 +69,17 @@ static int print_figures(task *t)
     figures f = figures_of(&t->b);
     printf("%s: headwords %" PRIu64 ", index blocks %" PRIu64 ", data blocks %" PRIu64 " (free %" PRIu64 "), bytes %zu\n",
            t->path, f.headwords, f.index_blocks, f.data_blocks, f.free_blocks, t->b.len);
+    return STATUS_DONE;
+}
+
+/* Says what the dictionary holds, its version, and its identifier if it has one. */
+static int check(task *t)
+{
+    unsigned version = book_version(&t->b);
+    print_figures(t);
+    printf("%s: version 0x%04X", t->path, version);
+    if (version >> 8 == PDIC_FORMAT_5) printf(", identifier %0*" PRIX64, IDENT_DIGITS, book_ident(&t->b));
+    putchar('\n');
     return STATUS_DONE;
 }
 
@@ -302,7 +314,7 @@ static int seal(task *t)
  * what they are, what it does with the file, and its options. */
 enum { READS, CHANGES, MAKES };
 enum { WORDS, A_LIST, HEADWORD_LIST };
-enum { DRY_RUN = 1, ATTRIBUTE = 2, FROM = 4 };
+enum { DRY_RUN = 1, ATTRIBUTE = 2, FROM = 4, KIND = 8 };
 typedef struct {
     const char *name, *also, *takes, *purpose;
     int least, most, arguments, use, options;
@@ -310,14 +322,14 @@ typedef struct {
 } command;
 
 static const command commands[] = {
-    { "make", NULL, "FILE LIST", "a new dictionary from a list", 1, 1, A_LIST, MAKES, 0, merge },
+    { "make", NULL, "FILE LIST", "a new dictionary from a list", 1, 1, A_LIST, MAKES, KIND, merge },
     { "merge", NULL, "FILE LIST", "add a list's entries, replace those that are there", 1, 1, A_LIST, CHANGES, DRY_RUN, merge },
     { "add", NULL, "FILE HEADWORD TEXT", "add an entry or replace it", 2, 2, WORDS, CHANGES, ATTRIBUTE, add },
     { "delete", NULL, "FILE HEADWORD..", "remove entries, all of them or none", 1, -1, HEADWORD_LIST, CHANGES, 0, delete },
     { "look", "find", "FILE HEADWORD..", "print an entry's text, or a list of several", 1, -1, HEADWORD_LIST, READS, 0, look },
     { "list", NULL, "FILE [PREFIX]", "print the entries, or those that begin so, to read", 0, 1, WORDS, READS, FROM, print_list },
     { "dump", NULL, "FILE", "print all entries as a table for make and merge", 0, 0, WORDS, READS, 0, dump },
-    { "check", NULL, "FILE", "print what the dictionary holds", 0, 0, WORDS, READS, 0, print_figures },
+    { "check", NULL, "FILE", "print what it holds, its version and its identifier", 0, 0, WORDS, READS, 0, check },
     { "optimise", NULL, "FILE", "give the free blocks up", 0, 0, WORDS, CHANGES, 0, optimise },
     { "seal", NULL, "FILE", "write its digest to FILE.sha256", 0, 0, WORDS, CHANGES, 0, seal },
 };
@@ -330,6 +342,8 @@ static const struct {
     { DRY_RUN, "--dry-run", "say what would be added and replaced, and write nothing" },
     { ATTRIBUTE, "--attribute=N", "the entry's attribute, as 0xA0; else the stored one, or 0x80" },
     { FROM, "--from=HEADWORD", "begin at this headword" },
+    { KIND, "--format=N", "the file's version, 4 or 5 (4)" },
+    { KIND, "--identifier=DIGITS", "for version 5, 16 hexadecimal digits; else drawn at random" },
 };
 
 static void print_command(FILE *out, const command *c)
@@ -352,8 +366,9 @@ static void print_help(const command *only)
          "is a table: a first line of column names, %headword, attribute, text, and %XX\n"
          "for a byte, such as %09 for a tab and %25 for a percent sign. dump prints such\n"
          "a table. - as LIST, or as the only HEADWORD, is standard input. -- ends the\n"
-         "options. find is another word for look. What list and look print of several\n"
-         "entries is to be read: control bytes are spaces.\n\n"
+         "options, whose values may also stand behind a blank. find is another word for\n"
+         "look. What list and look print of several entries is to be read: control\n"
+         "bytes are spaces.\n\n"
          "A sealed dictionary, with FILE.sha256 beside it, is read only while its bytes\n"
          "are those that were sealed, and is not changed. Remove FILE.sha256 to change it.\n\n"
          "Exit status: 0 done, 1 a headword is absent, 2 the file, the list or an\n"
@@ -374,11 +389,14 @@ static const command *command_called(const char *name)
     return NULL;
 }
 
-/* What stands behind an option's name and "=", or NULL where the word is another. */
-static const char *value_of(const char *word, const char *name)
+/* What stands behind an option's name and "=", or is the word behind it, or NULL where the word is another. Counts the words. */
+static const char *value_of(char **words, const char *name, int *taken)
 {
     size_t len = strlen(name);
-    return strncmp(word, name, len) == 0 && word[len] == '=' ? word + len + 1 : NULL;
+    if (strncmp(words[0], name, len) != 0 || (words[0][len] != '=' && words[0][len] != '\0')) return NULL;
+    if (words[0][len] == '=') return words[0] + len + 1;
+    *taken = words[1] ? 2 : 1;
+    return words[1];
 }
 
 /* Reads a number of seconds. Gives 0 or -1. */
@@ -391,34 +409,62 @@ static int read_seconds(const char *digits, unsigned *seconds)
     return 0;
 }
 
-/* Reads an option of a command. Gives 0, or -1 where it is none. */
-static int read_option(const command *c, const char *word, options *o)
+/* Reads a version that a dictionary can be made in. Gives 0 or -1. */
+static int read_format(const char *digits, kind *k)
 {
-    const char *value;
-    if (c->options & DRY_RUN && strcmp(word, "--dry-run") == 0) return o->dry_run = 1, 0;
-    if (c->options & FROM && (value = value_of(word, "--from"))) return o->from = value, 0;
-    if (c->options & ATTRIBUTE && (value = value_of(word, "--attribute")))
-        return (o->attribute = read_attribute(string_bytes(value))) < 0 ? -1 : 0;
-    if (c->use == CHANGES && (value = value_of(word, "--wait"))) return read_seconds(value, &o->wait);
-    return -1;
+    if (strcmp(digits, "4") != 0 && strcmp(digits, "5") != 0) return -1;
+    k->version = digits[0] == '4' ? PDIC_FORMAT_4 : PDIC_FORMAT_5;
+    return 0;
 }
 
-/* Splits a command's words into options and arguments, the file first. Gives 0, or -1 with a bad option in `*bad`. */
-static int read_words(const command *c, int count, char **words, task *t, char **bad)
+/* Reads an identifier, a number of 64 bits with all its digits. Gives 0 or -1. */
+static int read_ident(const char *digits, kind *k)
 {
-    int is_open = 1;
+    if (strlen(digits) != IDENT_DIGITS || strspn(digits, "0123456789ABCDEFabcdef") != IDENT_DIGITS) return -1;
+    k->ident = strtoull(digits, NULL, 16);
+    k->has_ident = 1;
+    return 0;
+}
+
+/* Reads an option of a command and counts the words that it takes. Gives NULL, or what is wrong with it. */
+static const char *read_option(const command *c, char **words, options *o, int *taken)
+{
+    static const char none[] = "no such option, or no such value (-- ends the options): ";
+    const char *value;
+    *taken = 1;
+    if (c->options & DRY_RUN && strcmp(words[0], "--dry-run") == 0) return o->dry_run = 1, NULL;
+    if (c->options & FROM && (value = value_of(words, "--from", taken))) return o->from = value, NULL;
+    if (c->options & ATTRIBUTE && (value = value_of(words, "--attribute", taken)))
+        return (o->attribute = read_attribute(string_bytes(value))) < 0 ? none : NULL;
+    if (c->options & KIND && (value = value_of(words, "--format", taken)))
+        return read_format(value, &o->made) != 0 ? "a dictionary is made in version 4 or 5: " : NULL;
+    if (c->options & KIND && (value = value_of(words, "--identifier", taken)))
+        return read_ident(value, &o->made) != 0 ? "an identifier has 16 hexadecimal digits: " : NULL;
+    if (c->use == CHANGES && (value = value_of(words, "--wait", taken))) return read_seconds(value, &o->wait) != 0 ? none : NULL;
+    return none;
+}
+
+/* Splits a command's words into options and arguments, the file first. Gives NULL, or what is wrong with the word `*bad`. */
+static const char *read_words(const command *c, char **words, task *t, const char **bad)
+{
+    const char *wrong = NULL;
+    int is_open = 1, taken = 1;
     t->args = words;
-    for (int i = 0; i < count; i++) {
-        if (is_open && strcmp(words[i], "--") == 0) {
+    for (; !wrong && *words; words += taken, taken = 1) {
+        if (is_open && strcmp(*words, "--") == 0) {
             is_open = 0;
-        } else if (is_open && words[i][0] == '-' && words[i][1] != '\0') {
-            *bad = words[i];
-            if (read_option(c, words[i], &t->told) != 0) return -1;
+        } else if (is_open && words[0][0] == '-' && words[0][1] != '\0') {
+            wrong = read_option(c, words, &t->told, &taken);
+            *bad = words[taken - 1];
         } else {
-            t->args[t->count++] = words[i];
+            t->args[t->count++] = *words;
         }
     }
-    return 0;
+    if (!wrong && t->told.made.has_ident && t->told.made.version != PDIC_FORMAT_5) {
+        wrong = "--identifier is for version 5 alone, told by ";
+        *bad = "--format=5";
+    }
+    return wrong;
 }
 
 /* Reads the list that the arguments name, or makes one of the headwords that they are. */
@@ -447,7 +493,7 @@ static int run(const command *c, task *t)
     t->path = *t->args++;
     t->count--;
     t->is_new = c->use == MAKES;
-    int status = t->is_new ? book_create(&t->b, t->path) : STATUS_DONE;
+    int status = t->is_new ? book_create(&t->b, t->path, t->told.made) : STATUS_DONE;
     if (status == STATUS_DONE) status = read_arguments(c, t);
     if (status == STATUS_DONE && !t->is_new) status = open_book(c, t);
     if (status == STATUS_DONE) status = c->run(t);
@@ -475,8 +521,8 @@ static int is_question(const char *word, const command *c)
 
 int main(int argc, char **argv)
 {
-    char *bad;
-    task t = { .b = { .file = { .fd = -1 } }, .told = { .attribute = -1, .wait = WAIT } };
+    const char *bad, *wrong;
+    task t = { .b = { .file = { .fd = -1 } }, .told = { .attribute = -1, .wait = WAIT, .made = { .version = PDIC_FORMAT_4 } } };
     open_standard_files();
     if (argc < 2) return usage("a command is missing", "");
     if (is_question(argv[1], NULL)) return finish(STATUS_DONE, 0);
@@ -484,7 +530,7 @@ int main(int argc, char **argv)
     if (!c) return usage("no command is called ", argv[1]);
     for (int i = 2; i < argc && strcmp(argv[i], "--") != 0; i++)
         if (is_question(argv[i], c)) return finish(STATUS_DONE, 0);
-    if (read_words(c, argc - 2, argv + 2, &t, &bad) != 0) return usage("no such option, or no such value (-- ends the options): ", bad);
+    if ((wrong = read_words(c, argv + 2, &t, &bad))) return usage(wrong, bad);
     if (t.count < 1 + c->least || (c->most >= 0 && t.count > 1 + c->most)) return usage("the arguments are ", c->takes);
     int status = run(c, &t);
     return finish(status, t.is_saved);

@@ -1,4 +1,4 @@
-"""PDIC Hyper dictionaries, version 4, in code order: the calls of pdic.h in Python, over the shared library by ctypes.
+"""PDIC Hyper dictionaries, versions 4 and 5, in code order: the calls of pdic.h in Python, over the shared library by ctypes.
 
     import pdic
 
@@ -20,10 +20,11 @@ from __future__ import annotations
 import ctypes
 import hashlib
 import os
+import secrets
 from typing import Iterator, NamedTuple, Optional
 
 # the interface of the library: later ones have other calls, so that libpdic.so is not good enough
-SONAME = 'libpdic.so.0.1'
+SONAME = 'libpdic.so.0.2'
 
 # what a call returns
 DONE = 0
@@ -43,6 +44,12 @@ BAD_HEADWORD = 12
 BAD_TEXT = 13
 SHORT_OUTPUT = 14
 FULL = 15
+
+# the versions of a dictionary, and where its image has the version and, in version 5, the identifier
+FORMAT_4 = 4
+FORMAT_5 = 5
+AT_VERSION = 140
+AT_IDENT = 216
 
 # limits, in bytes
 MAX_HEADWORD = 248
@@ -97,7 +104,7 @@ def _load() -> ctypes.CDLL:
         'check': image + 4 * [count],
         'look_up': image + given + slice_of + [attribute, length],
         'walk': image + given + [byte] + slice_of + slice_of + [attribute, length, length],
-        'create': slice_of + [length],
+        'create': slice_of + [byte, ctypes.c_uint64, length],
         'insert': image + slice_of + given + [byte] + given + [length],
         'delete': image + slice_of + given + [length],
         'optimise': image + slice_of + [length],
@@ -127,13 +134,22 @@ def _done(number: int) -> bool:
 
 
 class Dictionary:
-    """A dictionary in memory, at first empty. Its memory grows with it up to `most` bytes; a change that needs more is refused with 15."""
+    """A dictionary in memory, at first empty. Its memory grows with it up to `most` bytes; a change that needs more is refused with 15.
 
-    def __init__(self, most: int = MAX_IMAGE):
+    `version` is FORMAT_4 or FORMAT_5. One of version 5 has the identifier `ident`, or else one that is drawn at random.
+    """
+
+    def __init__(self, most: int = MAX_IMAGE, version: int = FORMAT_4, ident: Optional[int] = None):
+        if ident is None:
+            ident = secrets.randbits(64) if version == FORMAT_5 else 0
+        elif version != FORMAT_5:
+            raise ValueError('only a dictionary of version 5 has an identifier')
+        if not 0 <= version < 1 << 8 or not 0 <= ident < 1 << 64:
+            raise ValueError('a version is one byte, an identifier eight')
         self._most = most
         self._lend(256)
         length = ctypes.c_size_t()
-        _done(_library.pdic_create(self._image, len(self._image), length))
+        _done(_library.pdic_create(self._image, len(self._image), version, ident, length))
         self._len = length.value
 
     def _lend(self, size: int, content: bytes = b'') -> None:
@@ -173,6 +189,20 @@ class Dictionary:
 
     def _slice(self) -> tuple[ctypes.Array, int, int]:
         return self._image, len(self._image), self._len
+
+    def _number(self, at: int, size: int) -> int:
+        """A number of the header."""
+        return int.from_bytes(self._image[at:at + size], 'little')
+
+    @property
+    def version(self) -> int:
+        """Both bytes of the version: 0x0400, 0x0500 or one with another low byte."""
+        return self._number(AT_VERSION, 2)
+
+    @property
+    def ident(self) -> Optional[int]:
+        """The identifier that a dictionary of version 5 has."""
+        return self._number(AT_IDENT, 8) if self.version >> 8 == FORMAT_5 else None
 
     def check(self) -> Counts:
         """Tests the image and counts what it holds."""

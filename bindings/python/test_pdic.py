@@ -9,6 +9,7 @@ import unittest
 
 import pdic
 
+IDENT = 0x0123456789ABCDEF
 HEADER = os.path.join(os.path.dirname(os.path.abspath(__file__)), '..', '..', 'include', 'pdic.h')
 
 
@@ -17,6 +18,8 @@ def letters(count):
 
 
 class Case(unittest.TestCase):
+    KIND = {}  # of the dictionaries that are made: version and identifier
+
     def refused(self, number, dictionary, call, *arguments):
         before = bytes(dictionary)
         with self.assertRaises(pdic.PdicError) as refused:
@@ -28,7 +31,7 @@ class Case(unittest.TestCase):
 
 class Examples(Case):
     def setUp(self):
-        self.dictionary = pdic.Dictionary()
+        self.dictionary = pdic.Dictionary(**self.KIND)
 
     def test_p2_p3(self):
         self.dictionary.insert(b'ABC', b'one')
@@ -51,7 +54,7 @@ class Examples(Case):
 
     def test_p6_full(self):
         for most in 1791, 1792:
-            dictionary = pdic.Dictionary(most)
+            dictionary = pdic.Dictionary(most, **self.KIND)
             dictionary.insert(b'a', letters(500))
             if most < 1792:
                 self.refused(pdic.FULL, dictionary, dictionary.insert, b'b', letters(509))
@@ -87,6 +90,39 @@ class Examples(Case):
         self.dictionary.insert(b'a', b'one')
         self.dictionary.insert(b'a', b'', pdic.PLAIN | pdic.LEARN | 3)
         self.assertEqual(list(self.dictionary), [pdic.Entry(b'a', 0xA3, b'')])
+
+
+class Examples5(Examples):
+    KIND = {'version': pdic.FORMAT_5, 'ident': IDENT}
+
+    def tearDown(self):
+        self.assertEqual((self.dictionary.version, self.dictionary.ident), (0x0500, IDENT))
+
+
+class Kinds(Case):
+    def test_empty(self):
+        version4 = bytes(pdic.Dictionary())
+        self.assertEqual(version4[140:142] + version4[216:224], b'\0\x04' + bytes(8))
+        version5 = bytearray(bytes(pdic.Dictionary(version=pdic.FORMAT_5, ident=IDENT)))
+        self.assertEqual(version5[216:224], b'\xef\xcd\xab\x89\x67\x45\x23\x01')
+        version5[141], version5[186:192], version5[216:224] = 4, b'\xff\xff\xff\xff\0\0', bytes(8)
+        self.assertEqual(version5, version4)
+
+    def test_idents(self):
+        for ident in 0, 1, (1 << 64) - 1:
+            dictionary = pdic.Dictionary(version=pdic.FORMAT_5, ident=ident)
+            self.assertEqual((dictionary.ident, pdic.Dictionary.from_bytes(bytes(dictionary)).ident), (ident, ident))
+        self.assertIsNone(pdic.Dictionary().ident)
+        self.assertEqual(len({pdic.Dictionary(version=pdic.FORMAT_5).ident for _ in range(8)}), 8)
+
+    def test_refused(self):
+        for version in 0, 3, 6, 0x85, 255:
+            with self.assertRaises(pdic.PdicError) as refused:
+                pdic.Dictionary(version=version)
+            self.assertEqual(refused.exception.number, pdic.BAD_VERSION)
+        for kind in ({'ident': 0}, {'version': 4, 'ident': 1}, {'version': 5, 'ident': -1}, {'version': 5, 'ident': 1 << 64},
+                     {'version': 0x104}, {'version': -1}):
+            self.assertRaises(ValueError, pdic.Dictionary, **kind)
 
 
 class Walks(unittest.TestCase):
@@ -148,8 +184,10 @@ class Walks(unittest.TestCase):
 
 
 class Images(Case):
+    EMPTY_BLOCK2 = 186
+
     def setUp(self):
-        dictionary = pdic.Dictionary()
+        dictionary = pdic.Dictionary(**self.KIND)
         dictionary.insert(b'ABC', b'one')
         self.image = bytes(dictionary)
 
@@ -157,10 +195,10 @@ class Images(Case):
         return self.image[:at] + bytes([byte]) + self.image[at + 1:]
 
     def test_damaged(self):
-        for image, number in ((b'', pdic.BAD_LENGTH), (self.image[:700], pdic.BAD_LENGTH), (self.changed(141, 5), pdic.BAD_VERSION),
+        for image, number in ((b'', pdic.BAD_LENGTH), (self.image[:700], pdic.BAD_LENGTH), (self.changed(141, 6), pdic.BAD_VERSION),
                               (self.changed(164, 1), pdic.LEFT_OUT), (self.changed(148, 9), pdic.BAD_AREAS),
                               (self.changed(258, 0), pdic.BAD_INDEX), (self.changed(256, 1), pdic.BAD_PLACE),
-                              (self.changed(521, 0), pdic.BAD_RUN), (self.changed(186, 0), pdic.BAD_BLOCKS),
+                              (self.changed(521, 0), pdic.BAD_RUN), (self.changed(self.EMPTY_BLOCK2, 0), pdic.BAD_BLOCKS),
                               (self.changed(160, 2), pdic.BAD_COUNTS)):
             with self.subTest(number=number):
                 self.refused(number, image, pdic.Dictionary.from_bytes, image)
@@ -171,6 +209,11 @@ class Images(Case):
         self.refused(pdic.READ_ONLY, dictionary, dictionary.insert, b'a', b'')
         self.refused(pdic.READ_ONLY, dictionary, dictionary.delete, b'a')
         self.refused(pdic.READ_ONLY, dictionary, dictionary.optimise)
+
+
+class Images5(Images):
+    KIND = {'version': pdic.FORMAT_5, 'ident': IDENT}
+    EMPTY_BLOCK2 = 188
 
 
 class Header(unittest.TestCase):
@@ -191,7 +234,7 @@ class Header(unittest.TestCase):
     def test_calls(self):
         """The types of each call are those that the header declares."""
         kinds = {'const uint8_t *': 'c_char_p', 'uint8_t *': 'c_void_p', 'size_t ': 'c_ulong', 'uint8_t ': 'c_ubyte',
-                 'uint64_t *': 'LP_c_ulong', 'size_t *': 'LP_c_ulong', 'uint32_t ': 'c_uint'}
+                 'uint64_t ': 'c_ulong', 'uint64_t *': 'LP_c_ulong', 'size_t *': 'LP_c_ulong', 'uint32_t ': 'c_uint'}
         calls = re.findall(r'\b(?:uint32_t |const char \*)(pdic_\w+)\(([^)]*)\)', self.header)
         self.assertTrue(calls)
         for name, parameters in calls:

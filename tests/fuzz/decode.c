@@ -1,7 +1,8 @@
 /* What an input means: the slice and its length, and the calls with their arguments.
  *
  * A call's record, by byte: kind; where the headword is from; a number of two bytes for that; headword length; text
- * length; what the text is made of; attribute; sizes of the outputs, above, another L, another working slice. */
+ * length; what the text is made of; attribute; sizes of the outputs, above, another L, another working slice. Create has
+ * its version, identifier and slice from the same bytes. */
 #include <string.h>
 
 #include "fuzz.h"
@@ -155,6 +156,16 @@ static size_t working_size(uint8_t setting, size_t slice) {
     }
 }
 
+/* Create: 4 or 5, near them, or any version; an identifier at a limit, or spread over all bytes; the whole slice, or 255 or
+ * 256 bytes of it. */
+static void decode_create(call *c, const uint8_t *r) {
+    static const uint8_t versions[8] = {4, 5, 4, 5, 4, 5, 3, 6};
+    static const uint64_t idents[4] = {0, 1, UINT64_MAX, 0x0102030405060708};
+    c->version = r[ATTRIBUTE] < 0xE0 ? versions[r[ATTRIBUTE] % 8] : r[WORD_SIZE];
+    c->ident = r[TEXT_SIZE] % 8 < 4 ? idents[r[TEXT_SIZE] % 8] : four(r + WORD_FROM) * 0x9E3779B97F4A7C15u;
+    if (r[OUTPUTS] % 8 < 2) c->image_size = less(c->image_size, 255u + r[OUTPUTS] % 8);
+}
+
 void decode_call(call *c, const state *s, const uint8_t *data, size_t size, size_t which) {
     uint8_t r[CALL_BYTES];
     for (size_t i = 0; i < CALL_BYTES; i++) r[i] = byte_at(data, size, SETTINGS + which * CALL_BYTES + i);
@@ -166,4 +177,5 @@ void decode_call(call *c, const state *s, const uint8_t *data, size_t size, size
     decode_word(c, s, r);
     decode_text(c, r);
     decode_outputs(c, s, r[OUTPUTS]);
+    if (c->kind == CREATE) decode_create(c, r);
 }

@@ -24,7 +24,7 @@ static seed seeds[SEEDS];
 static uint8_t input[MOST_INPUT], other[MOST_INPUT];
 static size_t input_size;
 static char where[80] = "none yet: the seeds are being made\n";
-static uint64_t changed, accepted_changed;
+static uint64_t inputs, changed, accepted_changed[VERSIONS];
 
 /* Only calls that a signal handler may make. */
 static void on_signal(int number) {
@@ -70,51 +70,71 @@ static size_t make_input(uint64_t seed_number, uint64_t k) {
     return changes;
 }
 
-static void execute(uint64_t seed_number, uint64_t k) {
-    size_t changes = make_input(seed_number, k);
-    uint64_t accepted = seen.accepted;
-    snprintf(where, sizeof where, "%" PRIu64 " of seed %" PRIu64 "\n", k, seed_number);
+static const char *const version_names[VERSIONS] = {"not version 5", "version 5"};
+
+static void run_input(void) {
+    inputs++;
     LLVMFuzzerTestOneInput(input, input_size);
-    changed += changes > 0;
-    accepted_changed += changes > 0 && seen.accepted > accepted;
 }
 
-static uint64_t returned(uint32_t number) {
+static void execute(uint64_t seed_number, uint64_t k) {
+    size_t changes = make_input(seed_number, k);
+    uint64_t before[VERSIONS] = {seen[OTHER_VERSION].accepted, seen[VERSION_5].accepted};
+    snprintf(where, sizeof where, "%" PRIu64 " of seed %" PRIu64 "\n", k, seed_number);
+    run_input();
+    changed += changes > 0;
+    for (int i = 0; i < VERSIONS; i++) accepted_changed[i] += changes > 0 && seen[i].accepted > before[i];
+}
+
+static uint64_t returned(const tally *t, uint32_t number) {
     uint64_t sum = 0;
-    for (int kind = 0; kind < KINDS; kind++) sum += seen.returned[kind][number];
+    for (int kind = 0; kind < KINDS; kind++) sum += t->returned[kind][number];
     return sum;
 }
 
 /* Says that something did not occur. */
-static int none(uint64_t count, const char *what) {
-    if (count == 0) printf("MISSING: %s\n", what);
+static int none(uint64_t count, int version, const char *what) {
+    if (count == 0) printf("MISSING, %s: %s\n", version_names[version], what);
     return count == 0;
 }
 
-/* Whether something that must occur did not. */
-static int missing(void) {
-    int some = none(returned(PDIC_ABSENT), "an absent entry");
+/* Whether a call did not return a number that it may return; with version 5 create never returns 3. */
+static int missing_number(int version, int kind) {
+    int some = 0;
     char what[40];
-    for (uint32_t number = 0; number <= 15; number++) {
-        snprintf(what, sizeof what, "a call that returned %u", number);
-        some |= none(returned(number), what);
+    for (uint32_t number = 0; number <= PDIC_ABSENT; number++) {
+        if (!may_return(kind, number) || (version == VERSION_5 && kind == CREATE && number == 3)) continue;
+        snprintf(what, sizeof what, "%s that returned %u", call_names[kind], number);
+        some |= none(seen[version].returned[kind][number], version, what);
     }
-    for (int kind = 0; kind < KINDS; kind++) some |= none(seen.returned[kind][0], call_names[kind]);
-    some |= none(seen.returned[DELETE][15], "a deletion without room");
-    some |= none(seen.index_grown, "an index that grew") | none(seen.run_moved, "an index that grew beside other runs");
-    some |= none(seen.run_split, "a run more") | none(seen.run_gone, "a run less");
-    return some | none(accepted_changed >= LEAST_ACCEPTED, "enough changed images that were accepted");
+    return some;
+}
+
+/* Whether something that must occur did not, in images of a version. */
+static int missing(int version) {
+    const tally *t = &seen[version];
+    int some = 0;
+    for (int kind = 0; kind < KINDS; kind++) some |= missing_number(version, kind);
+    some |= none(t->index_grown, version, "an index that grew");
+    some |= none(t->run_moved, version, "an index that grew beside other runs");
+    some |= none(t->run_split, version, "a run more") | none(t->run_gone, version, "a run less");
+    return some | none(accepted_changed[version] >= LEAST_ACCEPTED, version, "enough changed images that were accepted");
+}
+
+static void report_version(int version) {
+    const tally *t = &seen[version];
+    printf("%s: accepted %" PRIu64 " (%" PRIu64 "); returned", version_names[version], t->accepted, accepted_changed[version]);
+    for (uint32_t number = 0; number <= PDIC_ABSENT; number++)
+        if (returned(t, number) > 0) printf(" %u:%" PRIu64, number, returned(t, number));
+    printf("; done");
+    for (int kind = 0; kind < KINDS; kind++) printf(" %s %" PRIu64 ",", call_names[kind], t->returned[kind][0]);
+    printf(" index grown %" PRIu64 " (%" PRIu64 " with runs), more runs %" PRIu64 ", fewer runs %" PRIu64 "\n",
+           t->index_grown, t->run_moved, t->run_split, t->run_gone);
 }
 
 static void report(void) {
-    printf("fuzz: %" PRIu64 " inputs (%" PRIu64 " changed), accepted %" PRIu64 " (%" PRIu64 "); returned", seen.inputs,
-           changed, seen.accepted, accepted_changed);
-    for (uint32_t number = 0; number <= PDIC_ABSENT; number++)
-        if (returned(number) > 0) printf(" %u:%" PRIu64, number, returned(number));
-    printf("; done");
-    for (int kind = 0; kind < KINDS; kind++) printf(" %s %" PRIu64 ",", call_names[kind], seen.returned[kind][0]);
-    printf(" index grown %" PRIu64 " (%" PRIu64 " with runs), more runs %" PRIu64 ", fewer runs %" PRIu64 "\n",
-           seen.index_grown, seen.run_moved, seen.run_split, seen.run_gone);
+    printf("fuzz: %" PRIu64 " inputs (%" PRIu64 " changed)\n", inputs, changed);
+    for (int version = 0; version < VERSIONS; version++) report_version(version);
 }
 
 static int run_file(const char *name) {
@@ -123,7 +143,7 @@ static int run_file(const char *name) {
     input_size = fread(input, 1, MOST_INPUT, file);
     fclose(file);
     snprintf(where, sizeof where, "from a file\n");
-    LLVMFuzzerTestOneInput(input, input_size);
+    run_input();
     return 0;
 }
 
@@ -164,5 +184,5 @@ int main(int argc, char **argv) {
         execute(number, k);
     }
     report();
-    return executions >= ENOUGH_FOR_ALL_KINDS ? missing() : 0;
+    return executions >= ENOUGH_FOR_ALL_KINDS ? missing(OTHER_VERSION) | missing(VERSION_5) : 0;
 }

@@ -1,4 +1,4 @@
-/* What include/pdic.h and document 01 promise of a call, tested after it. */
+/* What include/pdic.h and the papers promise of a call, tested after it. */
 #include <stdio.h>
 #include <stdlib.h>
 #include <string.h>
@@ -38,7 +38,7 @@ static int bad_text(const call *c) {
 
 /* The number that a call must return, by check's number for the image and by its list. Row 15 is not foretold. */
 uint32_t foretold(const state *s, const call *c) {
-    if (c->kind == CREATE) return c->image_size < 256 ? 1 : 0;
+    if (c->kind == CREATE) return c->image_size < 256 ? 1 : c->version == 4 || c->version == 5 ? 0 : 3;
     if (s->verdict == 1) return 1;
     if (changes(c) && c->work_size < c->image_size) return 2;
     if (s->verdict != 0) return s->verdict;
@@ -54,12 +54,15 @@ uint32_t foretold(const state *s, const call *c) {
     return short_word || c->text_out_size < e->text_size ? 14 : 0;
 }
 
+int may_return(int kind, uint32_t number) {
+    static const uint32_t may[KINDS] = {0x000B, 0x07FB, 0x57FB, 0x57FB, 0xBFFF, 0x9FFF, 0x0FFF}; /* bit n: n */
+    if (number == PDIC_ABSENT) return kind == LOOK_UP || kind == WALK || kind == DELETE;
+    return number < 16 && may[kind] >> number & 1;
+}
+
 /* A number that the call may return, and the one foretold. */
 void hold_number(const state *s, const call *c, uint32_t number) {
-    static const uint32_t may[KINDS] = {0x0003, 0x07FB, 0x57FB, 0x57FB, 0xBFFF, 0x9FFF, 0x0FFF}; /* bit n: n */
-    int absent = c->kind == LOOK_UP || c->kind == WALK || c->kind == DELETE;
-    hold(number == PDIC_ABSENT ? absent : number < 16 && may[c->kind] >> number & 1, c, number,
-         "the call may not return this number");
+    hold(may_return(c->kind, number), c, number, "the call may not return this number");
     uint32_t wanted = foretold(s, c);
     int may_be_15 = number == 15 && (c->kind == INSERT || c->kind == DELETE) && (wanted == 0 || wanted == UNKNOWN);
     hold(number == wanted || may_be_15 || (wanted == UNKNOWN && (number == 0 || number >= 14)), c, number,
@@ -82,30 +85,36 @@ static int outputs_kept(const lent *l) {
     return kept;
 }
 
+/* No call alters the identifier of a version 5 image. */
+static int ident_kept(const state *s, const lent *l, const call *c) {
+    if (c->kind == CREATE || s->verdict != 0 || !is_5(s->slice)) return 1;
+    return memcmp(l->image.at + AT_IDENT, s->slice + AT_IDENT, 8) == 0;
+}
+
 /* The header keeps its bytes, but for the fields that a change names; update_count rose by one. */
 static int header_kept(const uint8_t *before, const uint8_t *after) {
+    const uint8_t *at = moved_to[is_5(before)];
     uint8_t wanted[256];
     memcpy(wanted, before, 256);
     memcpy(wanted + AT_INDEX_BLOCK, after + AT_INDEX_BLOCK, 2);
     memcpy(wanted + AT_NWORD, after + AT_NWORD, 4);
-    memcpy(wanted + AT_EMPTY_BLOCK2, after + AT_EMPTY_BLOCK2, 4);
-    memcpy(wanted + AT_NINDEX2, after + AT_NINDEX2, 4);
-    memcpy(wanted + AT_NBLOCK2, after + AT_NBLOCK2, 4);
+    for (int field = EMPTY_BLOCK2; field <= NBLOCK2; field++) memcpy(wanted + at[field], after + at[field], 4);
     put_four(wanted + AT_UPDATE_COUNT, four(before + AT_UPDATE_COUNT) + 1);
     return memcmp(wanted, after, 256) == 0;
 }
 
 /* The 256 bytes of create. */
-static int is_empty_image(const uint8_t *image) {
+static int is_empty_image(const uint8_t *image, const call *c) {
     uint8_t wanted[256] = {0};
-    put_two(wanted + AT_VERSION, 0x0400);
+    put_two(wanted + AT_VERSION, c->version == 5 ? 0x0500 : 0x0400);
     put_two(wanted + 142, 248);
     put_two(wanted + 144, 3000);
     put_two(wanted + 146, 256);
     put_two(wanted + 150, 256);
     put_two(wanted + 154, 0xFFFF);
     wanted[166] = 1;
-    put_four(wanted + AT_EMPTY_BLOCK2, 0xFFFFFFFF);
+    put_four(wanted + moved_to[c->version == 5][EMPTY_BLOCK2], 0xFFFFFFFF);
+    if (c->version == 5) put_eight(wanted + AT_IDENT, c->ident);
     return memcmp(wanted, image, 256) == 0;
 }
 
@@ -116,7 +125,7 @@ static void hold_slice(const state *s, const lent *l, const call *c) {
     hold(len >= 256 && len % 256 == 0 && len <= c->image_size, c, 0, "the new L is no length of an image in the slice");
     hold(memcmp(image + past, s->slice + past, c->image_size - past) == 0, c, 0, "bytes past L changed");
     if (c->kind == CREATE) {
-        hold(len == 256 && is_empty_image(image), c, 0, "not the bytes of an empty image");
+        hold(len == 256 && is_empty_image(image, c), c, 0, "not the bytes of an empty image");
         return;
     }
     hold(header_kept(s->slice, image), c, 0, "a header byte changed that must not, or update_count did not rise by one");
@@ -136,6 +145,7 @@ void hold_bytes(const state *s, const lent *l, const call *c, uint32_t number) {
     hold(memcmp(l->word.at, c->word, c->word_size) == 0, c, number, "the headword argument changed");
     hold(memcmp(l->text.at, c->text, c->text_size) == 0, c, number, "the text argument changed");
     hold_work(l, c, number);
+    hold(ident_kept(s, l, c), c, number, "the identifier changed");
     if (number == 0 && (changes(c) || c->kind == CREATE)) {
         hold_slice(s, l, c);
         hold(filled(&l->word_out, 0, l->fill) && filled(&l->text_out, 0, l->fill), c, number, "a slice not lent changed");
@@ -152,7 +162,7 @@ static void hold_counts(const lent *l, const call *c) {
     hold(number_at(l, NUMBER_A) == four(image + AT_NWORD), c, 0, "headwords are not nword");
     hold(index == two(image + AT_INDEX_BLOCK), c, 0, "index blocks are not index_block");
     hold(256 * (1 + index + data) == c->len, c, 0, "data blocks do not fill L");
-    hold(unused <= data && data - unused == four(image + AT_NBLOCK2), c, 0, "free blocks are not those outside runs");
+    hold(unused <= data && data - unused == moved(image, NBLOCK2), c, 0, "free blocks are not those outside runs");
 }
 
 /* An output: the answer's bytes, and behind them what was there. */

@@ -28,29 +28,36 @@ enum { SIDES, SPARE, LENGTH, WORKING, CALL_COUNT, FILL, ANY_LOW, ANY_HIGH };
 
 enum { CREATE, CHECK, LOOK_UP, WALK, INSERT, DELETE, OPTIMISE, KINDS };
 
-/* Header fields, by offset. */
+/* Header fields that stand in one place, by offset. */
 enum {
     AT_VERSION = 140,
+    AT_HIGH_VERSION = 141,
     AT_INDEX_BLOCK = 148,
     AT_NWORD = 160,
-    AT_EMPTY_BLOCK2 = 186,
-    AT_NINDEX2 = 190,
-    AT_NBLOCK2 = 194,
-    AT_UPDATE_COUNT = 208
+    AT_UPDATE_COUNT = 208,
+    AT_IDENT = 216
 };
+
+/* Header fields that version 5 moved: the first two of one byte, the others of four. */
+enum { OS, INDEX_BLKBIT, EXTHEADER, EMPTY_BLOCK2, NINDEX2, NBLOCK2, MOVED };
+
+/* What is told apart by version: 5, and all others. */
+enum { OTHER_VERSION, VERSION_5, VERSIONS };
 
 /* Little-endian numbers. */
 static inline uint32_t two(const uint8_t *p) { return p[0] | (uint32_t)p[1] << 8; }
 static inline uint32_t four(const uint8_t *p) { return two(p) | two(p + 2) << 16; }
 static inline void put_two(uint8_t *p, uint32_t v) { p[0] = (uint8_t)v, p[1] = (uint8_t)(v >> 8); }
 static inline void put_four(uint8_t *p, uint32_t v) { put_two(p, v), put_two(p + 2, v >> 16); }
+static inline void put_eight(uint8_t *p, uint64_t v) { put_four(p, (uint32_t)v), put_four(p + 4, (uint32_t)(v >> 32)); }
 static inline size_t less(size_t a, size_t b) { return a < b ? a : b; }
 
 /* A call with its arguments, apart from the image. */
 typedef struct {
     int kind;
     size_t len, image_size, work_size, word_size, text_size, word_out_size, text_out_size;
-    uint8_t attribute, above;
+    uint8_t attribute, above, version;
+    uint64_t ident;
     uint8_t word[MOST_WORD], text[MOST_TEXT];
 } call;
 
@@ -114,10 +121,14 @@ typedef struct {
     uint64_t headwords, in_runs, unused;
 } reading;
 uint32_t read_image(const uint8_t *slice, size_t size, size_t len, reading *to);
+extern const uint8_t moved_to[VERSIONS][MOVED]; /* offsets */
+int is_5(const uint8_t *image);
+uint32_t moved(const uint8_t *image, int field);
 
 /* facts.c: what must hold after a call. */
 void hold(int fact, const call *c, uint32_t number, const char *what);
 uint32_t foretold(const state *s, const call *c);
+int may_return(int kind, uint32_t number);
 void hold_number(const state *s, const call *c, uint32_t number);
 void hold_bytes(const state *s, const lent *l, const call *c, uint32_t number);
 void hold_answer(const state *s, const lent *l, const call *c);
@@ -128,10 +139,10 @@ enum { UNKNOWN = 0xFFFF }; /* foretold: the list is not known */
 /* harness.c */
 int LLVMFuzzerTestOneInput(const uint8_t *data, size_t size);
 typedef struct {
-    uint64_t inputs, accepted, returned[KINDS][PDIC_ABSENT + 1];
+    uint64_t accepted, returned[KINDS][PDIC_ABSENT + 1];
     uint64_t index_grown, run_moved, run_split, run_gone; /* changes in which this happened */
 } tally;
-extern tally seen;
+extern tally seen[VERSIONS]; /* by the image's version; for create by the one that it is given */
 
 /* mutate.c: changes of an input; `other` is an input to splice with. */
 typedef struct { uint64_t state; } source;
@@ -140,9 +151,9 @@ size_t below(source *r, size_t end);
 void draw_control(source *r, uint8_t *control);
 size_t mutate(source *r, uint8_t *data, size_t size, size_t most, const uint8_t *other, size_t other_size);
 
-/* seeds.c: images made by the engine. */
+/* seeds.c: images made by the engine, half of them in version 5. */
 typedef struct { uint8_t *bytes; size_t size; } seed;
-enum { SEEDS = 32 };
+enum { SEEDS = 64 };
 void make_seeds(seed *seeds);
 
 #endif

@@ -7,7 +7,7 @@
 
 #include "fuzz.h"
 
-tally seen;
+tally seen[VERSIONS];
 
 static lent first, second;
 static state now;
@@ -135,13 +135,14 @@ static void hold_optimised(const uint8_t *image, size_t len) {
 
 /* What a change did to index and runs. */
 static void count_change(const uint8_t *image) {
+    tally *t = &seen[is_5(image)];
     uint32_t grown = two(image + AT_INDEX_BLOCK) - two(now.slice + AT_INDEX_BLOCK);
-    uint32_t runs = four(image + AT_NINDEX2), runs_before = four(now.slice + AT_NINDEX2);
+    uint32_t runs = moved(image, NINDEX2), runs_before = moved(now.slice, NINDEX2);
     if (made.kind != INSERT && made.kind != DELETE) return;
-    seen.index_grown += grown > 0;
-    seen.run_moved += grown > 0 && runs > 1;
-    seen.run_split += runs > runs_before;
-    seen.run_gone += runs < runs_before;
+    t->index_grown += grown > 0;
+    t->run_moved += grown > 0 && runs > 1;
+    t->run_split += runs > runs_before;
+    t->run_gone += runs < runs_before;
 }
 
 /* The changed image in the first set of buffers becomes the state. */
@@ -149,6 +150,7 @@ static void take_changed(void) {
     list *after = &lists[now.entries == &lists[0]];
     size_t len = number_at(&first, NUMBER_A);
     const uint8_t *image = first.image.at;
+    now.size = made.image_size; /* create may have been lent less */
     uint64_t headwords = hold_accepted(image, len);
     count_change(image);
     hold_looked_up(image, len);
@@ -191,6 +193,10 @@ static void hold_same_again(uint32_t number) {
     }
 }
 
+static int version_concerned(void) {
+    return made.kind == CREATE ? made.version == 5 : now.size >= 256 && is_5(now.slice);
+}
+
 static void run_call(void) {
     size_t len = now.len;
     if (made.len != len) take_len(made.len);
@@ -199,7 +205,7 @@ static void run_call(void) {
     hold_number(&now, &made, number);
     hold_bytes(&now, &first, &made, number);
     hold_same_again(number);
-    seen.returned[made.kind][number]++;
+    seen[version_concerned()].returned[made.kind][number]++;
     if (number == 15) hold_15();
     if (number == 0 && (made.kind >= INSERT || made.kind == CREATE)) take_changed();
     else if (now.len != len) take_len(len);
@@ -213,8 +219,7 @@ int LLVMFuzzerTestOneInput(const uint8_t *data, size_t size) {
     first.fill = size > FILL ? data[FILL] | 1 : 1;
     second.fill = first.fill ^ 0xC6;
     take_len(now.len);
-    seen.inputs++;
-    seen.accepted += now.verdict == 0;
+    if (now.verdict == 0) seen[is_5(now.slice)].accepted++;
     for (size_t i = 0; i < calls; i++) {
         decode_call(&made, &now, data, size, i);
         run_call();

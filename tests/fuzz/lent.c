@@ -47,7 +47,7 @@ uint32_t perform(const lent *l, const call *c) {
     size_t size = l->image.size, len = c->len, work_size = l->work.size, word_size = l->word.size;
     switch (c->kind) {
     case CREATE:
-        return pdic_create(image, size, number(l, NUMBER_A));
+        return pdic_create(image, size, c->version, c->ident, number(l, NUMBER_A));
     case CHECK:
         return pdic_check(image, size, len, number(l, NUMBER_A), number(l, NUMBER_B), number(l, NUMBER_C),
                           number(l, NUMBER_D));

@@ -74,7 +74,7 @@ static size_t some_place(const work *w) {
     source *r = w->random;
     if (w->size < 512 || below(r, 2)) return below(r, w->size);
     switch (below(r, 3)) {
-    case 0: return 140 + below(r, 72);
+    case 0: return 140 + below(r, 84);
     case 1: return 256 + below(r, 256);
     default: return below(r, w->size / 256) * 256 + below(r, 16);
     }
@@ -101,16 +101,26 @@ static uint32_t number_for(const work *w, uint32_t old) {
     }
 }
 
-/* A header field that document 01 names. */
-static void set_header(work *w) {
-    static const uint8_t at[18] = {140, 142, 144, 146, 148, 150, 154, 160, 164, 165, 166, 171, 182, 186, 190, 194, 198, 208};
-    static const uint8_t width[18] = {2, 2, 2, 2, 2, 2, 2, 4, 1, 1, 1, 1, 4, 4, 4, 4, 1, 4};
-    size_t i = below(w->random, 18);
+static void set_field(work *w, size_t at, int width) {
+    uint8_t *p = w->bytes + at;
     if (w->size < 256) return;
-    uint8_t *p = w->bytes + at[i];
-    if (width[i] == 1) *p = odd_byte(w->random);
-    else if (width[i] == 2) put_two(p, number_for(w, two(p)));
+    if (width == 1) *p = odd_byte(w->random);
+    else if (width == 2) put_two(p, number_for(w, two(p)));
     else put_four(p, number_for(w, four(p)));
+}
+
+/* A header field that the papers name and that stands in one place; of the identifier a half. */
+static void set_header(work *w) {
+    static const uint8_t at[14] = {140, 142, 144, 146, 148, 150, 154, 160, 164, 165, 166, 208, 216, 220};
+    static const uint8_t width[14] = {2, 2, 2, 2, 2, 2, 2, 4, 1, 1, 1, 4, 4, 4};
+    size_t i = below(w->random, 14);
+    set_field(w, at[i], width[i]);
+}
+
+/* A header field that version 5 moved, at its place in either version. */
+static void set_moved(work *w) {
+    int field = (int)below(w->random, MOVED);
+    set_field(w, moved_to[below(w->random, VERSIONS)][field], field < EXTHEADER ? 1 : 4);
 }
 
 /* One of the first index elements, or where one may stand; `from` is the index's end. */
@@ -225,19 +235,23 @@ static void change_run_size(work *w) {
     if (p != NULL) put_two(p, two(p) + (below(w->random, 2) ? 1 : 0xFFFF));
 }
 
+/* Where the free list's first number stands. */
+static uint8_t *first_free(const work *w) { return w->bytes + moved_to[is_5(w->bytes)][EMPTY_BLOCK2]; }
+
 /* The free list without its first block. */
 static void drop_free_block(work *w) {
     size_t from, count = data_blocks(w, &from);
-    uint32_t number = count ? four(w->bytes + AT_EMPTY_BLOCK2) : 0xFFFFFFFF;
-    if (number < count) memcpy(w->bytes + AT_EMPTY_BLOCK2, w->bytes + from + 256 * (size_t)number + 2, 4);
+    uint32_t number = count ? moved(w->bytes, EMPTY_BLOCK2) : 0xFFFFFFFF;
+    if (number < count) put_four(first_free(w), four(w->bytes + from + 256 * (size_t)number + 2));
 }
 
 /* Letters enter a headword, of an index element or of an entry, whose field grows; what follows moves up. */
 static void lengthen_word(work *w) {
     size_t from, count = data_blocks(w, &from), more = 1 + below(w->random, 3);
-    uint8_t *end = w->bytes + from, *p;
+    uint8_t *end, *p;
     if (count == 0 || from < 512) return;
     if (below(w->random, 2)) {
+        end = w->bytes + from;
         p = some_element(w, from) + 2;
     } else {
         p = some_entry(w, &end);
@@ -263,8 +277,8 @@ static void add_free_block(work *w) {
     uint8_t *block = w->bytes + w->size;
     memset(block, odd_byte(w->random), 256);
     put_two(block, 0);
-    put_four(block + 2, four(w->bytes + AT_EMPTY_BLOCK2));
-    put_four(w->bytes + AT_EMPTY_BLOCK2, (uint32_t)((w->size - from) / 256));
+    put_four(block + 2, four(first_free(w)));
+    put_four(first_free(w), (uint32_t)((w->size - from) / 256));
     w->size += 256;
 }
 
@@ -281,7 +295,7 @@ static void add_index_block(work *w) {
 /* The free list from its last block to its first. */
 static void turn_free_list(work *w) {
     size_t from, count = data_blocks(w, &from);
-    uint32_t before = 0xFFFFFFFF, number = count ? four(w->bytes + AT_EMPTY_BLOCK2) : before;
+    uint32_t before = 0xFFFFFFFF, number = count ? moved(w->bytes, EMPTY_BLOCK2) : before;
     for (size_t steps = 0; number < count && steps < count; steps++) {
         uint8_t *link = w->bytes + from + 256 * (size_t)number + 2;
         uint32_t next = four(link);
@@ -289,7 +303,7 @@ static void turn_free_list(work *w) {
         before = number;
         number = next;
     }
-    if (count) put_four(w->bytes + AT_EMPTY_BLOCK2, before);
+    if (count) put_four(first_free(w), before);
 }
 
 /* A byte near a data block's end: often behind a run's end marks, or in a free block. */
@@ -310,6 +324,25 @@ static void set_version(work *w) {
     if (w->size >= 256) w->bytes[AT_VERSION] = (uint8_t)below(w->random, 32);
 }
 
+/* The version's high byte alone, so that the image is read by another version's places, or not at all. */
+static void set_high_version(work *w) {
+    static const uint8_t versions[8] = {4, 4, 5, 5, 3, 6, 0, 0x85};
+    if (w->size >= 256) w->bytes[AT_HIGH_VERSION] = versions[below(w->random, 8)];
+}
+
+/* The same image in the other version; bytes that the new version does not name stay. */
+static void turn_version(work *w) {
+    uint32_t fields[MOVED];
+    if (w->size < 256) return;
+    for (int i = 0; i < MOVED; i++) fields[i] = moved(w->bytes, i);
+    w->bytes[AT_HIGH_VERSION] = is_5(w->bytes) ? 4 : 5;
+    for (int i = 0; i < MOVED; i++) {
+        uint8_t *p = w->bytes + moved_to[is_5(w->bytes)][i];
+        if (i < EXTHEADER) *p = (uint8_t)fields[i];
+        else put_four(p, fields[i]);
+    }
+}
+
 /* The update count is about to wrap. */
 static void set_update_count(work *w) {
     if (w->size >= 256) put_four(w->bytes + AT_UPDATE_COUNT, (uint32_t)0 - (uint32_t)below(w->random, 4));
@@ -318,10 +351,10 @@ static void set_update_count(work *w) {
 typedef void change(work *w);
 static change *const changes[] = {
     flip_bit,      flip_bit,    set_odd_byte,   set_odd_byte,    change_letter,  change_letter,    change_letter,
-    set_header,    set_header,  set_header,     set_block_number, set_block_number, copy_range,    cut_range,
+    set_header,    set_header,  set_moved,      set_block_number, set_block_number, copy_range,    cut_range,
     double_range,  swap_blocks, splice,         change_length,   add_free_block, add_index_block,  turn_free_list,
     change_block_end, change_attribute, set_version, set_update_count, change_field, change_run_size, drop_free_block,
-    lengthen_word, cut_short,
+    lengthen_word, cut_short,   set_moved,      set_high_version, turn_version,
 };
 
 /* One change of an input; returns its new size. An input without an image gets control bytes only. */

@@ -1,5 +1,5 @@
-/* A reader of the harness's own, written from document 01: rows 1 and 3 to 10 in their order, and the entries. Guided
- * runs so compare two readers on every image that they find. */
+/* A reader of the harness's own, written from document 01 and document 02's F-1: rows 1 and 3 to 10 in their order, and
+ * the entries. Guided runs so compare two readers on every image that they find. */
 #include <string.h>
 
 #include "fuzz.h"
@@ -13,10 +13,21 @@ static size_t element_count, data_start;
 static uint64_t data;                 /* number of data blocks */
 static uint8_t uses[MOST_DATA];       /* of each data block: how often it is in a run or on the free list */
 
+const uint8_t moved_to[VERSIONS][MOVED] = {{171, 198, 182, 186, 190, 194}, {167, 182, 184, 188, 192, 196}};
+
+int is_5(const uint8_t *image) { return image[AT_HIGH_VERSION] == 5; }
+
+/* A field that version 5 moved. */
+uint32_t moved(const uint8_t *image, int field) {
+    const uint8_t *p = image + moved_to[is_5(image)][field];
+    return field < EXTHEADER ? *p : four(p);
+}
+
 static uint32_t read_header(size_t size, size_t len) {
     if (len < 256 || len % 256 != 0 || len > size) return 1;
-    if (image[141] != 4 || two(image + 146) != 256 || two(image + 150) != 256 || image[166] != 1) return 3;
-    if (image[164] || image[165] || image[171] || image[198] || four(image + 182)) return 4;
+    if (image[AT_HIGH_VERSION] != 4 && image[AT_HIGH_VERSION] != 5) return 3;
+    if (two(image + 146) != 256 || two(image + 150) != 256 || image[166] != 1) return 3;
+    if (image[164] || image[165] || moved(image, OS) || moved(image, INDEX_BLKBIT) || moved(image, EXTHEADER)) return 4;
     uint32_t index = two(image + AT_INDEX_BLOCK);
     if (index > MOST_BLOCKS || 256 * (1 + (size_t)index) > len) return 5;
     data_start = 256 * (1 + (size_t)index);
@@ -46,7 +57,7 @@ static size_t read_element(size_t at) {
 }
 
 static uint32_t read_index(void) {
-    uint32_t wanted = four(image + AT_NINDEX2);
+    uint32_t wanted = moved(image, NINDEX2);
     size_t at = 256;
     element_count = 0;
     if (data_start == 256) return wanted == 0 ? 0 : 6;
@@ -115,7 +126,7 @@ static uint32_t read_run(size_t i, reading *to) {
 
 /* The free list, and that each data block is in one place. */
 static uint32_t read_free_list(reading *to) {
-    uint32_t number = four(image + AT_EMPTY_BLOCK2);
+    uint32_t number = moved(image, EMPTY_BLOCK2);
     while (number != LIST_END) {
         if (number >= data || uses[number]++ != 0) return 9;
         const uint8_t *block = image + data_start + 256 * (size_t)number;
@@ -138,5 +149,5 @@ uint32_t read_image(const uint8_t *slice, size_t size, size_t len, reading *to) 
     if (number == 0) number = read_free_list(to);
     if (number != 0) return number;
     to->entries.known = to->headwords <= MOST_ENTRIES;
-    return to->headwords == four(image + AT_NWORD) && to->in_runs == four(image + AT_NBLOCK2) ? 0 : 10;
+    return to->headwords == four(image + AT_NWORD) && to->in_runs == moved(image, NBLOCK2) ? 0 : 10;
 }

@@ -1,4 +1,4 @@
-/* Images made by the engine itself: created, filled, thinned out and optimised. */
+/* Images made by the engine itself: created, filled, thinned out and optimised; each in version 4 and in version 5. */
 #include <stdio.h>
 #include <stdlib.h>
 #include <string.h>
@@ -7,13 +7,14 @@
 
 enum { ROOM = 1 << 17 };
 
-/* What a seed is made of: how many entries, lengths, how many of them are deleted again, and whether it is optimised. */
+/* What a seed is made of: how many entries, lengths, how many of them are deleted again, and whether it is optimised. Of the
+ * last row two need an index block more when the first entry is deleted. */
 typedef struct {
     uint16_t entries, word_least, word_most, text_most, deleted;
     uint8_t letters, optimised;
 } recipe;
 
-static const recipe recipes[SEEDS] = {
+static const recipe recipes[SEEDS / 2] = {
     {0, 1, 1, 0, 0, 2, 0},         {1, 3, 3, 3, 0, 3, 0},         {2, 3, 5, 3, 0, 3, 0},         {1, 1, 1, 3000, 0, 1, 0},
     {3, 1, 3, 10, 3, 4, 0},        {3, 1, 3, 10, 3, 4, 1},        {8, 1, 6, 40, 0, 3, 0},        {8, 1, 6, 300, 3, 3, 0},
     {8, 1, 6, 300, 3, 3, 1},       {12, 1, 4, 700, 5, 3, 0},      {12, 1, 4, 1100, 6, 3, 0},     {6, 240, 248, 20, 0, 2, 0},
@@ -21,7 +22,7 @@ static const recipe recipes[SEEDS] = {
     {30, 1, 10, 200, 10, 3, 0},    {30, 1, 10, 60, 0, 3, 1},      {40, 1, 248, 500, 12, 5, 0},   {40, 1, 248, 500, 12, 5, 1},
     {6, 1, 5, 3000, 2, 5, 0},      {10, 1, 5, 3000, 5, 5, 0},     {60, 1, 8, 400, 25, 5, 0},     {60, 200, 248, 60, 20, 4, 0},
     {100, 1, 8, 30, 20, 5, 0},     {150, 1, 12, 100, 30, 5, 0},   {210, 1, 8, 60, 0, 20, 0},     {150, 1, 12, 100, 60, 5, 1},
-    {3, 1, 248, 3, 0, 1, 1},       {6, 1, 248, 200, 0, 1, 1},     {12, 1, 248, 400, 3, 1, 1},    {40, 248, 248, 3, 2, 3, 0},
+    {3, 1, 248, 3, 0, 1, 1},       {7, 1, 248, 500, 0, 1, 1},     {4, 1, 248, 400, 0, 1, 1},     {40, 248, 248, 3, 2, 3, 0},
 };
 
 static uint8_t image[ROOM], working[ROOM];
@@ -63,9 +64,9 @@ static void delete(source *r, const recipe *p) {
         done(pdic_delete(image, ROOM, length, working, ROOM, found, found_size, &length), "delete");
 }
 
-static void make_seed(const recipe *p, seed *to, uint64_t number) {
+static void make_seed(const recipe *p, seed *to, uint64_t number, uint8_t version) {
     source r = {number * 977};
-    done(pdic_create(image, ROOM, &length), "create");
+    done(pdic_create(image, ROOM, version, number * 0x9E3779B97F4A7C15u, &length), "create");
     for (size_t i = 0; i < p->entries; i++) insert(&r, p);
     for (size_t i = 0; i < p->deleted; i++) delete(&r, p);
     if (p->optimised) done(pdic_optimise(image, ROOM, length, working, ROOM, &length), "optimise");
@@ -77,5 +78,5 @@ static void make_seed(const recipe *p, seed *to, uint64_t number) {
 }
 
 void make_seeds(seed *seeds) {
-    for (size_t i = 0; i < SEEDS; i++) make_seed(&recipes[i], &seeds[i], i + 1);
+    for (size_t i = 0; i < SEEDS; i++) make_seed(&recipes[i / 2], &seeds[i], i / 2 + 1, i % 2 ? 5 : 4);
 }

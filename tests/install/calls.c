@@ -24,6 +24,14 @@ static void say_entry(const char *call, uint32_t number)
         printf("    %.*s, %d, %.*s\n", (int)found_len, (const char *)found, attribute, (int)text_len, (const char *)text);
 }
 
+static void say_kind(const char *call, uint32_t number)
+{
+    say(call, number);
+    printf("    %02X %02X,", image[PDIC_AT_VERSION], image[PDIC_AT_VERSION + 1]);
+    for (int i = 0; i < 8; i++) printf(" %02X", image[PDIC_AT_IDENT + i]);
+    printf("\n");
+}
+
 static uint32_t insert(const char *headword, uint8_t with, const char *its_text)
 {
     return pdic_insert(image, sizeof image, len, work, sizeof work, bytes(headword), strlen(headword), with,
@@ -34,7 +42,9 @@ int main(void)
 {
     uint64_t headwords, index_blocks, data_blocks, free_blocks;
     uint32_t number;
-    say("create", pdic_create(image, sizeof image, &len));
+    say_kind("create version 6 in 255 bytes", pdic_create(image, 255, 6, 0, &len));
+    say_kind("create version 6", pdic_create(image, sizeof image, 6, 0, &len));
+    say_kind("create version 4", pdic_create(image, sizeof image, PDIC_FORMAT_4, 0x0123456789ABCDEFu, &len));
     say("insert ABC", insert("ABC", PDIC_PLAIN, "one"));
     say("insert ABDEF", insert("ABDEF", PDIC_PLAIN | PDIC_LEARN | 3, "two"));
     say("insert without headword", insert("", PDIC_PLAIN, "two"));
@@ -57,8 +67,12 @@ int main(void)
     say("insert into 256 bytes", pdic_insert(image, 256, len, work, 256, bytes("a"), 1, PDIC_PLAIN, bytes(""), 0, &len));
     image[140] = 16;
     say("insert into version 0x0410", insert("a", PDIC_PLAIN, ""));
-    image[141] = 5;
-    say("check version 5", pdic_check(image, sizeof image, len, &headwords, &index_blocks, &data_blocks, &free_blocks));
+    image[141] = 6;
+    say("check version 6", pdic_check(image, sizeof image, len, &headwords, &index_blocks, &data_blocks, &free_blocks));
+    say_kind("create version 5", pdic_create(image, sizeof image, PDIC_FORMAT_5, 0x0123456789ABCDEFu, &len));
+    say_kind("insert into version 5", insert("ABC", PDIC_PLAIN, "one"));
+    memcpy(found, "ABC", found_len = 3);
+    say_entry("look up ABC", pdic_look_up(image, sizeof image, len, found, found_len, text, sizeof text, &attribute, &text_len));
     printf("strerror: %s\n", pdic_strerror(PDIC_DONE));
     return 0;
 }

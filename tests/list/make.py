@@ -1,12 +1,23 @@
 #!/usr/bin/env python3
 """make.py DIR: writes to DIR each input of `run.sh` as NAME, and beside it, as NAME.list, what the program has to print.
 
-Images and lists are put together here from docs/papers/01-scope.md alone; nothing of the engine is used.
+Images and lists are put together here from docs/papers alone (01-scope.md, F-1 of 02-change-requests.md); nothing of the engine is
+used. Each input is made in version 4 as NAME and in version 5 as NAME-5, with the same list.
 """
 import os
 import sys
 
 END = 0xFFFFFFFF
+
+# Offsets of the header fields that version 5 moved, and bytes of the header that a version does not name.
+AT = {
+    4: {'os': 171, 'index_blkbit': 198, 'extheader': 182, 'empty_block2': 186, 'nindex2': 190, 'nblock2': 194},
+    5: {'os': 167, 'index_blkbit': 182, 'extheader': 184, 'empty_block2': 188, 'nindex2': 192, 'nblock2': 196},
+}
+UNNAMED = {
+    4: [(0, 140), (152, 154), (156, 160), (167, 171), (172, 182), (199, 208), (212, 256)],
+    5: [(0, 140), (152, 154), (156, 160), (168, 182), (183, 184), (200, 208), (212, 216), (224, 256)],
+}
 
 
 def number(n, width):
@@ -42,15 +53,18 @@ class Run:
         assert len(self.bytes) == 256 * self.blocks
 
 
-def image(runs, data, chain=(), low_version=0, changes=0):
-    """The image of runs in index order among so many data blocks, the others on the chain in that order."""
+def image(version, runs, data, chain=(), low_version=0, changes=0, identifier=0x0807060504030201):
+    """The image of runs in index order among so many data blocks, the others on the chain in that order. A version 4 image has no
+    identifier."""
+    at = AT[version]
     index = b''.join(number(run.block, 2) + run.entries[0][0] + b'\0' for run in runs)
     index_blocks = (len(index) + 4 + 255) // 256 if runs else 0
     head = bytearray(256)
     for offset, width, n in [
-        (140, 2, 0x0400 + low_version), (142, 2, 248), (144, 2, 3000), (146, 2, 256), (148, 2, index_blocks), (150, 2, 256),
-        (154, 2, 0xFFFF), (160, 4, sum(len(run.entries) for run in runs)), (166, 1, 1), (186, 4, chain[0] if chain else END),
-        (190, 4, len(runs)), (194, 4, sum(run.blocks for run in runs)), (208, 4, changes),
+        (140, 2, 256 * version + low_version), (142, 2, 248), (144, 2, 3000), (146, 2, 256), (148, 2, index_blocks), (150, 2, 256),
+        (154, 2, 0xFFFF), (160, 4, sum(len(run.entries) for run in runs)), (166, 1, 1),
+        (at['empty_block2'], 4, chain[0] if chain else END), (at['nindex2'], 4, len(runs)),
+        (at['nblock2'], 4, sum(run.blocks for run in runs)), (208, 4, changes), (216, 8, identifier if version == 5 else 0),
     ]:
         head[offset:offset + width] = number(n, width)
     area = bytearray(256 * data)
@@ -82,20 +96,21 @@ def letters(n):
     return b't' * n
 
 
-def inputs():
-    """Each input and its list, by name."""
+def inputs(version):
+    """Each input of a version and its list, by name."""
     made = {}
+    at = AT[version]
 
     def sound(name, runs, data, chain=(), **more):
         blocks = [run.block + i for run in runs for i in range(run.blocks)] + list(chain)
         assert sorted(blocks) == list(range(data)), name
-        made[name] = (image(runs, data, chain, **more), listed(runs, data, chain))
+        made[name] = (image(version, runs, data, chain, **more), listed(runs, data, chain))
 
-    sound('empty', [], 0)
+    sound('empty', [], 0, identifier=0)
     sound('p3', [Run(0, [(b'ABC', 128, b'one'), (b'ABDEF', 128, b'two')])], 1, changes=2)
     # P8's state: two runs, one block free
     sound('p8', [Run(0, [(b'a', 128, b''), (b'a' * 248, 128, b'')]), Run(3, [(b'b', 128, letters(762))])], 7, (2,))
-    sound('all-free', [], 3, (1, 0, 2))
+    sound('all-free', [], 3, (1, 0, 2), identifier=2 ** 64 - 1)
     # runs not in the order of their blocks, a chain that goes up and down, every kind of attribute and length, an index of two
     # blocks, a version only for reading, bytes behind the end marks, blocks that are not needed, fronts that are not shared
     sound('several', [
@@ -120,6 +135,11 @@ def inputs():
     sound('longest', [Run(0, entries, 254)], 254)
 
     p3, largest = made['p3'][0], made['largest'][0]
+    # anything in bytes that this version does not name, be it that the other one does
+    unnamed = p3
+    for start, end in UNNAMED[version]:
+        unnamed = patched(unnamed, start, b'\xff' * (end - start))
+    made['unnamed'] = (unnamed, made['p3'][1])
 
     def bad(name, n, contents):
         made[name] = (contents, refused(n))
@@ -129,10 +149,17 @@ def inputs():
     bad('odd', 1, made['empty'][0] + b'\0')
     bad('one-more', 1, largest + b'\0')
     bad('block-more', 1, largest + bytes(256))
-    bad('version', 3, patched(p3, 141, [5]))
+    bad('version', 3, patched(p3, 141, [6]))
+    bad('version-below', 3, patched(p3, 141, [3]))
+    bad('version-bit', 3, patched(p3, 141, [0x80 + version]))
     bad('attrlen', 3, patched(p3, 166, [0]))
     bad('dictype', 4, patched(p3, 165, [1]))
+    bad('os', 4, patched(p3, at['os'], [1]))
+    bad('index_blkbit', 4, patched(p3, at['index_blkbit'], [1]))
+    bad('extheader', 4, patched(p3, at['extheader'], number(256, 4)))
+    bad('extheader-high', 4, patched(p3, at['extheader'], number(1 << 31, 4)))
     bad('index-past', 5, patched(p3, 148, [3]))
+    bad('nindex2', 6, patched(p3, at['nindex2'], [2]))
     bad('index-headword', 6, patched(p3, 258, [0]))
     bad('index-zeros', 6, patched(p3, 511, [1]))
     bad('run-past', 7, patched(p3, 512, [2]))
@@ -140,17 +167,28 @@ def inputs():
     bad('attribute', 8, patched(p3, 521, [0x90]))
     bad('first-headword', 8, patched(p3, 519, b'D'))
     bad('block-in-none', 9, p3 + bytes(256))
-    bad('block-in-both', 9, patched(p3, 186, number(0, 4)))
+    bad('block-in-both', 9, patched(p3, at['empty_block2'], number(0, 4)))
     bad('nword', 10, patched(p3, 160, [3]))
-    bad('nblock2', 10, patched(p3, 194, [2]))
+    bad('nblock2', 10, patched(p3, at['nblock2'], [2]))
     # the first of two
-    bad('version-nword', 3, patched(patched(p3, 160, [3]), 141, [5]))
+    bad('version-nword', 3, patched(patched(p3, 160, [3]), 141, [6]))
     bad('attribute-nword', 8, patched(patched(p3, 160, [3]), 521, [0x90]))
     return made
 
 
+def all_inputs():
+    """The inputs of both versions, and one of each that is read by the other's places: extheader is then not 0, or nindex2 is too
+    large."""
+    four, five = inputs(4), inputs(5)
+    made = dict(four)
+    made.update((name + '-5', five[name]) for name in five)
+    made['read-as-five'] = (patched(four['p3'][0], 141, [5]), refused(4))
+    made['read-as-four'] = (patched(five['p3'][0], 141, [4]), refused(6))
+    return made
+
+
 def main():
-    for name, (contents, lines) in inputs().items():
+    for name, (contents, lines) in all_inputs().items():
         for path, what in [(name, contents), (name + '.list', lines)]:
             with open(os.path.join(sys.argv[1], path), 'wb') as out:
                 out.write(what)

@@ -1,6 +1,7 @@
 #!/usr/bin/env bash
 # run.sh [PROGRAM]: runs the program (target/bin/list) on each input that make.py writes, and compares what it prints with
-# expected/NAME.txt, or with make.py's own list where that is too long to be stored. Each input is a file, then a pipe.
+# expected/NAME.txt (for NAME-5, the same in version 5, too), or with make.py's own list where that is too long to be stored. Each input
+# is a file, then a pipe.
 set -u
 here=$(cd "$(dirname "$0")" && pwd)
 program=${1:-$here/../../target/bin/list}
@@ -11,7 +12,7 @@ runs=0
 failed=0
 for list in "$work"/*.list; do
   name=$(basename "$list" .list)
-  expected=$here/expected/$name.txt
+  expected=$here/expected/${name%-5}.txt
   [ -e "$expected" ] || expected=$list
   "$program" <"$work/$name" >"$work/out" || failed=1
   cat "$work/$name" | "$program" >"$work/piped" || failed=1

@@ -1,11 +1,12 @@
 #!/usr/bin/env python3
-"""damage.py SEED NUMBER FILE FOLDER: writes copies of the dictionary FILE into the folder, each with a few bytes changed,
-moved, cut off or added; which ones depends on the seed and the copy's number alone."""
+"""damage.py SEED NUMBER FOLDER FILE..: writes copies of the dictionaries FILE, of each in turn, into the folder, each with a few bytes
+changed, moved, cut off or added; which ones depends on the seed and the copy's number alone."""
 import os
 import random
 import sys
 
-FIELDS = [140, 141, 146, 148, 149, 150, 160, 164, 165, 166, 171, 182, 186, 190, 194, 198, 208]
+# bytes of the header's fields, where version 4 has them and where version 5 does
+FIELDS = [140, 141, 146, 148, 149, 150, 160, 164, 165, 166, 167, 171, 182, 184, 186, 188, 190, 192, 194, 196, 198, 208, 216]
 
 
 def damage(data, rng):
@@ -14,7 +15,7 @@ def damage(data, rng):
         at = rng.randrange(len(out))
         kind = rng.randrange(7)
         if kind == 0:
-            out[rng.choice(FIELDS)] = rng.choice([0, 1, 2, 15, 16, 127, 128, 255])
+            out[rng.choice(FIELDS)] = rng.choice([0, 1, 2, 4, 5, 15, 16, 127, 128, 255])
         elif kind == 1:
             out[at] ^= 1 << rng.randrange(8)
         elif kind == 2:
@@ -32,9 +33,12 @@ def damage(data, rng):
     return bytes(out)
 
 
-seed, number, source, folder = int(sys.argv[1]), int(sys.argv[2]), sys.argv[3], sys.argv[4]
-with open(source, 'rb') as file:
-    whole = file.read()
+def read(path):
+    with open(path, 'rb') as file:
+        return file.read()
+
+
+seed, number, folder, wholes = int(sys.argv[1]), int(sys.argv[2]), sys.argv[3], [read(path) for path in sys.argv[4:]]
 for k in range(number):
     with open(os.path.join(folder, f'{k}.dic'), 'wb') as file:
-        file.write(damage(whole, random.Random(f'{seed} {k}')))
+        file.write(damage(wholes[k % len(wholes)], random.Random(f'{seed} {k}')))

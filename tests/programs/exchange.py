@@ -1,8 +1,8 @@
 #!/usr/bin/env python3
 """exchange.py SEED NUMBER FOLDER [WRAPPER..]: dictionaries that travel. Random entries of any bytes go through a table into a
-dictionary and come out of dump as they were; a dictionary made from the dump is the same, byte for byte. Random lists are
-refused at the lines at which a model of the list's rules, written here apart from the program, finds a fault. Works in the
-present folder, which must be empty."""
+dictionary, every second one of version 5, and come out of dump as they were; a dictionary made from the dump, with the same
+identifier, is the same, byte for byte. Random lists are refused at the lines at which a model of the list's rules, written here
+apart from the program, finds a fault. Works in the present folder, which must be empty."""
 import random
 import re
 import subprocess
@@ -53,19 +53,34 @@ def read_dump(dump):
     return [(unescaped(h), int(a, 16), unescaped(t)) for h, a, t in rows]
 
 
-def round_trip(rng):
-    entries = {}
+def kind_told(rng, is_five):
+    """make's options for a version, for version 5 with an identifier"""
+    return ['--format=5', f'--identifier={rng.choice([0, 1, 2 ** 64 - 1, rng.getrandbits(64)]):016X}'] if is_five else []
+
+
+def test_kind(path, kind):
+    """The dictionary has the version that was told, and its identifier low byte first."""
+    with open(path, 'rb') as file:
+        header = file.read(256)
+    ident = int(kind[1].split('=')[1], 16) if kind else 0
+    if header[140:142] + header[216:224] != bytes([0, 5 if kind else 4]) + ident.to_bytes(8, 'little'):
+        sys.exit(f'exchange: {kind} gives {header.hex()}')
+
+
+def round_trip(rng, is_five):
+    entries, kind = {}, kind_told(rng, is_five)
     for _ in range(rng.choice([0, 1, 3, 20, 60])):
         entries[word(rng, 1, 248)] = (rng.randrange(256) & ~0x10 | 0x80, word(rng, 0, rng.choice([5, 300, 3000])))
     rows = [(h, a, t) for h, (a, t) in sorted(entries.items())]
     shuffled = rng.sample(rows, len(rows))
     table = b'%headword\ttext\tattribute\n' + b''.join(
         b'%s\t%s\t%d%s' % (escaped(rng, h), escaped(rng, t), a, rng.choice([b'\n', b'\r\n', b'\n\n'])) for h, a, t in shuffled)
-    done('make', 'first.dic', '-', text=table)
+    done('make', *kind, 'first.dic', '-', text=table)
+    test_kind('first.dic', kind)
     dump = done('dump', 'first.dic')
     if read_dump(dump) != rows:
         sys.exit('exchange: the dump has other entries')
-    done('make', 'second.dic', '-', text=dump)
+    done('make', *kind, 'second.dic', '-', text=dump)
     with open('first.dic', 'rb') as first, open('second.dic', 'rb') as second:
         if first.read() != second.read():
             sys.exit('exchange: make of a dump is another dictionary')
@@ -123,7 +138,7 @@ def random_list(rng):
 def main():
     rng = random.Random(int(sys.argv[1]))
     number = int(sys.argv[2])
-    entries = sum(round_trip(rng) for _ in range(number))
+    entries = sum(round_trip(rng, k % 2 == 1) for k in range(number))
     accepted = sum(random_list(rng) for _ in range(4 * number))
     if not 0 < accepted < 4 * number:
         sys.exit(f'exchange: {accepted} of {4 * number} lists are accepted')

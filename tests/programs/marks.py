@@ -1,7 +1,7 @@
 #!/usr/bin/env python3
-"""marks.py SEED NUMBER FOLDER: fills so many random manuals with the folder's fill, and compares exit status, output, the place of
-the first message and the summary with a model of the marks that is written as regular expressions. Works in the present
-folder, which must be empty."""
+"""marks.py SEED NUMBER FOLDER: fills so many random manuals with the folder's fill, every second one from a dictionary of
+version 5, and compares exit status, output, the place of the first message and the summary with a model of the marks that is
+written as regular expressions. Works in the present folder, which must be empty."""
 import concurrent.futures
 import os
 import random
@@ -16,6 +16,7 @@ ENTRIES = {b'valve': b'soupape', b'valve>': b'>>', b'<a': b'<<valve>>', b'a b': 
            b'\x83\x5c': b'\x95\x5c', b'v\xc3\xa9': b'\xe5\xbc\x81', b'50%': b'4', b'%41': b'5', b'a\nb': b'6', b'%open': b'7'}
 PIECES = [b'<', b'>', b'%', *SIGNS, b'%3E', b'%3c', b'%25', b'%0A', b'%00', b'2', b'5', b'F', b'\n', b'\r\n', b' ', b'x', b'\x83',
           b'<<valve>>', b'<<%open>>', *ENTRIES, *[b'<<', b'>>'] * 4]
+DICTIONARIES = ['four.dic', 'five.dic']
 BYTES = [bytes([byte]) for byte in range(256)]
 KNOWN = [b'<<' + re.sub(rb'[%<>\n]', lambda sign: b'%%%02X' % sign[0][0], word) + b'>>' for word in ENTRIES] + [b'<<%close>>', b'<<%lt>>', b'<<%gt>>']
 KINDS = [PIECES, PIECES + [b'\0', b'\xff\xfe'], BYTES + [b'<<', b'>>'] * 20, KNOWN, KNOWN + [b' ', b'<', b'x', b'>', b'\n', b'%'],
@@ -68,8 +69,8 @@ def model(manual):
     return 0, out, None, counts
 
 
-def filled(fill, manual):
-    ran = subprocess.run([fill, 'terms.dic', '-'], input=manual, stdout=subprocess.PIPE, stderr=subprocess.PIPE, close_fds=False)
+def filled(fill, dictionary, manual):
+    ran = subprocess.run([fill, dictionary, '-'], input=manual, stdout=subprocess.PIPE, stderr=subprocess.PIPE, close_fds=False)
     said = ran.stderr.split(b'\n')[0]
     place = re.match(rb'standard input:(\d+):(\d+): ', said)
     counts = [int(count) for count in re.findall(rb'\d+', said)] if ran.returncode == 0 else None
@@ -82,19 +83,21 @@ def manual_of(seed, k):
     return b''.join(rng.choice(pieces) for _ in range(rng.choice([1, 2, 3, 5, 8, 13, 40])))
 
 
-def make_dictionary(glossary):
+def make_dictionaries(glossary):
     rows = [b'\t'.join(''.join(f'%{byte:02X}' for byte in part).encode() for part in entry) for entry in ENTRIES.items()]
     table = b'\n'.join([b'%headword\ttext', *rows])
-    subprocess.run([glossary, 'make', 'terms.dic', '-'], input=table, stdout=subprocess.DEVNULL, check=True)
+    for version, path in zip('45', DICTIONARIES):
+        subprocess.run([glossary, 'make', f'--format={version}', path, '-'], input=table, stdout=subprocess.DEVNULL, check=True)
 
 
 def main():
     seed, number, folder = int(sys.argv[1]), int(sys.argv[2]), sys.argv[3]
-    make_dictionary(os.path.join(folder, 'glossary'))
+    fill = os.path.join(folder, 'fill')
+    make_dictionaries(os.path.join(folder, 'glossary'))
     manuals = [manual_of(seed, k) for k in range(number)]
     count = {0: 0, 1: 0, 2: 0}
     with concurrent.futures.ThreadPoolExecutor(4) as pool:
-        for manual, got in zip(manuals, pool.map(lambda manual: filled(os.path.join(folder, 'fill'), manual), manuals)):
+        for manual, got in zip(manuals, pool.map(lambda k: filled(fill, DICTIONARIES[k % 2], manuals[k]), range(number))):
             expected = model(manual)
             if expected != got:
                 sys.exit(f'manual {manual}: fill gives {got} and not {expected}')

@@ -26,8 +26,10 @@ gcc -std=c11 -O2 -Wall -Wextra -Wpedantic -Werror -I"$root/include" -o "$work/st
 "$work/stack"
 gcc -std=c11 -O2 -Wall -Wextra -Wpedantic -Werror -I"$root/include" -o "$work/flips" "$here/flips.c" \
     "${PDIC_LIB:-$root/target/staticlib}/libpdic.a"
-"$work/plain/glossary" make "$work/sample.dic" "$root/examples/machinery.tsv" >/dev/null
-echo "sample glossary: $("$work/flips" "$work/sample.dic")"
+for version in 4 5; do
+    "$work/plain/glossary" make --format=$version "$work/sample-$version.dic" "$root/examples/machinery.tsv" >/dev/null
+    echo "sample glossary of version $version: $("$work/flips" "$work/sample-$version.dic")"
+done
 "$root/examples/demo.sh" "$work/plain" >"$work/demo.txt"
 cmp "$work/demo.txt" "$here/demo.txt"
 # tell STORY NAME FOLDER [WRAPPER..]: the story as stored
@@ -37,13 +39,15 @@ tell() {
     inside "$name" "$here/story.sh" "$story" "$@" >"$work/$name.txt"
     cmp "$work/$name.txt" "$here/stories/$story.txt"
 }
-for path in "$here"/stories/*.sh; do
-    story=$(basename "$path" .sh)
-    tell "$story" plain "$work/plain"
-    tell "$story" sanitized "$work/sanitized"
-    tell "$story" valgrind "$work/plain" $memory
-done
-echo "programs: $(cat "$here"/stories/*.txt | grep -c '^\$') runs as stored, plain, sanitized and under valgrind; the demo as stored"
+# tell_all NAME FOLDER [WRAPPER..]: all stories
+tell_all() {
+    for path in "$here"/stories/*.sh; do tell "$(basename "$path" .sh)" "$@"; done
+}
+# valgrind takes longest: its runs go beside the others, up to those that are timed
+tell_all valgrind "$work/plain" $memory &
+beside=$!
+tell_all plain "$work/plain"
+tell_all sanitized "$work/sanitized"
 
 # report NAME COMMAND..: what the command says last, if it succeeds
 report() {
@@ -66,6 +70,8 @@ report 'programs, sanitized' inside marks-sanitized "$here/marks.py" 2 300 "$wor
 gcc -std=c11 -O2 -Wall -Wextra -Wpedantic -Werror -I"$root/include" -I"$root/programs" -o "$work/alike" "$here/alike.c" \
     "$root/programs/alike.c" "$root/programs/bytes.c"
 report 'programs' "$work/alike" 1 5000
+wait "$beside"
+echo "programs: $(cat "$here"/stories/*.txt | grep -c '^\$') runs as stored, plain, sanitized and under valgrind; the demo as stored"
 report 'programs' inside growth "$here/growth.sh" "$work/plain"
 report 'programs' "$here/wrong.sh" "$work"
 

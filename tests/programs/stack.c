@@ -1,5 +1,5 @@
-/* stack.c - how much stack each call takes: run on a painted stack, on an image whose index grows. Fails where a call takes
- * more than include/pdic.h says. */
+/* stack.c - how much stack each call takes: run on a painted stack, on an image of each version whose index grows. Fails where a
+ * call takes more than include/pdic.h says. */
 #define _GNU_SOURCE
 #include <pthread.h>
 #include <stdio.h>
@@ -11,7 +11,7 @@ enum { STACK = 1 << 20, PAINT = 0xA5, SIZE = 1 << 16, SMALL = 32 << 10, LARGE = 
 
 static uint8_t image[SIZE], work[SIZE], text[PDIC_MAX_TEXT], word[PDIC_MAX_HEADWORD], letters[PDIC_MAX_TEXT];
 static size_t len, word_len, text_len;
-static uint8_t attribute;
+static uint8_t attribute, version;
 
 static uint32_t insert(const char *headword, size_t headword_len, size_t n)
 {
@@ -20,7 +20,7 @@ static uint32_t insert(const char *headword, size_t headword_len, size_t n)
 
 static uint32_t create(void)
 {
-    return pdic_create(image, SIZE, &len);
+    return pdic_create(image, SIZE, version, UINT64_MAX, &len);
 }
 
 static uint32_t check(void)
@@ -89,7 +89,8 @@ static size_t used_by(const char *name, uint32_t (*call)(void))
     return STACK - untouched;
 }
 
-int main(void)
+/* Every call on an image of the version; whether one took too much. */
+static int measure(void)
 {
     static const struct {
         const char *name;
@@ -99,13 +100,20 @@ int main(void)
                   { "look up", look_up, SMALL }, { "walk", walk, SMALL },         { "delete", delete, LARGE },
                   { "optimise", optimise, SMALL } };
     int failed = 0;
-    memset(letters, 't', sizeof letters);
-    printf("stack in bytes, the thread's own included:");
+    printf("stack in bytes, version %u, the thread's own included:", version);
     for (size_t i = 0; i < sizeof calls / sizeof calls[0]; i++) {
         size_t used = used_by(calls[i].name, calls[i].call);
         printf("%s %s %zu", i > 0 ? "," : "", calls[i].name, used);
         failed |= used > calls[i].most;
     }
     puts(failed ? ": more than pdic.h says" : "");
+    return failed;
+}
+
+int main(void)
+{
+    int failed = 0;
+    memset(letters, 't', sizeof letters);
+    for (version = 4; version <= 5; version++) failed |= measure();
     return failed;
 }

@@ -31,4 +31,9 @@ full() {
     echo "[$status]"
 }
 letters() { printf "%$1s" '' | tr ' ' "$2"; }
+# damaged FROM NAME OFFSET BYTES: a copy of the dictionary FROM.dic, or itself, with bytes, in octal, at an offset
+damaged() {
+    [ "$1" = "$2" ] || cp "$1.dic" "$2.dic"
+    printf "$4" | dd of="$2.dic" bs=1 seek="$3" conv=notrunc 2>/dev/null
+}
 . "$here/stories/$story.sh"

@@ -86,7 +86,7 @@ in_test crash.sh unfinished-kept file.c 's/^    remove_stale(path);$//'
 in_test together.sh not-locked file.c 's/while (flock(fd, LOCK_EX | LOCK_NB) != 0)/while (0)/'
 in_test together.sh lock-of-a-replaced-file file.c 's/if (held == HELD \&\& is_same(h->fd, h->path)) return HELD;/if (held == HELD) return HELD;/'
 in_test together.sh made-over-another file.c 's/if (!is_new) return rename/if (is_new >= 0) return rename/'
-in_test together.sh sealed-while-changed glossary.c 's/0, 0, WORDS, CHANGES, 0, seal }/0, 0, WORDS, READS, 0, seal }/;s/c->use == CHANGES \&\& (value = value_of(word, "--wait"))/(value = value_of(word, "--wait"))/'
+in_test together.sh sealed-while-changed glossary.c 's/0, 0, WORDS, CHANGES, 0, seal }/0, 0, WORDS, READS, 0, seal }/;s/c->use == CHANGES \&\& (value = value_of(words, "--wait", taken))/(value = value_of(words, "--wait", taken))/'
 in_test together.sh new-file-written-over file.c 's/if (!is_same(h->fd, h->path)) return fault/if (h->fd < -1) return fault/'
 in_story files told-in-the-dictionary glossary.c 's/^    open_standard_files();$//'
 in_story files second-name-parted file.c 's/if (file.st_nlink > 1) return fault/if (file.st_nlink > 99) return fault/'
@@ -109,7 +109,16 @@ in_test 'exchange.py 1 10' percent-not-escaped lists.c "s/ || b.at\[i\] == '%')/
 in_test 'exchange.py 1 10' attribute-not-dumped lists.c 's/(unsigned)e->attribute/0x80u/'
 in_story glossary attribute-lost glossary.c 's/is_stored ? stored.attribute : PDIC_PLAIN/PDIC_PLAIN/'
 in_story glossary some-deleted glossary.c 's/return status == STATUS_DONE ? save(t) : status;/return save(t), status;/'
-in_story glossary dry-run-writes glossary.c 's/return o->dry_run = 1, 0;/return 0;/'
+in_story glossary dry-run-writes glossary.c 's/return o->dry_run = 1, NULL;/return NULL;/'
+in_story versions identifier-backwards glossary.c 's/k->ident = \(strtoull(digits, NULL, 16)\);/k->ident = __builtin_bswap64(\1);/'
+in_story versions identifier-shown-backwards book.c 's/b->image\[at + i - 1\]/b->image[at + size - i]/'
+in_story versions identifier-always-the-same book.c 's/return getrandom(.*/return k->ident = 0x0123456789ABCDEF, 0;/'
+in_story versions identifier-from-the-clock book.c 's/return getrandom(.*/srand(time(NULL)); return k->ident = (uint64_t)rand() << 32 | rand(), 0;/;s/^#include <stdlib.h>/#include <stdlib.h>\n#include <time.h>/'
+in_story versions identifier-not-drawn book.c 's/ == (ssize_t)sizeof k->ident ? 0 : -1/ > 0 ? 0 : 0/'
+in_story versions identifier-of-version-4 glossary.c 's/\.made\.has_ident \&\& t->told\.made\.version != PDIC_FORMAT_5/.made.has_ident > 1/'
+in_story versions identifier-of-15-digits glossary.c 's/strlen(digits) != IDENT_DIGITS || strspn(\(.*\)) != IDENT_DIGITS)/strspn(\1) != strlen(digits))/'
+in_story versions format-ignored glossary.c "s/digits\[0\] == '4' ? PDIC_FORMAT_4 : PDIC_FORMAT_5/PDIC_FORMAT_4/"
+in_test 'damaged.sh 60' identifier-altered book.c 's/^    return replace_held(\&b->file, /    b->image[PDIC_AT_IDENT]++;\n    return replace_held(\&b->file, /'
 wait
 [ ! -e "$work/missed" ] || { cat "$work/missed"; exit 1; }
 echo "$count wrong programs noticed"

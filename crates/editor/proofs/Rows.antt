@@ -12,7 +12,7 @@ use borrow.Author.Tests.{lt-ltb, le-ltb, eqb-true, eq-eqb, not-true, not-false}
 use Rattle.spec.specs.Outcome.{refused, ok, accepted, _>>=_, _>>_, refuse_when_}
 use Rattle.spec.specs.Bytes as Bytes
 use Rattle.spec.specs.Bytes.{from-little-endian, write, zeros, bytes-at}
-use Rattle.spec.specs.Header.{Layout, layout4, empty-image, get, writable}
+use Rattle.spec.specs.Header.{Layout, known-version, new-image, get, writable}
 use Rattle.spec.specs.Blocks.{run-blocks}
 use Rattle.spec.specs.Check as Check
 use Rattle.spec.specs.Check.{Frame, Image, slice-ok, image-from, image-in, all-entries, entries-of}
@@ -28,6 +28,7 @@ use Rattle.spec.specs.CallRows.{ChangeRows}
 use Rattle.spec.specs.Slices.{WorkZeroed}
 use Rattle.spec.specs.declared.LengthAnswer.{LengthAnswer}
 use Rattle.spec.specs.declared.DeleteAnswer.{DeleteAnswer}
+use Rattle.spec.specs.declared.NewFile.{NewFile}
 use Rattle.spec.proofs.ListsLaws.{and-left}
 use Rattle.spec.proofs.BytesLaws.{small-of, bytes-of, small-take, small-at, from-small, small-part}
 use Rattle.spec.proofs.PartLaws.{length-bytes-at}
@@ -43,15 +44,26 @@ use Rattle.parts.proofs.PartLaws.{copied-front}
 use Rattle.change.specs.Ready.{old-length}
 
 -- ---- create
--- row 1
-pub create-short : (s : List ℕ) → length s < 256 → record { answer = length-answer (LengthAnswer.Refused 1); image = s } ≡ create s
-unfolding Calls.create Calls.create-bytes Calls.create-result Answers.length-answer
-create-short s p = rw (lt-ltb (length s) 256 p)
+module _ (s : List ℕ) (k : NewFile) where
+  -- row 1
+  pub create-short : length s < 256 → record { answer = length-answer (LengthAnswer.Refused 1); image = s } ≡ create s k
+  unfolding Calls.create Calls.create-bytes Calls.create-result Answers.length-answer
+  create-short p = rw (lt-ltb (length s) 256 p)
 
--- the empty image is written
-pub create-done : (s : List ℕ) → 256 ≤ length s → (s′ : List ℕ) → s′ ≡ write 0 (empty-image layout4) s → record { answer = length-answer (LengthAnswer.Done 256); image = s′ } ≡ create s
-unfolding Calls.create Calls.create-bytes Calls.create-result Answers.length-answer
-create-done s p s′ e = rw (le-ltb (length s) 256 p, e)
+  module _ (p : 256 ≤ length s) (t : Bool) (known : t ≡ known-version (k .version)) where
+    -- row 3
+    pub create-unknown : not t ≡ true → record { answer = length-answer (LengthAnswer.Refused 3); image = s } ≡ create s k
+    unfolding Calls.create Calls.create-bytes Calls.create-result Answers.length-answer
+    create-unknown n = rw (le-ltb (length s) 256 p, ← known, n)
+
+    -- the version is one that the header's writer takes
+    pub create-known : not t ≡ false → known-version (k .version) ≡ true
+    create-known n = sym known ∙ not-false t n
+
+    -- the empty image is written
+    pub create-done : not t ≡ false → (s′ : List ℕ) → s′ ≡ write 0 (new-image k) s → record { answer = length-answer (LengthAnswer.Done 256); image = s′ } ≡ create s k
+    unfolding Calls.create Calls.create-bytes Calls.create-result Answers.length-answer
+    create-done n s′ e = rw (le-ltb (length s) 256 p, ← known, n, e)
 
 -- ---- answer and image of a changing call
 -- of an insertion

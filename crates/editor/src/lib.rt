@@ -16,19 +16,23 @@ use inspect::MARK_WORDS;
 use inspect::Overview;
 use spec::DeleteAnswer;
 use spec::LengthAnswer;
+use spec::NewFile;
 
 // The most bytes of a body: an attribute and a text.
 const LONGEST_BODY: usize = 3001;
 
-// Create: an empty image.
-pub fn create(image: &mut [u8]) -> LengthAnswer
-    ensures { λ r. ⌜ record { answer = length-answer r; image = now (image .exit) } ≡ create (now (image .entry)) ⌝ }
+// Create: an empty image of a new file.
+pub fn create(image: &mut [u8], new: NewFile) -> LengthAnswer
+    ensures { λ r. ⌜ record { answer = length-answer r; image = now (image .exit) } ≡ create (now (image .entry)) new ⌝ }
 {
-    if image.len() < 256 {
+    if image.len() < HEADER {
         return LengthAnswer::Refused(1);
     }
-    header::write_empty(image);
-    LengthAnswer::Done(256)
+    if !header::known_version(new.version as usize) {
+        return LengthAnswer::Refused(3);
+    }
+    header::write_empty(image, new);
+    LengthAnswer::Done(HEADER)
 }
 
 // How many entries there are after an insertion.

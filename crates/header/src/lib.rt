@@ -1,13 +1,15 @@
 // The header of an image: its fields, rows 1, 3 to 5 and 11 of the refusals, and what is written in it.
 ghost use mathlib.Core.Path.{_≡_};
+ghost use mathlib.Core.Bool.{true};
 ghost use Prim.Native.Nat.{_+_, _≤_, _<_, _%_};
 ghost use lib.ListN.{length};
 ghost use Rattle.spec.specs.Outcome.{accepted};
 ghost use Rattle.spec.specs.Bytes.{write};
-ghost use Rattle.spec.specs.Header.{layout4, format-of, get, put-all, writable, changed-header, empty-image};
+ghost use Rattle.spec.specs.Header.{layout4, layout-of, known-version, format-of, high-version-of, get, put, put-all, writable, changed-header, new-image};
 ghost use Rattle.spec.specs.Check.{slice-ok, kind-ok, options-ok, frame-from};
 ghost use Rattle.header.specs.Form.{layout-named};
 ghost use Rattle.header.specs.Framed.{framed, FormTold};
+ghost use Rattle.header.specs.Fields.{Placed, InHeader};
 ghost use Rattle.header.specs.Empty.{size-settings};
 use byteops::LIST_END;
 use byteops::LONGEST_HEADWORD;
@@ -17,8 +19,10 @@ use byteops::read_u32;
 use byteops::write_u8;
 use byteops::write_u16;
 use byteops::write_u32;
+use byteops::write_u64;
+use spec::NewFile;
 
-// Offsets of the fields.
+// Offsets of the fields that both versions have at one place, and of version 5's identifier.
 const VERSION: usize = 140;
 
 const LWORD: usize = 142;
@@ -41,19 +45,14 @@ const DICTYPE: usize = 165;
 
 const ATTRLEN: usize = 166;
 
-const OS: usize = 171;
-
-const EXTHEADER: usize = 182;
-
-const EMPTY_BLOCK2: usize = 186;
-
-const NINDEX2: usize = 190;
-
-const NBLOCK2: usize = 194;
-
-const INDEX_BLKBIT: usize = 198;
-
 const UPDATE_COUNT: usize = 208;
+
+const IDENTIFIER: usize = 216;
+
+// The high bytes of the versions that are known.
+const VERSION_4: usize = 4;
+
+const VERSION_5: usize = 5;
 
 // Bytes of the header itself, and the most blocks of an index and of a data area.
 pub const HEADER: usize = 256;
@@ -64,6 +63,16 @@ pub const MOST_BLOCKS: usize = 65536;
 
 // The bytes that a part may take when a list is cut.
 const RUN_LIMIT: usize = 1024;
+
+// The offsets of the fields that version 5 moves.
+struct Moved {
+    os: usize,
+    index_blkbit: usize,
+    extheader: usize,
+    empty_block2: usize,
+    nindex2: usize,
+    nblock2: usize,
+}
 
 // What a file fixes by its header for all that stands behind: the bytes of the extended header, the bytes of a block number in the
 // index, the order of headwords, and the bytes that a part may take when a list is cut.
@@ -97,13 +106,66 @@ pub fn slice_ok(s: &[u8], len: usize) -> bool
     len <= s.len()
 }
 
+// Whether a high version byte is one that row 3 lets pass.
+pub fn known_version(version: usize) -> bool
+    ensures { λ r. ⌜ r ≡ known-version version ⌝ }
+{
+    if version == VERSION_5 {
+        return true;
+    }
+    version == VERSION_4
+}
+
+// Where a version has the moved fields. Every version but 5 is read as 4; row 3 refuses it.
+fn places_of(version: usize) -> Moved
+    ensures { λ r. ⌜ Placed (layout-of version) r ⌝ }
+    ensures { λ r. ⌜ InHeader r ⌝ }
+{
+    if version == VERSION_5 {
+        return Moved {
+            os: 167,
+            index_blkbit: 182,
+            extheader: 184,
+            empty_block2: 188,
+            nindex2: 192,
+            nblock2: 196,
+        };
+    }
+    Moved {
+        os: 171,
+        index_blkbit: 198,
+        extheader: 182,
+        empty_block2: 186,
+        nindex2: 190,
+        nblock2: 194,
+    }
+}
+
+// The high version byte.
+fn version(s: &[u8]) -> usize
+    requires { ⌜ 256 ≤ length (now s) ⌝ }
+    ensures { λ r. ⌜ r ≡ high-version-of layout4 (now (s .entry)) ⌝ }
+{
+    read_u16(s, VERSION) / 256
+}
+
+// Where a header has the moved fields.
+fn places(s: &[u8]) -> Moved
+    requires { ⌜ 256 ≤ length (now s) ⌝ }
+    ensures { λ r. ⌜ Placed (layout-named (now (s .entry))) r ⌝ }
+    ensures { λ r. ⌜ InHeader r ⌝ }
+{
+    places_of(version(s))
+}
+
 // The number of index elements.
 pub fn nindex2(s: &[u8]) -> usize
     requires { ⌜ 256 ≤ length (now s) ⌝ }
     ensures { λ r. ⌜ r ≡ get (layout-named (now (s .entry)) .nindex2) (now (s .entry)) ⌝ }
     ensures { λ r. ⌜ r < 4294967296 ⌝ }
 {
-    read_u32(s, NINDEX2)
+    let at = places(s);
+    read_u32(s, at.nindex2)
 }
 
 // The number of entries.
@@ -121,7 +183,8 @@ pub fn nblock2(s: &[u8]) -> usize
     ensures { λ r. ⌜ r ≡ get (layout-named (now (s .entry)) .nblock2) (now (s .entry)) ⌝ }
     ensures { λ r. ⌜ r < 4294967296 ⌝ }
 {
-    read_u32(s, NBLOCK2)
+    let at = places(s);
+    read_u32(s, at.nblock2)
 }
 
 // The first free block.
@@ -130,7 +193,8 @@ pub fn empty_block2(s: &[u8]) -> usize
     ensures { λ r. ⌜ r ≡ get (layout-named (now (s .entry)) .empty-block2) (now (s .entry)) ⌝ }
     ensures { λ r. ⌜ r < 4294967296 ⌝ }
 {
-    read_u32(s, EMPTY_BLOCK2)
+    let at = places(s);
+    read_u32(s, at.empty_block2)
 }
 
 // Whether the header is of this kind of file: row 3.
@@ -138,7 +202,7 @@ fn kind_ok(s: &[u8]) -> bool
     requires { ⌜ 256 ≤ length (now s) ⌝ }
     ensures { λ r. ⌜ r ≡ kind-ok (layout-named (now (s .entry))) (now (s .entry)) ⌝ }
 {
-    if read_u16(s, VERSION) / 256 != 4 {
+    if !known_version(version(s)) {
         return false;
     }
     if read_u16(s, BLOCK_SIZE) != 256 {
@@ -158,19 +222,22 @@ fn options_ok(s: &[u8]) -> bool
     requires { ⌜ 256 ≤ length (now s) ⌝ }
     ensures { λ r. ⌜ r ≡ options-ok (layout-named (now (s .entry))) (now (s .entry)) ⌝ }
 {
+    let at = places(s);
+    let os = at.os;
+    let bits = at.index_blkbit;
     if s[DICORDER] != 0 {
         return false;
     }
     if s[DICTYPE] != 0 {
         return false;
     }
-    if s[OS] != 0 {
+    if s[os] != 0 {
         return false;
     }
-    if s[INDEX_BLKBIT] != 0 {
+    if s[bits] != 0 {
         return false;
     }
-    read_u32(s, EXTHEADER) == 0
+    read_u32(s, at.extheader) == 0
 }
 
 // The frame of the image in all bytes of `s`: rows 3 to 5.
@@ -240,37 +307,53 @@ pub fn write_counts(
         (record { index-blocks = index; entries = words; first-free = first; elements = elements; run-blocks = blocks }) (now (s .entry)) ⌝ }
     ensures { λ _. ⌜ length (now (s .exit)) ≡ length (now (s .entry)) ⌝ }
 {
+    let at = places(s);
     let update = next_update(s);
     write_u32(s, UPDATE_COUNT, update);
-    write_u32(s, NBLOCK2, blocks);
-    write_u32(s, NINDEX2, elements);
-    write_u32(s, EMPTY_BLOCK2, first);
+    write_u32(s, at.nblock2, blocks);
+    write_u32(s, at.nindex2, elements);
+    write_u32(s, at.empty_block2, first);
     write_u32(s, NWORD, words);
     write_u16(s, INDEX_BLOCK, index);
 }
 
 // Stores the version and the sizes of the empty image.
-fn write_sizes(s: &mut [u8])
-    requires { ⌜ 256 ≤ length (now s) ⌝ }
-    ensures { λ _. ⌜ now (s .exit) ≡ put-all (size-settings layout4) (now (s .entry)) ⌝ }
+fn write_sizes(s: &mut [u8], version: u8)
+    requires { ⌜ (256 ≤ length (now s)) × (known-version version ≡ true) ⌝ }
+    ensures { λ _. ⌜ now (s .exit) ≡ put-all (size-settings (layout-of version)) (now (s .entry)) ⌝ }
     ensures { λ _. ⌜ length (now (s .exit)) ≡ length (now (s .entry)) ⌝ }
 {
     write_u16(s, HEADER_SIZE, 256);
     write_u16(s, BLOCK_SIZE, 256);
     write_u16(s, LJAPA, LONGEST_TEXT);
     write_u16(s, LWORD, LONGEST_HEADWORD);
-    write_u16(s, VERSION, 0x0400);
+    write_u16(s, VERSION, 256 * (version as usize));
 }
 
-// Stores the empty image.
-pub fn write_empty(s: &mut [u8])
+// Stores the identifier, where the version has one.
+fn write_identifier(s: &mut [u8], version: usize, identifier: usize)
     requires { ⌜ 256 ≤ length (now s) ⌝ }
-    ensures { λ _. ⌜ now (s .exit) ≡ write 0 (empty-image layout4) (now (s .entry)) ⌝ }
+    ensures { λ _. ⌜ now (s .exit) ≡ put (layout-of version .identifier) identifier (now (s .entry)) ⌝ }
     ensures { λ _. ⌜ length (now (s .exit)) ≡ length (now (s .entry)) ⌝ }
 {
+    if version != VERSION_5 {
+        return;
+    }
+    write_u64(s, IDENTIFIER, identifier);
+}
+
+// Stores the empty image of a new file.
+pub fn write_empty(s: &mut [u8], new: NewFile)
+    requires { ⌜ (256 ≤ length (now s)) × (known-version (new .version) ≡ true) ⌝ }
+    ensures { λ _. ⌜ now (s .exit) ≡ write 0 (new-image new) (now (s .entry)) ⌝ }
+    ensures { λ _. ⌜ length (now (s .exit)) ≡ length (now (s .entry)) ⌝ }
+{
+    let version = new.version as usize;
+    let at = places_of(version);
     byteops::fill_zero(s, 0, HEADER);
-    write_u32(s, EMPTY_BLOCK2, LIST_END);
+    write_identifier(s, version, new.identifier as usize);
+    write_u32(s, at.empty_block2, LIST_END);
     write_u16(s, EMPTY_BLOCK, 0xFFFF);
     write_u8(s, ATTRLEN, 1);
-    write_sizes(s);
+    write_sizes(s, new.version);
 }

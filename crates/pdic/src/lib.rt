@@ -8,22 +8,27 @@ use spec::CheckAnswer;
 use spec::DeleteAnswer;
 use spec::LengthAnswer;
 use spec::LookUpAnswer;
+use spec::NewFile;
 use spec::WalkAnswer;
 
 // What a call returns where there is no such entry.
 const ABSENT: u32 = 100;
 
 #[no_mangle]
-pub extern "C" fn pdic_create(image: &mut [u8], new_len: &mut usize) -> u32
+pub extern "C" fn pdic_create(image: &mut [u8], version: u8, ident: u64, new_len: &mut usize) -> u32
     ensures { λ r. ⌜
         record {
           returned = r;
           image = now (image .exit);
           new-length = now («new_len» .exit);
         }
-        ≡ create-lent (create (now (image .entry))) (now («new_len» .entry)) ⌝ }
+        ≡ create-lent (create (now (image .entry)) (record { version = version; identifier = ident })) (now («new_len» .entry)) ⌝ }
 {
-    let r = editor::create(image);
+    let new = NewFile {
+        version: version,
+        identifier: ident,
+    };
+    let r = editor::create(image, new);
     match r {
         LengthAnswer::Refused(k) => k,
         LengthAnswer::Done(n) => {

@@ -51,11 +51,15 @@ look-up-a = 0 ∷ 1 ∷ 0 ∷ 0 ∷ 0 ∷ 97 ∷ []
 insert-a : List ℕ
 insert-a = 3 ∷ 1 ∷ 1 ∷ 0 ∷ 128 ∷ 97 ∷ 120 ∷ []
 
--- whether a script on an empty image in a slice of 768 bytes, the first L of them given, with this working slice has these codes and leaves this working slice
-leaves : List ℕ → ℕ → List ℕ → List ℕ → List ℕ → Bool
-leaves script L work codes left =
-    let r = played (calls-of (length work) script) (create (zeros 768) .image) L work (zeros (length codes)) in
+-- whether a script on an empty image of that version in a slice of 768 bytes, the first L of them given, with this working slice has these codes and leaves this working slice
+leaves-in : ℕ → List ℕ → ℕ → List ℕ → List ℕ → List ℕ → Bool
+leaves-in version script L work codes left =
+    let r = played (calls-of (length work) script) (create (zeros 768) (record { version = version; identifier = 1 }) .image) L work (zeros (length codes)) in
     bytes-equal (r .codes) codes && bytes-equal (r .work) left
+
+-- the same in a file of either version
+leaves : List ℕ → ℕ → List ℕ → List ℕ → List ℕ → Bool
+leaves script L work codes left = leaves-in 4 script L work codes left && leaves-in 5 script L work codes left
 
 -- the working slice: 1, 2 and a look up keep it; an insertion zeroes it, and it stays so
 work-left-by-calls : T (
@@ -63,5 +67,6 @@ work-left-by-calls : T (
     && leaves insert-a 256 (7 ∷ 9 ∷ []) (2 ∷ []) (7 ∷ 9 ∷ [])
     && leaves look-up-a 256 (replicate 768 7) (100 ∷ []) (replicate 768 7)
     && leaves (look-up-a ++ insert-a ++ look-up-a) 256 (replicate 768 7) (100 ∷ 0 ∷ 0 ∷ []) (zeros 768))
-unfolding look-up-a insert-a leaves open-lists open-bytes open-order open-header open-entry open-run open-index open-blocks open-check open-sorted-list open-place open-calls open-claim open-script
+unfolding look-up-a insert-a leaves-in leaves open-lists open-bytes open-order open-header open-entry open-run open-index open-blocks open-check
+    open-sorted-list open-place open-calls open-claim open-script
 work-left-by-calls = tt

@@ -9,10 +9,10 @@ use native.Mathlib.Omega.{arith}
 use lib.ListN.{length, take}
 use lib.Dec.{T, ltb, eqb}
 use lib.Pow.{areBytes}
-use borrow.Author.Tests.{ltb-true, ltb-false, lt-ltb, le-ltb, eqb-true, not-true, not-false}
+use borrow.Author.Tests.{ltb-true, ltb-false, lt-ltb, le-ltb, eqb-true, eqb-false, ne-eqb, not-true, not-false}
 use Rattle.spec.specs.Outcome.{Outcome, refused, ok, _>>=_, _>>_, refuse_when_}
 use Rattle.spec.specs.Lists.{all, any, _∈_}
-use Rattle.spec.specs.Header.{layout4, empty-image, writable}
+use Rattle.spec.specs.Header.{known-version, new-image, writable}
 use Rattle.spec.specs.Entry.{Entry, headword-ok, text-ok, attribute-ok, attribute, text}
 use Rattle.spec.specs.Check.{Image, slice-ok, work-ok, image-from, image-in, entries-of}
 use Rattle.spec.specs.SortedList.{lookup, successor}
@@ -21,7 +21,8 @@ use Rattle.spec.specs.Calls.{create-bytes, create-result, create, figure
 use Rattle.spec.specs.Rows.{No, slices, numbers, content-numbers, image-numbers, SliceRule, FirstRowBroken}
 use Rattle.spec.specs.Claim.{insert-placing, delete-placing, optimise-placing}
 use Rattle.spec.specs.CallRows.{ImageRows, CreateRows, CheckRows, LookUpRows, WalkRows, change-numbers, ChangeRows, MayChange, InsertRows, DeleteRows, OptimiseRows, FirstNumbers}
-use Rattle.spec.proofs.ListsLaws.{or-cases, or-right, in-front, in-back, in-all}
+use Rattle.spec.specs.declared.NewFile.{NewFile}
+use Rattle.spec.proofs.ListsLaws.{clash, or-cases, or-right, or-neither, in-front, in-back, in-all}
 use Rattle.spec.proofs.OutcomeLaws.{ok-not-refused, same-value, Among, when-ok, bind-ok, next-ok, when-refused, bind-refused, next-refused, then-refused}
 use Rattle.spec.proofs.StoredHeaderLaws.{slice-stored, slice-one, slice-refused}
 use Rattle.spec.proofs.RowsLaws.{first-row-broken}
@@ -512,14 +513,34 @@ module _ (s : List ℕ) (L : ℕ) (work : List ℕ) where
             (bind-refused (changeable s L work) _ n (optimise-answered n .0 p));
       }
 
--- create: row 1 alone
-create-rows : (s : List ℕ) → CreateRows s
-unfolding CreateRows create create-bytes create-result
-create-rows s n = (λ p. go (ltb (length s) 256) refl p, λ (e, l). rw (lt-ltb (length s) 256 l, e))
-  where
-    go : (t : Bool) → ltb (length s) 256 ≡ t → create-result s (refuse 1 when t >> ok (empty-image layout4)) .answer ≡ refused n → (n ≡ 1) × (length s < 256)
-    go true e p = (let k : _≡_ {A = ℕ} 1 n = cc in sym k, ltb-true (length s) 256 e)
-    go false e p = absurd (ok-not-refused {A = ℕ} 256 n p)
+-- create: row 1, then row 3 by its argument
+module _ (s : List ℕ) (k : NewFile) where
+  -- it is refused as its bytes are
+  create-refused : (n : ℕ) (o : Outcome (List ℕ)) → create-result s o .answer ≡ refused n → o ≡ refused n
+  unfolding create-result
+  create-refused n (refused m) p = let e : m ≡ n = cc in ap refused e
+  create-refused n (ok x) p = absurd (ok-not-refused {A = ℕ} 256 n p)
+
+  create-told : (n : ℕ) → create s k .answer ≡ refused n → ((length s < 256) × (n ≡ 1)) ⊎ ((256 ≤ length s) × (known-version (k .version) ≡ false) × (n ≡ 3))
+  unfolding create create-bytes
+  create-told n p =
+      let t : Bool = not (known-version (k .version)) in
+      ⊎-elim (λ (h, m). inl (ltb-true (length s) 256 h, m))
+      (λ (f, q). ⊎-elim (λ (h, m). inr (ltb-false (length s) 256 f, not-true _ h, m)) (λ (g, r). absurd (ok-not-refused _ n r)) (when-refused 3 t (ok (new-image k)) n q))
+      (when-refused 1 (ltb (length s) 256) (refuse 3 when t >> ok (new-image k)) n (create-refused n (create-bytes s k) p))
+
+  create-rows : CreateRows s k
+  unfolding create create-bytes create-result known-version any No
+  create-rows =
+      record {
+        row-1 = (λ p. ⊎-elim (λ (l, m). l) (λ (l, t, m). clash (omega (arith, m))) (create-told 1 p), λ l. rw (lt-ltb (length s) 256 l));
+        row-3 = (
+          λ p. ⊎-elim (λ (l, m). clash (omega (arith, m)))
+              (λ (l, t, m). let (a, b) = or-neither (eqb (k .version) 4) (eqb (k .version) 5) t in (l, eqb-false _ 4 a, eqb-false _ 5 b)) (create-told 3 p),
+          λ (l, a, b). rw (le-ltb (length s) 256 l, ne-eqb (k .version) 4 a, ne-eqb (k .version) 5 b),
+        );
+        no-other = λ n p. ⊎-elim (λ (l, m). rw m) (λ (l, t, m). rw m) (create-told n p);
+      }
 
 -- check: the image's rows alone
 check-rows : (s : List ℕ) (L : ℕ) → CheckRows s L

@@ -25,8 +25,9 @@ use Rattle.spec.specs.Place.{Plan, element-of, plan-change, plan-packed,
 use Rattle.spec.specs.Calls.{figures, check, plan-length, given-up-zeroed}
 use Rattle.spec.specs.ImageForm.{IsImage, Accepted}
 use Rattle.spec.specs.Rows.{SliceRule}
-use Rattle.spec.specs.Claim.{Call, look-up-call, walk-call, insert-call, delete-call, optimise-call, Observed, done, removed, absent, too-short, tell-removed, is-there, Row, _if_, Performed, perform, is-refused, first-row, rows, expected, insert-placing, delete-placing, optimise-placing, slice-after, slice-kept, list-answer, list-after, list-step, is-change, next-count, Zeroed, Matches, AnswersAs, History, call-bytes, SortedListClaim, good-change, InsertRefused, DeleteRefused, OptimiseDone}
-use Rattle.spec.proofs.ListsLaws.{and-left, and-right, both-hold, hold-both, holds-true}
+use Rattle.spec.specs.Claim.{Call, look-up-call, walk-call, insert-call, delete-call, optimise-call, Observed, done, removed, absent, too-short, tell-removed, is-there, Row, _if_, Performed, perform, is-refused, first-row, rows, expected, insert-placing, delete-placing, optimise-placing, slice-after, slice-kept, list-answer, list-after, list-step, is-change, next-count, Zeroed, Matches, AnswersAs, History, call-bytes, SortedListClaim, slice-after-all, IdentifierKept, good-change, InsertRefused, DeleteRefused, OptimiseDone}
+use Rattle.spec.proofs.ListsLaws.{range-all, and-left, and-right, both-hold, hold-both, holds-true}
+use Rattle.spec.proofs.PartLaws.{bytes-same}
 use Rattle.spec.proofs.HeaderLaws.{get-take, fields-inside, fields-same, kind-same, options-same, lawful-format, format-stays}
 use Rattle.spec.specs.Sound.{EntriesOk, frame-of, plan-of, PlanSound}
 use Rattle.spec.proofs.CountLaws.{block-once, blocks-once, marks-once}
@@ -438,6 +439,23 @@ history (c ∷ cs) s L i got small k =
 pub sorted-list-claim : SortedListClaim
 unfolding SortedListClaim
 sorted-list-claim s L i small got cs k = history cs s L i got small k
+
+-- Corollary: the identifier is kept, by all calls of a list, since each keeps the header's bytes beside the fields that a change writes.
+kept-by-all : (below : HeadwordOrder) (s : List ℕ) (L : ℕ) (es : List Entry) (cs : List Call) → History below s L es cs → bytes-at 216 8 (slice-after-all s L cs) ≡ bytes-at 216 8 s
+unfolding History slice-after-all
+kept-by-all below s L es [] h = refl
+kept-by-all below s L es (c ∷ cs) (m, a, h) =
+    let r : Performed = perform s L c in
+    let F : Format = m .image .frame .format in
+    let lawful : Lawful F = law s L (m .image) (m .accepted) (m .bytes) in
+    let clear : (j : ℕ) → 216 ≤ j → j < 216 + 8 → all (λ f. not (lies-in j f)) (written-fields (F .layout)) ≡ true
+    = range-all (λ n. all (λ f. not (lies-in n f)) (written-fields (F .layout))) 216 8 (lawful .layout-lawful .identifier-kept) in
+    kept-by-all below (r .image) (r .length-after) _ cs h
+    ∙ bytes-same (r .image) s 216 8 (λ j low high. a .header-kept j (omega (arith, lawful .header-inside)) (clear j low high))
+
+pub identifier-kept : IdentifierKept
+unfolding IdentifierKept
+identifier-kept s L i small got cs k = kept-by-all (i .frame .format .below) s L (entries-of i) cs (history cs s L i got small k)
 
 -- Corollaries: what is refused.
 

@@ -19,14 +19,17 @@ use Rattle.spec.specs.Place.{plan-full}
 use Rattle.spec.specs.Calls.{create, check, look-up, start-ok, walk, insert, delete, optimise}
 use Rattle.spec.specs.Rows.{No, slices, numbers, content-numbers, image-numbers, SliceRule}
 use Rattle.spec.specs.Claim.{insert-placing, delete-placing}
+use Rattle.spec.specs.declared.NewFile.{NewFile}
 
 -- the image's rows in a reading call
 unfoldable pub ImageRows : {A : Type 0} → List ℕ → ℕ → Outcome A → Type 0
 ImageRows s L o = (n : ℕ) → n ∈ image-numbers → (o ≡ refused n) ↔ (image-in s L ≡ refused n)
 
--- create: row 1 alone
-unfoldable pub CreateRows : List ℕ → Type 0
-CreateRows s = (n : ℕ) → (create s .answer ≡ refused n) ↔ ((n ≡ 1) × (length s < 256))
+-- create: row 1, then row 3 by its argument. "another version is refused 3"
+pub record CreateRows (s : List ℕ) (k : NewFile) : Type 0 where
+  pub row-1 : (create s k .answer ≡ refused 1) ↔ (length s < 256)
+  pub row-3 : (create s k .answer ≡ refused 3) ↔ ((256 ≤ length s) × No (k .version ≡ 4) × No (k .version ≡ 5))
+  pub no-other : (n : ℕ) → create s k .answer ≡ refused n → n ∈ 1 ∷ 3 ∷ []
 
 -- check: the image's rows alone
 unfoldable pub CheckRows : List ℕ → ℕ → Type 0
@@ -90,7 +93,7 @@ pub record OptimiseRows (s : List ℕ) (L : ℕ) (work : List ℕ) : Type 0 wher
 
 -- Demand 1: each call gives the first number in the order of testing, for every content, length and argument
 pub record FirstNumbers : Type 0 where
-  pub create-rows : (s : List ℕ) → CreateRows s
+  pub create-rows : (s : List ℕ) (k : NewFile) → CreateRows s k
   pub check-rows : (s : List ℕ) (L : ℕ) → CheckRows s L
   pub look-up-rows : (s : List ℕ) (L : ℕ) (h out : List ℕ) → T (areBytes s) → LookUpRows s L h out
   pub walk-rows : (s : List ℕ) (L : ℕ) (above : Bool) (h out-headword out-text : List ℕ) → T (areBytes s) → WalkRows s L above h out-headword out-text
@@ -100,5 +103,5 @@ pub record FirstNumbers : Type 0 where
 
 -- names all definitions of this module: who unfolds it unfolds them
 unfoldable pub open-call-rows : Unit {0}
-unfolding ImageRows CreateRows CheckRows change-numbers
+unfolding ImageRows CheckRows change-numbers
 open-call-rows = tt

@@ -1,4 +1,4 @@
--- Cases of our own beside document 01's examples: rows with literal answers and literal bytes for every call and every refusal.
+-- Cases of our own beside document 01's examples: rows with literal answers and literal bytes for every call, every refusal and both kinds of file.
 use Prim.Native.Nat.{ℕ}
 use mathlib.Core.Bool.{Bool, true, false, _&&_}
 use mathlib.Core.List.{List, [], _∷_, _++_, map}
@@ -12,14 +12,15 @@ use Rattle.spec.specs.declared.DeleteAnswer.{DeleteAnswer}
 use Rattle.spec.specs.Ascii.{ascii}
 use Rattle.spec.specs.Lists.{all}
 use Rattle.spec.specs.Bytes.{bytes-at, bytes-equal, zeros}
-use Rattle.spec.specs.Header.{format4}
+use Rattle.spec.specs.Header.{new-image, format-of}
 use Rattle.spec.specs.Run.{Run}
 use Rattle.spec.specs.Check.{image-in}
 use Rattle.spec.specs.Place.{Grown, grown}
 use Rattle.spec.specs.Calls.{create, check, look-up, walk}
 use Rattle.spec.specs.Answers.{length-answer, check-answer, look-up-answer, walk-answer, delete-answer, code, code-or-absent, lent-number, lent-number-or-absent, open-answers}
 use Rattle.spec.specs.Listing.{listing, column}
-use Rattle.spec.specs.Play.{t, refusal, lent, Step, ins, ins-as, del, opt, store, State, play, step, step-with, empty, told-length, told-removed, told-figures, told-text, told-entry, index-blocks-of, runs-at, free-at}
+use Rattle.spec.specs.declared.NewFile.{NewFile}
+use Rattle.spec.specs.Play.{t, refusal, lent, Step, ins, ins-as, del, opt, store, State, play, step, step-with, file4, file5, empty, told-length, told-removed, told-figures, told-text, told-entry, index-blocks-of, runs-at, free-at}
 
 -- What is seen of a slice with an image in it. An answer is told as numbers: a refusal as `refusal` writes it, nothing for absent.
 pub data Probe : Type 0 where
@@ -69,24 +70,26 @@ probe-holds q (prints x) = bytes-equal (listing (take (q .L) (q .slice))) x
 
 -- a row of the table
 pub data Case : Type 0 where
-  -- create on a slice answers so, and leaves the slice so
-  creates : List ℕ → List ℕ → List ℕ → Case
+  -- create of such a file on a slice answers so, and leaves the slice so
+  creates : NewFile → List ℕ → List ℕ → List ℕ → Case
   -- the program prints these bytes for this input
   lists : List ℕ → List ℕ → Case
-  -- the format's bytes of header and of a block number, most data blocks, and bytes of a part
-  formats : List ℕ → Case
+  -- the bytes of header and of a block number, most data blocks, and bytes of a part, of a file that is created so
+  formats : NewFile → List ℕ → Case
   -- these numbers are these
   gives : List ℕ → List ℕ → Case
-  -- what is seen of a slice of so many bytes after these steps from empty
-  after : ℕ → List Step → List Probe → Case
+  -- what is seen of a slice of so many bytes after these steps from such a file, empty
+  after : NewFile → ℕ → List Step → List Probe → Case
 
 -- whether a row holds
 unfoldable pub case-holds : Case → Bool
-case-holds (creates s told s′) = let r = create s in bytes-equal (told-length (r .answer)) told && bytes-equal (r .image) s′
+case-holds (creates k s told s′) = let r = create s k in bytes-equal (told-length (r .answer)) told && bytes-equal (r .image) s′
 case-holds (lists s x) = bytes-equal (listing s) x
-case-holds (formats x) = bytes-equal (format4 .header-bytes ∷ format4 .number-width ∷ format4 .most-blocks ∷ format4 .run-limit ∷ []) x
+case-holds (formats k x) =
+    let F = format-of (new-image k) in
+    bytes-equal (F .header-bytes ∷ F .number-width ∷ F .most-blocks ∷ F .run-limit ∷ []) x
 case-holds (gives x y) = bytes-equal x y
-case-holds (after n cs ps) = let q = play (empty n) cs in all (probe-holds q) ps
+case-holds (after k n cs ps) = let q = play (empty k n) cs in all (probe-holds q) ps
 
 -- P3's calls, the second entry with the attribute 0xE5
 unfoldable pub two-entries : List Step
@@ -173,8 +176,10 @@ check-probes =
     ∷ checks 767 (refusal 1)
     ∷ checks 1_024 (refusal 1)
     -- 3: high version byte, block_size, header_size, attrlen
-    ∷ patched 141 (5 ∷ []) (checks 768 (refusal 3))
+    ∷ patched 141 (6 ∷ []) (checks 768 (refusal 3))
     ∷ patched 141 (0x84 ∷ []) (checks 768 (refusal 3))
+    -- read as version 5, this header has an extheader
+    ∷ patched 141 (5 ∷ []) (checks 768 (refusal 4))
     ∷ patched 147 (2 ∷ []) (checks 768 (refusal 3))
     ∷ patched 150 (1 ∷ []) (checks 768 (refusal 3))
     ∷ patched 166 (0 ∷ []) (checks 768 (refusal 3))
@@ -221,11 +226,11 @@ check-probes =
     -- two faults: the first row is given
     ∷ with-length 767 (looks-up [] [] (refusal 1) [])
     ∷ with-length 767 (walks false (t 249) [] [] (refusal 1) [] [])
-    ∷ patched 141 (5 ∷ []) (looks-up [] [] (refusal 3) [])
+    ∷ patched 141 (6 ∷ []) (looks-up [] [] (refusal 3) [])
     ∷ patched 160 (3 ∷ []) (looks-up [] [] (refusal 10) [])
-    ∷ patched 141 (5 ∷ []) (walks false (t 249) [] [] (refusal 3) [] [])
+    ∷ patched 141 (6 ∷ []) (walks false (t 249) [] [] (refusal 3) [] [])
     ∷ patched 160 (3 ∷ []) (walks false (t 249) [] [] (refusal 10) [] [])
-    ∷ patched 141 (5 ∷ []) (patched 164 (1 ∷ []) (checks 768 (refusal 3)))
+    ∷ patched 141 (6 ∷ []) (patched 164 (1 ∷ []) (checks 768 (refusal 3)))
     ∷ patched 164 (1 ∷ []) (patched 148 (3 ∷ []) (checks 768 (refusal 4)))
     ∷ patched 148 (3 ∷ []) (patched 258 (0 ∷ []) (checks 768 (refusal 5)))
     ∷ patched 258 (0 ∷ []) (patched 512 (0 ∷ []) (checks 768 (refusal 6)))
@@ -302,8 +307,8 @@ walk-probes =
 -- changing calls refused on P3's image, and what they leave: 2 keeps the working slice, 3 to 15 zero it, and so does an absent deletion
 unfoldable pub refusal-probes : List Probe
 refusal-probes =
-    patched 141 (5 ∷ []) (keeps (lent 767) (ins (ascii "A") []) (refusal 2) (lent 767))
-    ∷ patched 141 (5 ∷ []) (keeps (lent 768) (ins (ascii "A") []) (refusal 3) (zeros 768))
+    patched 141 (6 ∷ []) (keeps (lent 767) (ins (ascii "A") []) (refusal 2) (lent 767))
+    ∷ patched 141 (6 ∷ []) (keeps (lent 768) (ins (ascii "A") []) (refusal 3) (zeros 768))
     ∷ patched 164 (1 ∷ []) (keeps (lent 768) opt (refusal 4) (zeros 768))
     ∷ patched 148 (3 ∷ []) (keeps (lent 768) opt (refusal 5) (zeros 768))
     ∷ patched 258 (0 ∷ []) (keeps (lent 768) opt (refusal 6) (zeros 768))
@@ -320,7 +325,7 @@ refusal-probes =
     ∷ patched 160 (3 ∷ []) (keeps (lent 768) (ins-as (ascii "A") 0x90 []) (refusal 10) (zeros 768))
     ∷ patched 160 (3 ∷ []) (keeps (lent 768) (del []) (refusal 10) (zeros 768))
     ∷ patched 160 (3 ∷ []) (patched 140 (16 ∷ []) (keeps (lent 768) opt (refusal 10) (zeros 768)))
-    ∷ patched 141 (5 ∷ []) (patched 140 (16 ∷ []) (keeps (lent 768) opt (refusal 3) (zeros 768)))
+    ∷ patched 141 (6 ∷ []) (patched 140 (16 ∷ []) (keeps (lent 768) opt (refusal 3) (zeros 768)))
     ∷ with-length 767 (keeps (lent 5) opt (refusal 1) (lent 5))
     ∷ with-length 1_024 (keeps (lent 768) (del (ascii "ABC")) (refusal 1) (lent 768))
     ∷ keeps (lent 768) (ins-as [] 0x90 []) (refusal 12) (zeros 768)
@@ -368,44 +373,105 @@ free-probes =
     ∷ patched 769 (1 ∷ []) (checks 1_792 (refusal 9))
     ∷ []
 
+-- a new file of another version, with an identifier
+unfoldable pub file-of : ℕ → ℕ → NewFile
+file-of v ident = record { version = v; identifier = ident }
+
+-- version 5: create's header up to attrlen, with this many index blocks and entries
+unfoldable pub front5 : ℕ → ℕ → List ℕ
+front5 blocks words =
+    zeros 141 ++ (5 ∷ 248 ∷ 0 ∷ 0xB8 ∷ 0x0B ∷ 0 ∷ 1 ∷ blocks ∷ 0 ∷ 0 ∷ 1 ∷ 0 ∷ 0 ∷ 0xFF ∷ 0xFF ∷ []) ++ zeros 4 ++ (words ∷ []) ++ zeros 5 ++ (1 ∷ [])
+
+-- create's whole header in version 5, with an identifier's eight bytes
+unfoldable pub empty5 : List ℕ → List ℕ
+empty5 ident = front5 0 0 ++ zeros 21 ++ (0xFF ∷ 0xFF ∷ 0xFF ∷ 0xFF ∷ []) ++ zeros 24 ++ ident ++ zeros 32
+
+-- the identifier of `file5`, low byte first
+unfoldable pub ident5 : List ℕ
+ident5 = 0x11 ∷ 0x22 ∷ 0x33 ∷ 0x44 ∷ 0x55 ∷ 0x66 ∷ 0x77 ∷ 0x88 ∷ []
+
+-- P3's image in version 5: its header, the versions, and each moved field at its new place and at its old
+unfoldable pub version-probes : List Probe
+version-probes =
+    checks 768 (2 ∷ 1 ∷ 1 ∷ 0 ∷ [])
+    ∷ stores 0 (front5 1 2 ++ zeros 21 ++ (0xFF ∷ 0xFF ∷ 0xFF ∷ 0xFF ∷ 1 ∷ 0 ∷ 0 ∷ 0 ∷ 1 ∷ []) ++ zeros 11 ++ (2 ∷ []) ++ zeros 7 ++ ident5 ++ zeros 32)
+    -- 3: 6, 3 and 0x85; read as version 4, this header has too many elements
+    ∷ patched 141 (6 ∷ []) (checks 768 (refusal 3))
+    ∷ patched 141 (3 ∷ []) (checks 768 (refusal 3))
+    ∷ patched 141 (0x85 ∷ []) (checks 768 (refusal 3))
+    ∷ patched 141 (4 ∷ []) (checks 768 (refusal 6))
+    -- a low byte of 16 may be read, and 15 changed
+    ∷ patched 140 (16 ∷ []) (checks 768 (2 ∷ 1 ∷ 1 ∷ 0 ∷ []))
+    ∷ patched 140 (16 ∷ []) (keeps (lent 768) (del (ascii "ABC")) (refusal 11) (zeros 768))
+    ∷ patched 140 (15 ∷ []) (works (lent 768) opt (768 ∷ []) (zeros 768))
+    -- 4: os, index_blkbit, the first and the last byte of extheader; nothing at the old os, nor between index_blkbit and extheader
+    ∷ patched 167 (1 ∷ []) (checks 768 (refusal 4))
+    ∷ patched 171 (1 ∷ []) (checks 768 (2 ∷ 1 ∷ 1 ∷ 0 ∷ []))
+    ∷ patched 182 (1 ∷ []) (checks 768 (refusal 4))
+    ∷ patched 183 (1 ∷ []) (checks 768 (2 ∷ 1 ∷ 1 ∷ 0 ∷ []))
+    ∷ patched 184 (1 ∷ []) (checks 768 (refusal 4))
+    ∷ patched 187 (1 ∷ []) (checks 768 (refusal 4))
+    -- 9, 6, 10: empty_block2, nindex2, nblock2, and its last two bytes, of which version 4 has the one as index_blkbit and does not test the other
+    ∷ patched 188 (0 ∷ 0 ∷ 0 ∷ 0 ∷ []) (checks 768 (refusal 9))
+    ∷ patched 192 (2 ∷ []) (checks 768 (refusal 6))
+    ∷ patched 196 (2 ∷ []) (checks 768 (refusal 10))
+    ∷ patched 198 (1 ∷ []) (checks 768 (refusal 10))
+    ∷ patched 199 (1 ∷ []) (checks 768 (refusal 10))
+    -- the identifier may be anything
+    ∷ patched 216 (lent 8) (checks 768 (2 ∷ 1 ∷ 1 ∷ 0 ∷ []))
+    ∷ looks-up (ascii "ABC") (lent 5) (128 ∷ 3 ∷ []) (ascii "one" ++ lent 2)
+    ∷ []
+
+-- version 5: another program's bytes in all header bytes that no refusal names
+unfoldable pub strange-header5 : List Step
+strange-header5 =
+    store 0 (lent 140) ∷ store 142 (lent 4) ∷ store 152 (lent 8) ∷ store 168 (lent 14) ∷ store 183 (lent 1) ∷ store 200 (lent 56) ∷ []
+
+-- the same header after a change of P3's image: update_count is one higher, all else of it is kept
+unfoldable pub strange-bytes5 : List ℕ
+strange-bytes5 =
+    lent 140 ++ (0 ∷ 5 ∷ []) ++ lent 4 ++ (0 ∷ 1 ∷ 1 ∷ 0 ∷ 0 ∷ 1 ∷ []) ++ lent 8 ++ (2 ∷ 0 ∷ 0 ∷ 0 ∷ 0 ∷ 0 ∷ 1 ∷ 0 ∷ []) ++ lent 14 ++ (0 ∷ []) ++ lent 1
+    ++ zeros 4 ++ (0xFF ∷ 0xFF ∷ 0xFF ∷ 0xFF ∷ 1 ∷ 0 ∷ 0 ∷ 0 ∷ 1 ∷ 0 ∷ 0 ∷ 0 ∷ []) ++ lent 8 ++ (0xAB ∷ []) ++ lent 47
+
 -- all cases
 unfoldable pub cases : List Case
 cases =
     -- a slice too small, and one of 258 bytes: what stands past 256 is kept
-    creates (lent 255) (refusal 1) (lent 255)
-    ∷ creates (lent 258) (256 ∷ []) (zeros 141 ++ (4 ∷ 248 ∷ 0 ∷ 0xB8 ∷ 0x0B ∷ 0 ∷ 1 ∷ 0 ∷ 0 ∷ 0 ∷ 1 ∷ 0 ∷ 0 ∷ 0xFF ∷ 0xFF ∷ []) ++ zeros 10 ++ (1 ∷ [])
+    creates file4 (lent 255) (refusal 1) (lent 255)
+    ∷ creates file4 (lent 258) (256 ∷ []) (zeros 141 ++ (4 ∷ 248 ∷ 0 ∷ 0xB8 ∷ 0x0B ∷ 0 ∷ 1 ∷ 0 ∷ 0 ∷ 0 ∷ 1 ∷ 0 ∷ 0 ∷ 0xFF ∷ 0xFF ∷ []) ++ zeros 10 ++ (1 ∷ [])
     ++ zeros 19 ++ (0xFF ∷ 0xFF ∷ 0xFF ∷ 0xFF ∷ []) ++ zeros 66 ++ lent 2)
-    ∷ after 256 [] (checks 256 (0 ∷ 0 ∷ 0 ∷ 0 ∷ []) ∷ looks-up (ascii "ABC") (lent 3) [] (lent 3) ∷ prints (ascii "     0     0     0     0\n") ∷ [])
-    ∷ after 768 two-entries (check-probes ++ look-up-probes ++ walk-probes ++ refusal-probes ++ bytes-probes)
-    ∷ after 768 (two-entries ++ store 208 (0xFF ∷ 0xFF ∷ 0xFF ∷ 0xFF ∷ []) ∷ del (ascii "ABC") ∷ []) deleted-probes
+    ∷ after file4 256 [] (checks 256 (0 ∷ 0 ∷ 0 ∷ 0 ∷ []) ∷ looks-up (ascii "ABC") (lent 3) [] (lent 3) ∷ prints (ascii "     0     0     0     0\n") ∷ [])
+    ∷ after file4 768 two-entries (check-probes ++ look-up-probes ++ walk-probes ++ refusal-probes ++ bytes-probes)
+    ∷ after file4 768 (two-entries ++ store 208 (0xFF ∷ 0xFF ∷ 0xFF ∷ 0xFF ∷ []) ∷ del (ascii "ABC") ∷ []) deleted-probes
     -- the working slice is measured by the whole image slice, not by L
-    ∷ after 770 two-entries (keeps (lent 769) opt (refusal 2) (lent 769) ∷ works (lent 770) opt (768 ∷ []) (zeros 770) ∷ stores 768 (lent 2) ∷ [])
+    ∷ after file4 770 two-entries (keeps (lent 769) opt (refusal 2) (lent 769) ∷ works (lent 770) opt (768 ∷ []) (zeros 770) ∷ stores 768 (lent 2) ∷ [])
     -- header bytes that no refusal names are not tested, and a change keeps them
-    ∷ after 768 (two-entries ++ strange-header ++ ins (ascii "ABC") (ascii "one") ∷ []) (checks 768 (2 ∷ 1 ∷ 1 ∷ 0 ∷ []) ∷ stores 0 strange-bytes ∷ [])
+    ∷ after file4 768 (two-entries ++ strange-header ++ ins (ascii "ABC") (ascii "one") ∷ []) (checks 768 (2 ∷ 1 ∷ 1 ∷ 0 ∷ []) ∷ stores 0 strange-bytes ∷ [])
     -- optimise keeps the bytes of a run
-    ∷ after 768 (two-entries ++ store 525 strange-entry ∷ opt ∷ []) (stores 525 strange-entry ∷ [])
+    ∷ after file4 768 (two-entries ++ store 525 strange-entry ∷ opt ∷ []) (stores 525 strange-entry ∷ [])
     -- the longest front
-    ∷ after 1_280 (ins (t 247) [] ∷ ins (t 248) [] ∷ []) (stores 1_022 (3 ∷ 0 ∷ 247 ∷ 97 ∷ 0 ∷ 128 ∷ 0 ∷ 0 ∷ []) ∷ [])
+    ∷ after file4 1_280 (ins (t 247) [] ∷ ins (t 248) [] ∷ []) (stores 1_022 (3 ∷ 0 ∷ 247 ∷ 97 ∷ 0 ∷ 128 ∷ 0 ∷ 0 ∷ []) ∷ [])
     -- two elements of 252 bytes together and four zero bytes fill one index block
-    ∷ after 2_304 (ins (ascii "a") (t 600) ∷ ins (replicate 245 98) (t 600) ∷ []) (lays-out (2_304 ∷ []) 1 (0 ∷ 3 ∷ []) [] ∷ [])
+    ∷ after file4 2_304 (ins (ascii "a") (t 600) ∷ ins (replicate 245 98) (t 600) ∷ []) (lays-out (2_304 ∷ []) 1 (0 ∷ 3 ∷ []) [] ∷ [])
     -- a headword between two runs goes into the lower one
-    ∷ after 2_560 (ins (ascii "a") (t 500) ∷ ins (ascii "b") (t 509) ∷ ins (ascii "aa") [] ∷ []) (lays-out (2_560 ∷ []) 1 (5 ∷ 2 ∷ []) (0 ∷ 1 ∷ []) ∷ [])
+    ∷ after file4 2_560 (ins (ascii "a") (t 500) ∷ ins (ascii "b") (t 509) ∷ ins (ascii "aa") [] ∷ []) (lays-out (2_560 ∷ []) 1 (5 ∷ 2 ∷ []) (0 ∷ 1 ∷ []) ∷ [])
     -- unsigned byte order
-    ∷ after 768 (ins (0x83 ∷ 0x41 ∷ []) (ascii "ka") ∷ ins (ascii "Z") (ascii "zed") ∷ []) (walks false [] (lent 2) (lent 3) (128 ∷ 1 ∷ 3 ∷ []) (ascii "Z" ++ lent 1) (ascii "zed") ∷ [])
+    ∷ after file4 768 (ins (0x83 ∷ 0x41 ∷ []) (ascii "ka") ∷ ins (ascii "Z") (ascii "zed") ∷ []) (walks false [] (lent 2) (lent 3) (128 ∷ 1 ∷ 3 ∷ []) (ascii "Z" ++ lent 1) (ascii "zed") ∷ [])
     -- the last entry deleted: its block is free, the index keeps its block; optimise leaves the header
-    ∷ after 768 (ins (ascii "ABC") (ascii "one") ∷ del (ascii "ABC") ∷ []) (lays-out (768 ∷ []) 1 [] (0 ∷ []) ∷ works (lent 768) opt (256 ∷ []) (zeros 768) ∷ [])
-    ∷ after 1_792 (ins (ascii "a") (t 500) ∷ ins (ascii "b") (t 509) ∷ []) run-probes
-    ∷ after 1_280 (ins (ascii "a") [] ∷ ins (t 248) [] ∷ []) long-headword-probes
-    ∷ after 3_584 (ins (ascii "a") (t 3_000) ∷ []) long-text-probes
+    ∷ after file4 768 (ins (ascii "ABC") (ascii "one") ∷ del (ascii "ABC") ∷ []) (lays-out (768 ∷ []) 1 [] (0 ∷ []) ∷ works (lent 768) opt (256 ∷ []) (zeros 768) ∷ [])
+    ∷ after file4 1_792 (ins (ascii "a") (t 500) ∷ ins (ascii "b") (t 509) ∷ []) run-probes
+    ∷ after file4 1_280 (ins (ascii "a") [] ∷ ins (t 248) [] ∷ []) long-headword-probes
+    ∷ after file4 3_584 (ins (ascii "a") (t 3_000) ∷ []) long-text-probes
     -- zeros inside a printed number
-    ∷ after 1_536 (ins (ascii "a") (t 1_005) ∷ []) (prints (ascii "     1     1     4     0\n     1     0     4 128  1005 a\n") ∷ [])
+    ∷ after file4 1_536 (ins (ascii "a") (t 1_005) ∷ []) (prints (ascii "     1     1     4     0\n     1     0     4 128  1005 a\n") ∷ [])
     -- an input of 65,536 bytes is read, a longer one is 1
     ∷ lists [] (ascii "refused   1\n")
     ∷ lists (zeros 65_536) (ascii "refused   3\n")
     ∷ lists (zeros 65_792) (ascii "refused   1\n")
     -- six columns
     ∷ gives (column 6 65_536) (ascii " 65536")
-    ∷ formats (256 ∷ 2 ∷ 65_536 ∷ 1_024 ∷ [])
+    ∷ formats file4 (256 ∷ 2 ∷ 65_536 ∷ 1_024 ∷ [])
+    ∷ formats file5 (256 ∷ 2 ∷ 65_536 ∷ 1_024 ∷ [])
     -- the engine's answers and the C codes
     ∷ gives (told-length (length-answer (LengthAnswer.Done 256)) ++ told-length (length-answer (LengthAnswer.Refused 15))) (256 ∷ 0 ∷ 15 ∷ [])
     ∷ gives (told-figures (check-answer (CheckAnswer.Counted 1 2 3 4)) ++ told-figures (check-answer (CheckAnswer.Refused 9))) (1 ∷ 2 ∷ 3 ∷ 4 ∷ 0 ∷ 9 ∷ [])
@@ -422,20 +488,38 @@ cases =
     ∷ lent-number-or-absent (λ f. f .text-length) 77 (look-up-answer (LookUpAnswer.Refused 14))
     ∷ [])
     (2 ∷ 77 ∷ 77 ∷ [])
-    ∷ after 1_792 two-free free-probes
+    ∷ after file4 1_792 two-free free-probes
     -- optimise: zeros from the new L, 1,280, to the old, 1,792; what stands past the old is kept
-    ∷ after 1_794 (two-free ++ store 1_792 (7 ∷ 8 ∷ []) ∷ opt ∷ []) (stores 1_278 (0 ∷ 0 ∷ zeros 512 ++ 7 ∷ 8 ∷ []) ∷ [])
+    ∷ after file4 1_794 (two-free ++ store 1_792 (7 ∷ 8 ∷ []) ∷ opt ∷ []) (stores 1_278 (0 ∷ 0 ∷ zeros 512 ++ 7 ∷ 8 ∷ []) ∷ [])
     -- what a deletion leaves is cut too
-    ∷ after 1_792 long-run (lays-out (1_792 ∷ []) 1 (0 ∷ 2 ∷ []) [] ∷ [])
+    ∷ after file4 1_792 long-run (lays-out (1_792 ∷ []) 1 (0 ∷ 2 ∷ []) [] ∷ [])
     -- a growth by one: the run at block 0 is moved, the one at block 1 stays
-    ∷ after 3_328 (ins (ascii "c") (t 100) ∷ ins (ascii "b") (t 1_000) ∷ ins (t 248) [] ∷ ins (replicate 248 98) [] ∷ []) (lays-out (3_328 ∷ []) 3 (0 ∷ 3 ∷ 7 ∷ 2 ∷ []) [] ∷ [])
+    ∷ after file4 3_328 (ins (ascii "c") (t 100) ∷ ins (ascii "b") (t 1_000) ∷ ins (t 248) [] ∷ ins (replicate 248 98) [] ∷ []) (lays-out (3_328 ∷ []) 3 (0 ∷ 3 ∷ 7 ∷ 2 ∷ []) [] ∷ [])
     -- "If it must grow by g and D is below g, D becomes g.": g is 3 and D 2, so the run at 0 goes to 3, that at 1 to 4, and D to 5; then all fall by 3
     ∷ gives (told-grown (grown 3 2 (one-block 1 ∷ []) (one-block 0 ∷ []))) (1 ∷ 0 ∷ 2 ∷ [])
     -- the lowest of three free extents of one length
-    ∷ after 4_352 equal-extents (lays-out (4_352 ∷ []) 1 (3 ∷ 9 ∷ 0 ∷ []) (6 ∷ 7 ∷ 8 ∷ 12 ∷ 13 ∷ 14 ∷ []) ∷ [])
+    ∷ after file4 4_352 equal-extents (lays-out (4_352 ∷ []) 1 (3 ∷ 9 ∷ 0 ∷ []) (6 ∷ 7 ∷ 8 ∷ 12 ∷ 13 ∷ 14 ∷ []) ∷ [])
     -- a growth by two with two moved runs: the runs, empty_block2 to nblock2, the last bytes of a moved run, and a link of the free list
-    ∷ after 4_352 two-moved (lays-out (4_352 ∷ []) 3 (1 ∷ 0 ∷ 3 ∷ 8 ∷ 4 ∷ []) (6 ∷ 7 ∷ []) ∷ stores 186 (6 ∷ 0 ∷ 0 ∷ 0 ∷ 5 ∷ 0 ∷ 0 ∷ 0 ∷ 11 ∷ 0 ∷ 0 ∷ 0 ∷ [])
+    ∷ after file4 4_352 two-moved (lays-out (4_352 ∷ []) 3 (1 ∷ 0 ∷ 3 ∷ 8 ∷ 4 ∷ []) (6 ∷ 7 ∷ []) ∷ stores 186 (6 ∷ 0 ∷ 0 ∷ 0 ∷ 5 ∷ 0 ∷ 0 ∷ 0 ∷ 11 ∷ 0 ∷ 0 ∷ 0 ∷ [])
     ∷ stores 1_278 (9 ∷ 9 ∷ []) ∷ stores 2_560 (0 ∷ 0 ∷ 7 ∷ 0 ∷ 0 ∷ 0 ∷ []) ∷ [])
+    -- create: another version is 3, but 1 comes before; a file of version 5 with identifiers 0, 1 and 2^64 - 1, and low byte first
+    ∷ creates (file-of 6 1) (lent 255) (refusal 1) (lent 255)
+    ∷ creates (file-of 6 1) (lent 256) (refusal 3) (lent 256)
+    ∷ creates (file-of 3 1) (lent 258) (refusal 3) (lent 258)
+    ∷ creates (file-of 0x85 1) (lent 256) (refusal 3) (lent 256)
+    ∷ creates file5 (lent 255) (refusal 1) (lent 255)
+    ∷ creates file5 (lent 258) (256 ∷ []) (empty5 ident5 ++ lent 2)
+    ∷ creates (file-of 5 0) (lent 256) (256 ∷ []) (empty5 (zeros 8))
+    ∷ creates (file-of 5 1) (lent 256) (256 ∷ []) (empty5 (1 ∷ zeros 7))
+    ∷ creates (file-of 5 0xFFFFFFFFFFFFFFFF) (lent 256) (256 ∷ []) (empty5 (replicate 8 0xFF))
+    ∷ after file5 256 [] (checks 256 (0 ∷ 0 ∷ 0 ∷ 0 ∷ []) ∷ prints (ascii "     0     0     0     0\n") ∷ [])
+    ∷ after file5 768 two-entries version-probes
+    ∷ after file5 768 (two-entries ++ strange-header5 ++ ins (ascii "ABC") (ascii "one") ∷ []) (checks 768 (2 ∷ 1 ∷ 1 ∷ 0 ∷ []) ∷ stores 0 strange-bytes5 ∷ [])
+    -- a growth by two, and an optimising, in version 5
+    ∷ after file5 4_352 two-moved (lays-out (4_352 ∷ []) 3 (1 ∷ 0 ∷ 3 ∷ 8 ∷ 4 ∷ []) (6 ∷ 7 ∷ []) ∷ stores 184 (zeros 4 ++ 6 ∷ 0 ∷ 0 ∷ 0 ∷ 5 ∷ 0 ∷ 0 ∷ 0 ∷ 11 ∷ 0 ∷ 0 ∷ 0 ∷ [])
+    ∷ stores 216 ident5 ∷ [])
+    ∷ after file5 1_794 (two-free ++ store 1_792 (7 ∷ 8 ∷ []) ∷ opt ∷ []) (stores 1_278 (0 ∷ 0 ∷ zeros 512 ++ 7 ∷ 8 ∷ []) ∷ stores 188 (0xFF ∷ 0xFF ∷ 0xFF ∷ 0xFF ∷ 1 ∷ [])
+    ∷ stores 216 ident5 ∷ [])
     ∷ []
 
 -- THE THEOREM: every row holds
@@ -444,7 +528,8 @@ CasesHold = T (all case-holds cases)
 
 -- names all definitions of this module: who unfolds it unfolds them
 unfoldable pub open-cases : Unit {0}
-unfolding open-answers probe-holds case-holds strange-header strange-bytes strange-entry two-entries two-free xq xr two-moved long-run equal-extents one-block
+unfolding open-answers probe-holds case-holds file-of front5 empty5 ident5 version-probes strange-header5 strange-bytes5 strange-header strange-bytes
+    strange-entry two-entries two-free xq xr two-moved long-run equal-extents one-block
     told-grown check-probes run-probes long-headword-probes long-text-probes look-up-probes walk-probes refusal-probes bytes-probes deleted-probes free-probes
     cases CasesHold
 open-cases = tt

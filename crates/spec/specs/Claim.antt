@@ -323,6 +323,18 @@ SortedListClaim =
     (s : List ℕ) (L : ℕ) (i : Image) → T (areBytes s) → image-in s L ≡ ok i
     → (cs : List Call) → T (all call-bytes cs) → History (i .frame .format .below) s L (entries-of i) cs
 
+-- the slice after a list of calls, each given the length last returned
+unfoldable pub slice-after-all : List ℕ → ℕ → List Call → List ℕ
+slice-after-all s L [] = s
+slice-after-all s L (c ∷ cs) = slice-after-all (perform s L c .image) (perform s L c .length-after) cs
+
+-- "the eight bytes at 216 identify the dictionary and no call alters them": after any list of calls they are those before, in a file of
+-- version 5, and in one of version 4, where they identify nothing
+unfoldable pub IdentifierKept : Type 0
+IdentifierKept =
+    (s : List ℕ) (L : ℕ) (i : Image) → T (areBytes s) → image-in s L ≡ ok i
+    → (cs : List Call) → T (all call-bytes cs) → bytes-at 216 8 (slice-after-all s L cs) ≡ bytes-at 216 8 s
+
 -- "Arguments and slices are good when 1, 2, 12 and 13 do not apply; a version is writable when 11 does not.": 2, 11 and 12; 1 does not apply to an accepted image, and 13 is the insertion's own
 unfoldable pub good-change : List ℕ → Image → List ℕ → List ℕ → Bool
 good-change s i work h = leb (length s) (length work) && writable (i .frame .format .layout) s && headword-ok h
@@ -351,5 +363,5 @@ OptimiseDone =
 unfoldable pub open-claim : Unit {0}
 unfolding tell-text tell-entry tell-removed list-answer list-after list-step new-length new-length-or observed-text observed-entry observed-done
     observed-removed perform is-refused _if_ first-row too-short short-for-text short-for-entry is-there insert-placing delete-placing optimise-placing rows
-    expected slice-after slice-kept is-change next-count Zeroed History call-bytes SortedListClaim good-change InsertRefused DeleteRefused OptimiseDone
+    expected slice-after slice-kept is-change next-count Zeroed History call-bytes SortedListClaim slice-after-all IdentifierKept good-change InsertRefused DeleteRefused OptimiseDone
 open-claim = tt

@@ -1,4 +1,4 @@
--- P1 to P10 of document 01, "Examples, and the printed list", as rows of one table.
+-- P1 to P10 of document 01, "Examples, and the printed list", as rows of one table, for both kinds of file.
 use Prim.Native.Nat.{ℕ}
 use mathlib.Core.Bool.{Bool, true, false, _&&_}
 use mathlib.Core.List.{List, [], _∷_, map}
@@ -7,13 +7,14 @@ use lib.Dec.{T, eqb}
 use Rattle.spec.specs.Ascii.{ascii}
 use Rattle.spec.specs.Lists.{all}
 use Rattle.spec.specs.Bytes.{bytes-equal}
-use Rattle.spec.specs.Header.{format4}
+use Rattle.spec.specs.Header.{new-image, format-of}
 use Rattle.spec.specs.Entry.{Entry, shared-front, headword-suffix}
 use Rattle.spec.specs.Run.{encoded-size, run-size}
 use Rattle.spec.specs.Check.{image-in}
 use Rattle.spec.specs.Place.{cut}
 use Rattle.spec.specs.Listing.{listing}
-use Rattle.spec.specs.Play.{t, entry, refusal, Step, ins, del, opt, play, empty, index-blocks-of, runs-at, free-at}
+use Rattle.spec.specs.Play.{t, entry, refusal, Step, ins, del, opt, play, file4, file5, empty, index-blocks-of, runs-at, free-at}
+use Rattle.spec.specs.declared.NewFile.{NewFile}
 
 -- a row of the table
 pub data Example : Type 0 where
@@ -35,16 +36,16 @@ fronts-are prev (h ∷ hs) [] rs = false
 fronts-are prev (h ∷ hs) (f ∷ fs) [] = false
 fronts-are prev (h ∷ hs) (f ∷ fs) (r ∷ rs) = eqb (shared-front prev h) f && bytes-equal (headword-suffix prev h) r && fronts-are h hs fs rs
 
--- whether a row holds
-unfoldable pub example-holds : Example → Bool
-example-holds (fronts hs fs rs) = fronts-are [] hs fs rs
-example-holds (parts es n bs) = eqb (encoded-size es) n && bytes-equal (map run-size (cut (format4 .run-limit) es)) bs
-example-holds (calls n cs told ib rs fs) =
-    let q = play (empty n) cs in
+-- whether a row holds of files that are created so
+unfoldable pub example-holds : NewFile → Example → Bool
+example-holds k (fronts hs fs rs) = fronts-are [] hs fs rs
+example-holds k (parts es n bs) = eqb (encoded-size es) n && bytes-equal (map run-size (cut (format-of (new-image k) .run-limit) es)) bs
+example-holds k (calls n cs told ib rs fs) =
+    let q = play (empty k n) cs in
     let i = image-in (q .slice) (q .L) in
     bytes-equal (q .told) told && eqb (index-blocks-of i) ib && bytes-equal (runs-at i) rs && bytes-equal (free-at i) fs
-example-holds (prints n cs x) =
-    let q = play (empty n) cs in
+example-holds k (prints n cs x) =
+    let q = play (empty k n) cs in
     bytes-equal (listing (take (q .L) (q .slice))) x
 
 -- the document's printed list after P3
@@ -92,9 +93,9 @@ examples =
     ∷ calls 4_096 (ins letter-a (t 3_001) ∷ []) (refusal 13) 0 [] []
     ∷ []
 
--- THE THEOREM: every row holds
+-- THE THEOREM: every row holds of either kind. "What was said of entries and answers then covers both kinds of file."
 unfoldable pub ExamplesHold : Type 0
-ExamplesHold = T (all example-holds examples)
+ExamplesHold = T (all (λ k. all (example-holds k) examples) (file4 ∷ file5 ∷ []))
 
 -- names all definitions of this module: who unfolds it unfolds them
 unfoldable pub open-examples : Unit {0}

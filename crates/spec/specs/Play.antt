@@ -9,6 +9,7 @@ use Rattle.spec.specs.Entry.{Entry, entry-of}
 use Rattle.spec.specs.Check.{Image}
 use Rattle.spec.specs.Calls.{ChangeResult, Figures, FoundText, FoundEntry, create, insert, delete, optimise}
 use Rattle.spec.specs.Claim.{new-length, new-length-or}
+use Rattle.spec.specs.declared.NewFile.{NewFile}
 
 -- "Text of n letters is written t(n)": letters a
 unfoldable pub t : ℕ → List ℕ
@@ -98,9 +99,17 @@ play q (c ∷ cs) = play (step q c) cs
 unfoldable pub lent : ℕ → List ℕ
 lent n = replicate n 0xAA
 
+-- a new file of version 4; what is given as its identifier is not looked at
+unfoldable pub file4 : NewFile
+file4 = record { version = 4; identifier = 0xFFFFFFFFFFFFFFFF }
+
+-- a new file of version 5
+unfoldable pub file5 : NewFile
+file5 = record { version = 5; identifier = 0x8877665544332211 }
+
 -- "From empty": a slice of n bytes after create
-unfoldable pub empty : ℕ → State
-empty n = let r = create (lent n) in record { slice = r .image; L = new-length 0 (r .answer); told = told-length (r .answer); work = [] }
+unfoldable pub empty : NewFile → ℕ → State
+empty k n = let r = create (lent n) k in record { slice = r .image; L = new-length 0 (r .answer); told = told-length (r .answer); work = [] }
 
 -- an image's index blocks
 unfoldable pub index-blocks-of : Outcome Image → ℕ
@@ -119,5 +128,5 @@ free-at (ok i) = i .free-list
 
 -- names all definitions of this module: who unfolds it unfolds them
 unfoldable pub open-play : Unit {0}
-unfolding t entry ins refusal told-length told-removed told-figures told-text told-entry after-change after-delete step-with step play lent empty index-blocks-of runs-at free-at
+unfolding t entry ins refusal told-length told-removed told-figures told-text told-entry after-change after-delete step-with step play lent file4 file5 empty index-blocks-of runs-at free-at
 open-play = tt

@@ -54,6 +54,20 @@ try past-L-touched 'bytes past L changed'
 try create-clears-all 'bytes past L changed'
 try optimise-keeps-bytes 'what was given up is not zero'
 try empty_block-written 'a header byte changed'
+try counts-at-4 'a header byte changed'
+try ident-of-4-cleared 'a header byte changed'
+try ident-altered 'the identifier changed'
+try ident-high-byte-first 'not the bytes of an empty image'
+try ident-for-4 'not the bytes of an empty image'
+try create-always-4 'not the bytes of an empty image'
+try create-takes-6 'another number applies first'
+try create-3-before-1 'another number applies first'
+try create-writes-on-3 'the image slice changed'
+try L-on-3 'an output slice or lent number changed'
+try check-takes-6 "$reader"
+try 5-read-as-4 "$reader"
+try os-of-5-at-171 "$reader"
+try os-of-4-at-167 "$reader"
 try update-twice 'update_count did not rise by one'
 try optimise-drops-first 'the number of headwords is wrong'
 try other-text-changed 'an entry not concerned changed'

@@ -14,7 +14,7 @@ uint32_t right_pdic_look_up(const uint8_t *image, size_t image_size, size_t len,
 uint32_t right_pdic_walk(const uint8_t *image, size_t image_size, size_t len, const uint8_t *headword,
                          size_t headword_size, uint8_t above, uint8_t *headword_out, size_t headword_out_size,
                          uint8_t *text, size_t text_size, uint8_t *attribute, size_t *headword_len, size_t *text_len);
-uint32_t right_pdic_create(uint8_t *image, size_t image_size, size_t *new_len);
+uint32_t right_pdic_create(uint8_t *image, size_t image_size, uint8_t version, uint64_t ident, size_t *new_len);
 uint32_t right_pdic_insert(uint8_t *image, size_t image_size, size_t len, uint8_t *work, size_t work_size,
                            const uint8_t *headword, size_t headword_size, uint8_t attribute, const uint8_t *text,
                            size_t text_size, size_t *new_len);
@@ -35,9 +35,28 @@ static int is(const char *name) {
 /* Reads a byte that may be outside what was lent. */
 static void touch(const volatile uint8_t *p) { (void)*p; }
 
+enum { HIGH_VERSION = 141, IDENT = 216 };
+
+static int is_5(const uint8_t *image) { return image[HIGH_VERSION] == 5; }
+
+/* What a version is taken for by the wrong engines of these names. */
+static uint8_t taken_for(uint8_t version, const char *six_as_5, const char *five_as_4) {
+    if (version == 6 && is(six_as_5)) return 5;
+    return version == 5 && is(five_as_4) ? 4 : version;
+}
+
+/* Row 4 for the byte that is os in the other version. */
+static int other_os(const uint8_t *image) {
+    return (is("os-of-5-at-171") && is_5(image) && image[171]) || (is("os-of-4-at-167") && !is_5(image) && image[167]);
+}
+
 uint32_t pdic_check(const uint8_t *image, size_t image_size, size_t len, uint64_t *headwords, uint64_t *index_blocks,
                     uint64_t *data_blocks, uint64_t *free_blocks) {
+    uint8_t own = image_size >= 256 ? image[HIGH_VERSION] : 0, taken = taken_for(own, "check-takes-6", "5-read-as-4");
+    if (taken != own) ((uint8_t *)image)[HIGH_VERSION] = taken;
     uint32_t number = right_pdic_check(image, image_size, len, headwords, index_blocks, data_blocks, free_blocks);
+    if (taken != own) ((uint8_t *)image)[HIGH_VERSION] = own;
+    if (number == 0 && other_os(image)) return 4;
     if (number == 0 && is("reads-past-image")) touch(image + image_size);
     if (number == 0 && is("reads-before-image")) touch(image - 1);
     if (number == 0 && is("check-writes-image")) ((uint8_t *)image)[255] ^= 1;
@@ -91,10 +110,15 @@ uint32_t pdic_walk(const uint8_t *image, size_t image_size, size_t len, const ui
     return number;
 }
 
-uint32_t pdic_create(uint8_t *image, size_t image_size, size_t *new_len) {
-    uint32_t number = right_pdic_create(image, image_size, new_len);
+uint32_t pdic_create(uint8_t *image, size_t image_size, uint8_t version, uint64_t ident, size_t *new_len) {
+    if (is("ident-high-byte-first")) ident = __builtin_bswap64(ident);
+    if (image_size < SEED_SLICE) version = taken_for(version, "create-takes-6", "create-always-4");
+    uint32_t number = right_pdic_create(image, image_size, version, ident, new_len);
     if (number == 0 && is("create-clears-all")) memset(image + 256, 0, image_size - 256);
-    return number;
+    if (number == 0 && version == 4 && is("ident-for-4")) memcpy(image + IDENT, &ident, sizeof ident);
+    if (number == 3 && is("create-writes-on-3")) image[0] ^= 1;
+    if (number == 3 && is("L-on-3")) *new_len = 256;
+    return number == 1 && version > 5 && is("create-3-before-1") ? 3 : number;
 }
 
 static void add_one(uint8_t *p) {
@@ -108,15 +132,26 @@ static void spoil_done(uint8_t *image, size_t image_size, size_t *new_len, uint8
     if (is("work-not-zeroed")) work[work_size - 1] = 1;
     if (is("past-L-touched") && *new_len < image_size) image[*new_len] ^= 1;
     if (is("empty_block-written")) image[154] ^= 1;
+    if (is("ident-altered") && is_5(image)) image[IDENT + 7] ^= 1;
+    if (is("ident-of-4-cleared") && !is_5(image)) memset(image + IDENT, 0, 8);
     if (is("update-twice")) add_one(image + 208);
     if (is("L-one-block-more") && *new_len + 256 <= image_size) *new_len += 256;
     if (is("work-decides") && *new_len > 256) image[*new_len - 1] ^= first;
 }
 
-/* The image's first letter t becomes a u: it is of some text. */
+/* The first of the image's first three letters t becomes a u: it is of some text. */
 static void change_text(uint8_t *image, size_t len) {
-    uint8_t *p = memchr(image + 256, 't', len - 256);
-    if (p != NULL) *p = 'u';
+    size_t at = 256;
+    while (at + 3 < len && memcmp(image + at, "ttt", 3) != 0) at++;
+    if (at + 3 < len) image[at] = 'u';
+}
+
+/* Empty_block2, nindex2 and nblock2 of a version 5 image stand where version 4 has them. */
+static void counts_at_4(uint8_t *image, const uint8_t *before) {
+    uint8_t counts[12];
+    memcpy(counts, image + 188, sizeof counts);
+    memcpy(image + 186, before + 186, 14);
+    memcpy(image + 186, counts, sizeof counts);
 }
 
 /* What is spoiled after an insertion: the image before it is known. */
@@ -126,6 +161,7 @@ static uint32_t spoil_inserted(uint8_t *image, const uint8_t *before, size_t ima
         return 15;
     }
     if (number == 0 && is("nword-kept")) memcpy(image + 160, before + 160, 4);
+    if (number == 0 && is("counts-at-4") && is_5(image)) counts_at_4(image, before);
     if (number == 0 && is("other-text-changed")) change_text(image, len);
     if (number == 13 && is("refused-image-touched")) image[0] ^= 1;
     return number == 12 && is("returns-16") ? 16 : number;

@@ -8,6 +8,14 @@ for command in make merge add delete look find list dump check optimise seal; do
     run glossary $command --version 2>/dev/null
 done
 
+note "a value behind an equals sign, or as a word of its own"
+run glossary list --from=washer machinery.dic
+run glossary list --from washer machinery.dic
+run glossary add --wait 0 machinery.dic --attribute 0xA3 horn avertisseur
+run glossary list machinery.dic horn --from
+run glossary add machinery.dic --attribute horn avertisseur
+run glossary add --waiting=0 machinery.dic horn avertisseur
+
 note "what is not understood"
 run glossary
 run glossary add machinery.dic x

@@ -5,6 +5,7 @@ use crate::calls::{self, Answer, Read};
 use crate::editor::{self, Slices, Told};
 use crate::engine::{self, Lent};
 use crate::random::Random;
+use crate::reader::{at, BLOCK};
 use std::fmt::Write;
 
 /// A difference in words.
@@ -14,6 +15,8 @@ pub type Differs = String;
 pub struct Both {
     pub engine: Lent,
     pub ours: Lent,
+    /// The eight bytes that identify a version 5 file.
+    identifier: Option<Vec<u8>>,
     /// For what the other slices hold, and where they lie.
     pub random: Random,
 }
@@ -74,6 +77,14 @@ fn same_lengths(ours: &[usize; 5], engine: &[usize; 5]) -> Result<(), Differs> {
     Err(format!("lengths {:?} instead of {:?}", engine, ours))
 }
 
+/// The eight bytes at 216 of a version 5 file.
+fn identifier(slice: &[u8]) -> Option<&[u8]> {
+    match slice.len() >= BLOCK && slice[at::HIGH_VERSION] == 5 {
+        true => Some(&slice[at::IDENTIFIER..at::IDENTIFIER + 8]),
+        false => None,
+    }
+}
+
 impl Both {
     pub fn new(contents: &[u8], mut random: Random) -> Both {
         let (pattern, shift) = (random.byte(), random.below(16));
@@ -81,6 +92,7 @@ impl Both {
         Both {
             engine: image.clone(),
             ours: image,
+            identifier: identifier(contents).map(|bytes| bytes.to_vec()),
             random,
         }
     }
@@ -109,12 +121,28 @@ impl Both {
         [(); 5].map(|_| self.random.next() as usize)
     }
 
-    /// The number and the image slice, which every call compares.
+    /// The number, the identifier and the image slice, which every call compares.
     fn compare(&self, ours: u32, engine: u32) -> Result<(), Differs> {
         if engine != ours {
             return Err(format!("answers {} instead of {}", engine, ours));
         }
+        self.identified()?;
         same("image slice", &self.ours, &self.engine)
+    }
+
+    /// "the eight bytes at 216 identify the dictionary and no call alters them": the engine's
+    /// are those that the file was lent or created with.
+    fn identified(&self) -> Result<(), Differs> {
+        let now = identifier(self.engine.contents());
+        if now == self.identifier.as_deref() {
+            return Ok(());
+        }
+        let words = |bytes: Option<&[u8]>| bytes.map_or("none".to_string(), hex);
+        Err(format!(
+            "the identifier is {} instead of {}",
+            words(now),
+            words(self.identifier.as_deref())
+        ))
     }
 
     /// Check; gives the answer of both, as the calls below do.
@@ -241,20 +269,28 @@ impl Both {
         })
     }
 
-    pub fn create(&mut self) -> Result<Answer<usize>, Differs> {
+    pub fn create(&mut self, version: u8, ident: u64) -> Result<Answer<usize>, Differs> {
         let mut lengths = self.lengths();
         let mut expected = lengths;
-        let answer = editor::create(self.ours.contents_mut());
+        let answer = editor::create(self.ours.contents_mut(), version, ident);
         if let Answer::Done(new_len) = answer {
             expected[1] = new_len;
+            // "low byte first".
+            self.identifier = (version == 5).then(|| ident.to_le_bytes().to_vec());
         }
-        let number = engine::create(&mut self.engine, &mut lengths);
+        let number = engine::create(&mut self.engine, version, ident, &mut lengths);
         let differs = self
             .compare(answer.number(), number)
             .and(same_lengths(&expected, &lengths));
-        differs
-            .map(|_| answer)
-            .map_err(|differs| format!("create, slice {}: {}", self.ours.size(), differs))
+        differs.map(|_| answer).map_err(|differs| {
+            format!(
+                "create, slice {}, version {}, identifier {:#x}: {}",
+                self.ours.size(),
+                version,
+                ident,
+                differs
+            )
+        })
     }
 
     /// A changing call at `len` with a working slice of `work_size` bytes; what the second

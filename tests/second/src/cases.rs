@@ -2,10 +2,10 @@
 //! depends on the seed and its number alone.
 
 use crate::damage::{flip, Stage, DAMAGES, REGIONS};
-use crate::make::{empty_header, giant, lay_out, put_four, put_two, render, sketch};
-use crate::make::{Kind, Made, GIANTS, KINDS};
+use crate::make::{any_identifier, empty_header, giant, lay_out, put_four, put_two};
+use crate::make::{render, sketch, Kind, Made, GIANTS, KINDS};
 use crate::random::Random;
-use crate::reader::{at, Image, BLOCK};
+use crate::reader::{at, Format, Image, BLOCK, FORMATS};
 
 /// What the making of the image says about it.
 pub enum Expected {
@@ -21,6 +21,8 @@ pub enum Expected {
 pub struct Case {
     /// Its place in KINDS.
     pub kind: usize,
+    /// The format it was made in; a damage may have given it another version.
+    pub format: &'static Format,
     /// Kind and damages in words.
     pub story: String,
     /// Places in DAMAGES.
@@ -73,7 +75,9 @@ pub fn case(seed: u64, number: u64) -> Case {
     let giants = FIRST_GIANT..FIRST_GIANT + GIANT_STEP * GIANTS as u64;
     if giants.contains(&number) && (number - FIRST_GIANT) % GIANT_STEP == 0 {
         let which = ((number - FIRST_GIANT) / GIANT_STEP) as usize;
-        return a_giant(random, which);
+        // Every other one is of version 5; which ones goes by the seed.
+        let format = &FORMATS[(which as u64 ^ seed) as usize % FORMATS.len()];
+        return a_giant(random, which, format);
     }
     let kind = match number % LARGE_STEP {
         250 => Kind::Large,
@@ -131,6 +135,7 @@ fn finish(
     expected: Expected,
 ) -> Case {
     let words = words(&mut random, &made.image);
+    let format = made.image.format();
     let len = made.bytes.len();
     let mut slice = made.bytes;
     let behind = match random.below(6) {
@@ -145,6 +150,7 @@ fn finish(
     }
     Case {
         kind: place(kind),
+        format,
         story,
         damages,
         slice,
@@ -204,8 +210,9 @@ fn damaged(mut random: Random, kind: Kind, times: usize) -> Case {
             continue;
         }
         let names: Vec<&str> = done.iter().map(|i| DAMAGES[*i].name).collect();
-        let expected = match times {
-            1 => Expected::Number(DAMAGES[done[0]].number),
+        let expected = match (times, DAMAGES[done[0]].number) {
+            (1, 0) => Expected::Good(Box::new(made.image.clone())),
+            (1, number) => Expected::Number(number),
             _ => Expected::Open,
         };
         return finish(random, kind, names.join(" + "), done, made, expected);
@@ -254,9 +261,11 @@ fn filled(mut random: Random) -> Case {
     random.fill(&mut made.bytes);
     if random.chance(3, 4) {
         let index_block = random.below(blocks + 1);
-        made.bytes[..BLOCK].copy_from_slice(&empty_header());
+        let format = made.image.format();
+        let header = empty_header(format, any_identifier(&mut random));
+        made.bytes[..BLOCK].copy_from_slice(&header);
         put_two(&mut made.bytes, at::INDEX_BLOCK, index_block as u16);
-        put_four(&mut made.bytes, at::NINDEX2, random.below(3) as u32);
+        put_four(&mut made.bytes, format.nindex2, random.below(3) as u32);
         if random.chance(1, 2) {
             made.bytes[BLOCK..].fill(0);
         }
@@ -265,8 +274,8 @@ fn filled(mut random: Random) -> Case {
     finish(random, Kind::Empty, story, vec![], made, Expected::Open)
 }
 
-fn a_giant(mut random: Random, which: usize) -> Case {
-    let (made, number) = giant(&mut random, which);
+fn a_giant(mut random: Random, which: usize, format: &Format) -> Case {
+    let (made, number) = giant(&mut random, which, format);
     let expected = match number {
         Some(number) => Expected::Number(number),
         None => Expected::Good(Box::new(made.image.clone())),

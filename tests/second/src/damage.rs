@@ -1,14 +1,15 @@
 //! The damages, each named, with the number that a reading call gives when a good image has
-//! this fault alone. A damage is done to the sketch, to the values or to the bytes, and
-//! tells whether the image had a place for it.
+//! this fault alone; 0 where the image stays good. A damage is done to the sketch, to the
+//! values or to the bytes, and tells whether the image had a place for it.
 
 use crate::make::{
-    cut, encoded_size, entry, fit_index, fit_run, mend_fronts, put_four, put_two, text, Cut,
-    Fronts, Made, Sketch, Wanted,
+    any_identifier, cut, encoded_size, entry, fit_index, fit_run, mend_fronts, put_four, put_two,
+    text, Cut, Fronts, Made, Sketch, Wanted,
 };
 use crate::random::Random;
 use crate::reader::{
-    at, four, two, Image, Run, BLOCK, CHAIN_END, MOST_BLOCKS, MOST_DATA, MOST_HEADWORD, MOST_TEXT,
+    at, format, four, two, Format, Image, Run, BLOCK, CHAIN_END, FORMATS, MOST_BLOCKS, MOST_DATA,
+    MOST_HEADWORD, MOST_TEXT,
 };
 
 type OnSketch = fn(&mut Sketch, &mut Random) -> bool;
@@ -56,7 +57,18 @@ const fn bytes(number: u32, name: &'static str, way: OnBytes) -> Damage {
 /// All single faults, by row of the paper's table; the last ones test the order of rows.
 pub const DAMAGES: &[Damage] = &[
     // Row 3.
-    bytes(3, "high version byte", |m, r| other(m, r, at::VERSION + 1)),
+    bytes(3, "high version byte", |m, r| {
+        let place = at::HIGH_VERSION;
+        other(m, r, place);
+        if format(m.bytes[place]).is_some() {
+            m.bytes[place] ^= 0x80;
+        }
+        true
+    }),
+    bytes(3, "high version byte 3, 6 or 0x85", |m, r| {
+        m.bytes[at::HIGH_VERSION] = *r.pick(&[3, 6, 0x85]);
+        true
+    }),
     bytes(3, "block_size, low byte", |m, r| {
         other(m, r, at::BLOCK_SIZE)
     }),
@@ -73,19 +85,19 @@ pub const DAMAGES: &[Damage] = &[
     // Row 4.
     bytes(4, "dicorder", |m, r| other(m, r, at::DICORDER)),
     bytes(4, "dictype", |m, r| other(m, r, at::DICTYPE)),
-    bytes(4, "os", |m, r| other(m, r, at::OS)),
-    bytes(4, "index_blkbit", |m, r| other(m, r, at::INDEX_BLKBIT)),
+    bytes(4, "os", |m, r| other_in(m, r, |f| f.os)),
+    bytes(4, "index_blkbit", |m, r| other_in(m, r, |f| f.index_blkbit)),
     bytes(4, "extheader, first byte", |m, r| {
-        other(m, r, at::EXTHEADER)
+        other_in(m, r, |f| f.extheader)
     }),
     bytes(4, "extheader, second byte", |m, r| {
-        other(m, r, at::EXTHEADER + 1)
+        other_in(m, r, |f| f.extheader + 1)
     }),
     bytes(4, "extheader, third byte", |m, r| {
-        other(m, r, at::EXTHEADER + 2)
+        other_in(m, r, |f| f.extheader + 2)
     }),
     bytes(4, "extheader, fourth byte", |m, r| {
-        other(m, r, at::EXTHEADER + 3)
+        other_in(m, r, |f| f.extheader + 3)
     }),
     // Row 5.
     bytes(5, "index_block with its top bit", |m, _| {
@@ -148,24 +160,24 @@ pub const DAMAGES: &[Damage] = &[
         fit_index(r, s, 0)
     }),
     bytes(6, "nindex2 one more", |m, _| {
-        change_four(m, at::NINDEX2, |n| n.wrapping_add(1))
+        change_four(m, |f| f.nindex2, |n| n.wrapping_add(1))
     }),
     bytes(6, "nindex2 one less", |m, _| {
-        !m.elements.is_empty() && change_four(m, at::NINDEX2, |n| n.wrapping_sub(1))
+        !m.elements.is_empty() && change_four(m, |f| f.nindex2, |n| n.wrapping_sub(1))
     }),
     bytes(6, "nindex2 0 with elements", |m, _| {
-        !m.elements.is_empty() && change_four(m, at::NINDEX2, |_| 0)
+        !m.elements.is_empty() && change_four(m, |f| f.nindex2, |_| 0)
     }),
     bytes(6, "nindex2 with a bit of its high half", |m, r| {
         let bit = 1 << r.range(16, 31);
-        change_four(m, at::NINDEX2, |n| n | bit)
+        change_four(m, |f| f.nindex2, |n| n | bit)
     }),
     bytes(6, "nindex2 with elements but no index block", |m, r| {
         if m.image.index_blocks != 0 {
             return false;
         }
         let number = *r.pick(&[1, 2, 255, 256, 65_536, 0xFFFF_FFFF]);
-        change_four(m, at::NINDEX2, |_| number)
+        change_four(m, |f| f.nindex2, |_| number)
     }),
     bytes(6, "first byte behind the elements", |m, r| {
         let place = m.tail;
@@ -535,7 +547,7 @@ pub const DAMAGES: &[Damage] = &[
             return false;
         }
         let place = match r.below(m.free.len()) {
-            0 => at::EMPTY_BLOCK2,
+            0 => m.image.format().empty_block2,
             i => m.free[i - 1] + 2,
         };
         put_four(&mut m.bytes, place, CHAIN_END);
@@ -547,7 +559,7 @@ pub const DAMAGES: &[Damage] = &[
         }
         let i = r.below(m.free.len() - 1);
         let place = match i {
-            0 => at::EMPTY_BLOCK2,
+            0 => m.image.format().empty_block2,
             _ => m.free[i - 1] + 2,
         };
         let next = m.image.chain[i + 1] as u32;
@@ -588,50 +600,82 @@ pub const DAMAGES: &[Damage] = &[
     }),
     // Row 10.
     bytes(10, "nword one more", |m, _| {
-        change_four(m, at::NWORD, |n| n.wrapping_add(1))
+        change_four(m, |_| at::NWORD, |n| n.wrapping_add(1))
     }),
     bytes(10, "nword one less", |m, _| {
-        change_four(m, at::NWORD, |n| n.wrapping_sub(1))
+        change_four(m, |_| at::NWORD, |n| n.wrapping_sub(1))
     }),
     bytes(10, "nword with another bit", |m, r| {
         let bit = 1 << r.below(32);
-        change_four(m, at::NWORD, |n| n ^ bit)
+        change_four(m, |_| at::NWORD, |n| n ^ bit)
     }),
     bytes(10, "nblock2 one more", |m, _| {
-        change_four(m, at::NBLOCK2, |n| n.wrapping_add(1))
+        change_four(m, |f| f.nblock2, |n| n.wrapping_add(1))
     }),
     bytes(10, "nblock2 one less", |m, _| {
-        change_four(m, at::NBLOCK2, |n| n.wrapping_sub(1))
+        change_four(m, |f| f.nblock2, |n| n.wrapping_sub(1))
     }),
     bytes(10, "nblock2 with another bit", |m, r| {
         let bit = 1 << r.below(32);
-        change_four(m, at::NBLOCK2, |n| n ^ bit)
+        change_four(m, |f| f.nblock2, |n| n ^ bit)
     }),
     bytes(10, "nblock2 is D with free blocks", |m, _| {
         let blocks = m.image.data_blocks as u32;
-        !m.free.is_empty() && change_four(m, at::NBLOCK2, |_| blocks)
+        !m.free.is_empty() && change_four(m, |f| f.nblock2, |_| blocks)
+    }),
+    // What the other version has elsewhere: the row of what stands there in this one, if any.
+    bytes(0, "the other version's places, not named", |m, r| {
+        let places = elsewhere(m, 0);
+        places.iter().all(|place| unnamed(m, *place, &[r.byte()]))
+    }),
+    bytes(4, "the other version's places, row 4", |m, r| {
+        other_elsewhere(m, r, 4)
+    }),
+    bytes(6, "the other version's places, row 6", |m, r| {
+        other_elsewhere(m, r, 6)
+    }),
+    bytes(9, "the other version's places, row 9", |m, r| {
+        other_elsewhere(m, r, 9)
+    }),
+    bytes(10, "the other version's places, row 10", |m, r| {
+        other_elsewhere(m, r, 10)
+    }),
+    // What a reading call takes.
+    bytes(0, "low version byte 0 to 15", |m, r| {
+        unnamed(m, at::VERSION, &[r.below(16) as u8])
+    }),
+    bytes(0, "low version byte 16 to 255", |m, r| {
+        let any = r.range(16, 255) as u8;
+        unnamed(m, at::VERSION, &[*r.pick(&[16, 16, 255, any])])
+    }),
+    bytes(0, "another identifier", |m, r| {
+        unnamed(m, at::IDENTIFIER, &any_identifier(r).to_le_bytes())
     }),
     // The order of the rows, and of the runs in rows 7 and 8.
+    bytes(3, "order: version 6 before 4 and 5", |m, r| {
+        m.bytes[at::HIGH_VERSION] = 6;
+        other(m, r, at::DICTYPE) && two_at(m, at::INDEX_BLOCK, 0xFFFF)
+    }),
     bytes(3, "order: 3 before 4, 5 and 10", |m, r| {
         other(m, r, at::ATTRLEN)
-            && other(m, r, at::OS)
+            && other_in(m, r, |f| f.os)
             && two_at(m, at::INDEX_BLOCK, 0xFFFF)
-            && change_four(m, at::NWORD, |n| n.wrapping_add(1))
+            && change_four(m, |_| at::NWORD, |n| n.wrapping_add(1))
     }),
     bytes(4, "order: 4 before 5 and 6", |m, r| {
-        other(m, r, at::INDEX_BLKBIT)
-            && change_four(m, at::NINDEX2, |_| 0xFFFF_FFFF)
+        other_in(m, r, |f| f.index_blkbit)
+            && change_four(m, |f| f.nindex2, |_| 0xFFFF_FFFF)
             && two_at(m, at::INDEX_BLOCK, 0x8000)
     }),
     bytes(5, "order: 5 before 6 and 9", |m, _| {
         let blocks = m.bytes.len() / BLOCK;
         blocks <= MOST_BLOCKS
-            && change_four(m, at::NINDEX2, |n| n.wrapping_add(1))
-            && change_four(m, at::EMPTY_BLOCK2, |_| 0xFFFF_FFFE)
+            && change_four(m, |f| f.nindex2, |n| n.wrapping_add(1))
+            && change_four(m, |f| f.empty_block2, |_| 0xFFFF_FFFE)
             && two_at(m, at::INDEX_BLOCK, blocks)
     }),
     bytes(6, "order: 6 before 7", |m, r| {
-        a_count(m, r, |_| 0) && change_four(m, at::NINDEX2, |n| n.wrapping_add(1))
+        a_count(m, r, |_| 0) && change_four(m, |f| f.nindex2, |n| n.wrapping_add(1))
     }),
     bytes(7, "order: 7 of a run before 8 of a later", |m, r| {
         let Some((i, j)) = two_runs(m, r) else {
@@ -663,8 +707,8 @@ pub const DAMAGES: &[Damage] = &[
         };
         let place = last.entries[last.entries.len() - 1].attribute;
         m.bytes[place] |= 0x10;
-        change_four(m, at::EMPTY_BLOCK2, |_| 0xFFFF_FFFE)
-            && change_four(m, at::NWORD, |n| n.wrapping_add(1))
+        change_four(m, |f| f.empty_block2, |_| 0xFFFF_FFFE)
+            && change_four(m, |_| at::NWORD, |n| n.wrapping_add(1))
     }),
     bytes(8, "order: two elements with one number", |m, r| {
         let Some((i, j)) = two_runs(m, r) else {
@@ -675,8 +719,8 @@ pub const DAMAGES: &[Damage] = &[
         two_at(m, place, number)
     }),
     bytes(9, "order: 9 before 10", |m, _| {
-        change_four(m, at::EMPTY_BLOCK2, |_| 0xFFFF_FFFE)
-            && change_four(m, at::NBLOCK2, |n| n.wrapping_add(1))
+        change_four(m, |f| f.empty_block2, |_| 0xFFFF_FFFE)
+            && change_four(m, |f| f.nblock2, |n| n.wrapping_add(1))
     }),
 ];
 
@@ -709,7 +753,14 @@ fn two_at(made: &mut Made, place: usize, number: usize) -> bool {
     true
 }
 
-fn change_four(made: &mut Made, place: usize, way: impl Fn(u32) -> u32) -> bool {
+/// Gives a byte of a header field another value; the field stands where the version has it.
+fn other_in(made: &mut Made, random: &mut Random, field: fn(&Format) -> usize) -> bool {
+    let place = field(made.image.format());
+    other(made, random, place)
+}
+
+fn change_four(made: &mut Made, field: fn(&Format) -> usize, way: impl Fn(u32) -> u32) -> bool {
+    let place = field(made.image.format());
     let number = four(&made.bytes[place..]);
     put_four(&mut made.bytes, place, way(number));
     true
@@ -874,7 +925,7 @@ fn spare_block(image: &Image, random: &mut Random) -> Option<(usize, usize)> {
 /// The place of empty_block2 or of a free block's link.
 fn link_place(made: &Made, random: &mut Random) -> usize {
     match random.below(made.free.len() + 1) {
-        0 => at::EMPTY_BLOCK2,
+        0 => made.image.format().empty_block2,
         i => made.free[i - 1] + 2,
     }
 }
@@ -919,7 +970,7 @@ fn woven(image: &Image, random: &mut Random) -> Image {
 }
 
 /// Regions whose bytes are damaged by chance.
-pub const REGIONS: [&str; 12] = [
+pub const REGIONS: [&str; 13] = [
     "header, any byte",
     "header, a tested byte",
     "index, any byte",
@@ -932,20 +983,73 @@ pub const REGIONS: [&str; 12] = [
     "text",
     "end mark",
     "link",
+    "header, the other version's number",
 ];
 
-/// Header bytes that a row names.
-const TESTED: [usize; 32] = [
-    141, 146, 147, 148, 149, 150, 151, 160, 161, 162, 163, 164, 165, 166, 171, 182, 183, 184, 185,
-    186, 187, 188, 189, 190, 191, 192, 193, 194, 195, 196, 197, 198,
+/// The header bytes of moved fields, each with the row that names the field.
+fn moved(format: &Format) -> Vec<(usize, u32)> {
+    let fields = [
+        (format.os, 1, 4),
+        (format.index_blkbit, 1, 4),
+        (format.extheader, 4, 4),
+        (format.nindex2, 4, 6),
+        (format.empty_block2, 4, 9),
+        (format.nblock2, 4, 10),
+    ];
+    let each = |(place, size, number)| (place..place + size).map(move |place| (place, number));
+    fields.into_iter().flat_map(each).collect()
+}
+
+/// Where the other version has its moved fields, as far as row `number` names what stands
+/// there in this one; 0: none does.
+fn elsewhere(made: &Made, number: u32) -> Vec<usize> {
+    let format = made.image.format();
+    let here = moved(format);
+    let row = |place| {
+        here.iter()
+            .find(|here| here.0 == place)
+            .map_or(0, |here| here.1)
+    };
+    let others = FORMATS
+        .iter()
+        .filter(|other| *other != format)
+        .flat_map(moved);
+    let places = others.map(|(place, _)| place);
+    places.filter(|place| row(*place) == number).collect()
+}
+
+fn other_elsewhere(made: &mut Made, random: &mut Random, number: u32) -> bool {
+    let place = *random.pick(&elsewhere(made, number));
+    other(made, random, place)
+}
+
+/// Writes header bytes that no row names; they are the values' too.
+fn unnamed(made: &mut Made, place: usize, contents: &[u8]) -> bool {
+    for bytes in [&mut made.bytes, &mut made.image.header.bytes] {
+        bytes[place..place + contents.len()].copy_from_slice(contents);
+    }
+    true
+}
+
+/// Header bytes that a row names, beside those of moved fields.
+const TESTED: [usize; 14] = [
+    141, 146, 147, 148, 149, 150, 151, 160, 161, 162, 163, 164, 165, 166,
 ];
+
+/// A header byte that a row names.
+fn tested(made: &Made, random: &mut Random) -> usize {
+    let moved = moved(made.image.format());
+    let mut places: Vec<usize> = moved.into_iter().map(|(place, _)| place).collect();
+    places.extend(TESTED);
+    *random.pick(&places)
+}
 
 /// Damages a byte of a region; false if the image has none.
 pub fn flip(made: &mut Made, random: &mut Random, region: usize) -> bool {
     let entry = an_entry(made, random, 0).map(|(run, entry)| made.runs[run].entries[entry]);
     let place = match (region, entry) {
         (0, _) => Some(random.below(BLOCK)),
-        (1, _) => Some(*random.pick(&TESTED)),
+        (1, _) => Some(tested(made, random)),
         (2, _) => some(BLOCK * made.image.index_blocks, random).map(|i| BLOCK + i),
         (3, _) => {
             some(made.elements.len(), random).map(|i| made.elements[i].number + random.below(2))
@@ -958,6 +1062,11 @@ pub fn flip(made: &mut Made, random: &mut Random, region: usize) -> bool {
         (9, Some(entry)) => some(entry.end - entry.text, random).map(|i| entry.text + i),
         (10, _) => some(made.runs.len(), random).map(|i| made.runs[i].marks + random.below(2)),
         (11, _) => some(made.free.len(), random).map(|i| made.free[i] + random.below(6)),
+        (12, _) => {
+            // 4 and 5 differ in their lowest bit.
+            made.bytes[at::HIGH_VERSION] ^= 1;
+            return true;
+        }
         _ => None,
     };
     match place {

@@ -59,6 +59,12 @@ pub trait Tally: Send {
     fn add(&mut self, other: &Self);
 }
 
+pub fn add_each(ours: &mut [u64], theirs: &[u64]) {
+    for (ours, theirs) in ours.iter_mut().zip(theirs) {
+        *ours += theirs;
+    }
+}
+
 pub struct Found {
     pub number: u64,
     pub differs: Differs,

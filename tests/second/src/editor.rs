@@ -1,10 +1,10 @@
 //! The second editor: create, insert, delete and optimise. An image is parsed to values, the
 //! change is placed on values, and the values are rendered over the slice. Quoted sentences
-//! are those of the paper; the numbers are its table's.
+//! are those of the papers; the numbers are their table's.
 
 use crate::calls::Answer;
 use crate::make::{common, empty_header, put_four, put_two};
-use crate::reader::{at, is_attribute, is_headword, is_text, read};
+use crate::reader::{at, format, is_attribute, is_headword, is_text, read};
 use crate::reader::{Entry, Image, Run, BLOCK, CHAIN_END, MOST_BLOCKS, MOST_DATA};
 
 /// "each part takes as many entries as encode in 1,024 bytes, count and end marks included."
@@ -56,13 +56,18 @@ pub struct Told {
     pub given_up: usize,
 }
 
-/// "Create: 256 bytes."
-pub fn create(slice: &mut [u8]) -> Answer<usize> {
+/// "Create: 256 bytes." It "takes which one", the high version byte, "and, for 5, those eight
+/// bytes as one 64-bit number".
+pub fn create(slice: &mut [u8], version: u8, identifier: u64) -> Answer<usize> {
     // 1: "(create: slice under 256)".
     if slice.len() < BLOCK {
         return Answer::Refused(1);
     }
-    slice[..BLOCK].copy_from_slice(&empty_header());
+    // "another version is refused 3".
+    let Some(format) = format(version) else {
+        return Answer::Refused(3);
+    };
+    slice[..BLOCK].copy_from_slice(&empty_header(format, identifier));
     Answer::Done(BLOCK)
 }
 
@@ -493,6 +498,7 @@ fn finish(slice: &mut [u8], image: &Image, layout: &Layout, told: &mut Told) -> 
 /// "A successful change ... writes index_block, nword, empty_block2, nindex2, nblock2 and
 /// adds one to update_count; the update count goes from 4,294,967,295 to 0."
 fn new_header(image: &Image, layout: &Layout) -> Vec<u8> {
+    let format = image.format();
     let mut header = image.header.bytes.clone();
     let entries: usize = layout.runs.iter().map(|run| run.entries).sum();
     let blocks: usize = layout.runs.iter().map(|run| run.blocks()).sum();
@@ -504,9 +510,9 @@ fn new_header(image: &Image, layout: &Layout) -> Vec<u8> {
     let changes = image.header.four(at::UPDATE_COUNT);
     put_two(&mut header, at::INDEX_BLOCK, layout.index_blocks as u16);
     put_four(&mut header, at::NWORD, entries as u32);
-    put_four(&mut header, at::EMPTY_BLOCK2, first);
-    put_four(&mut header, at::NINDEX2, layout.runs.len() as u32);
-    put_four(&mut header, at::NBLOCK2, blocks as u32);
+    put_four(&mut header, format.empty_block2, first);
+    put_four(&mut header, format.nindex2, layout.runs.len() as u32);
+    put_four(&mut header, format.nblock2, blocks as u32);
     put_four(&mut header, at::UPDATE_COUNT, changes.wrapping_add(1));
     header
 }

@@ -39,7 +39,13 @@ extern "C" {
         headword_len: *mut usize,
         text_len: *mut usize,
     ) -> u32;
-    fn pdic_create(image: *mut u8, image_size: usize, new_len: *mut usize) -> u32;
+    fn pdic_create(
+        image: *mut u8,
+        image_size: usize,
+        version: u8,
+        ident: u64,
+        new_len: *mut usize,
+    ) -> u32;
     fn pdic_insert(
         image: *mut u8,
         image_size: usize,
@@ -215,8 +221,16 @@ pub fn walk(
 }
 
 /// The new L is lent at place 1 of `lengths`, here and below.
-pub fn create(image: &mut Lent, lengths: &mut LengthCells) -> u32 {
-    unsafe { pdic_create(image.pointer(), image.size, lengths.as_mut_ptr().add(1)) }
+pub fn create(image: &mut Lent, version: u8, ident: u64, lengths: &mut LengthCells) -> u32 {
+    unsafe {
+        pdic_create(
+            image.pointer(),
+            image.size,
+            version,
+            ident,
+            lengths.as_mut_ptr().add(1),
+        )
+    }
 }
 
 pub fn insert(

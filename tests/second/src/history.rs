@@ -6,7 +6,7 @@ use crate::calls::{Answer, Read};
 use crate::cases::case;
 use crate::editor::{cut, encoded_size, run_concerned, Told, PART};
 use crate::engine::Lent;
-use crate::make::{attribute, text};
+use crate::make::{any_identifier, attribute, text};
 use crate::random::Random;
 use crate::reader::{at, read, Entry, Run, BLOCK, MOST_HEADWORD, MOST_TEXT};
 use crate::seen::{Call, Tally};
@@ -72,8 +72,8 @@ pub struct Ended {
 pub fn history(seed: u64, number: u64, tally: &mut Tally) -> Result<(), Box<Ended>> {
     let mut random = Random::of(seed, number);
     let start = start(&mut random);
-    tally.histories += 1;
-    tally.starts[start.kind] += 1;
+    let version = start.bytes[at::HIGH_VERSION];
+    tally.begin(version, start.kind);
     let created = STARTS[start.kind].0 == How::Created;
     let len = start.bytes.len();
     let mut slice = start.bytes;
@@ -84,7 +84,7 @@ pub fn history(seed: u64, number: u64, tally: &mut Tally) -> Result<(), Box<Ende
         false => read(&slice, len),
     };
     let mut history = History::new(&slice, len, image, random, tally);
-    let result = history.run(created, start.opening);
+    let result = history.run(created.then_some(version), start.opening);
     result.map_err(|(differs, before)| {
         Box::new(Ended {
             differs,
@@ -125,10 +125,11 @@ impl History<'_> {
         }
     }
 
-    /// All calls; a difference comes with the image slice before the call.
-    fn run(&mut self, created: bool, opening: Option<Change>) -> Result<(), (Differs, Lent)> {
-        if created {
-            self.watched(|history| history.create())?;
+    /// All calls, after a creation where a version is given for it; a difference comes with the
+    /// image slice before the call.
+    fn run(&mut self, created: Option<u8>, opening: Option<Change>) -> Result<(), (Differs, Lent)> {
+        if let Some(version) = created {
+            self.watched(|history| history.create(version))?;
         } else if let Err(number) = &self.read {
             let differs = format!("the start is refused: {}", number);
             return Err((differs, self.both.ours.clone()));
@@ -193,10 +194,20 @@ impl History<'_> {
         }
     }
 
-    fn create(&mut self) -> Result<(), Differs> {
-        self.log.push("create".to_string());
-        let answer = self.both.create()?;
-        self.tally.count(Call::Create, &answer, &Told::default());
+    /// The high version byte of the image.
+    fn version(&self) -> u8 {
+        self.both.ours.contents()[at::HIGH_VERSION]
+    }
+
+    fn create(&mut self, version: u8) -> Result<(), Differs> {
+        let ident = any_identifier(&mut self.random);
+        self.log.push(format!(
+            "create, version {}, identifier {:#x}",
+            version, ident
+        ));
+        let answer = self.both.create(version, ident)?;
+        let number = answer.number();
+        self.tally.count_number(Call::Create, version, number);
         match answer {
             Answer::Done(len) => self.len = len,
             _ => return Err("create is refused".to_string()),
@@ -205,14 +216,18 @@ impl History<'_> {
         self.in_step()
     }
 
-    /// Create on another slice, one under 256 bytes too.
+    /// Create on another slice, one under 256 bytes too, in any version.
     fn create_elsewhere(&mut self) -> Result<(), Differs> {
         let size = *self.random.pick(&[0, 1, 140, 255, 256, 257, 511, 512, 700]);
         let mut slice = vec![0; size];
         self.random.fill(&mut slice);
+        let any = self.random.byte();
+        let version = *self.random.pick(&[4, 4, 5, 5, 3, 6, 0x85, any]);
+        let ident = any_identifier(&mut self.random);
         self.log.push("create on another slice".to_string());
-        let answer = Both::new(&slice, Random::of(self.random.next(), 3)).create()?;
-        self.tally.count(Call::Create, &answer, &Told::default());
+        let mut both = Both::new(&slice, Random::of(self.random.next(), 3));
+        let number = both.create(version, ident)?.number();
+        self.tally.count_number(Call::Create, version, number);
         Ok(())
     }
 
@@ -231,7 +246,8 @@ impl History<'_> {
         let before = self.both.ours.clone();
         let mut told = Told::default();
         let answer = self.both.change(len, work, &change, &mut told)?;
-        self.tally.count(Call::of(&change), &answer, &told);
+        self.tally
+            .count(Call::of(&change), self.version(), &answer, &told);
         let Answer::Done(new_len) = answer else {
             // "Image and output slices keep their bytes on a refusal."
             return match self.both.ours == before {
@@ -455,7 +471,8 @@ impl History<'_> {
         let word = self.any_word();
         let size = *self.random.pick(&[MOST_TEXT, MOST_TEXT, 30, 0]);
         let number = self.both.look_up(&self.read, self.len, &word, size)?;
-        self.tally.count_number(Call::LookUp, number);
+        self.tally
+            .count_number(Call::LookUp, self.version(), number);
         Ok(())
     }
 
@@ -471,13 +488,13 @@ impl History<'_> {
         ]);
         let above = *self.random.pick(&[0, 1, 0x80]);
         let number = self.both.walk(&self.read, self.len, &word, above, sizes)?;
-        self.tally.count_number(Call::Walk, number);
+        self.tally.count_number(Call::Walk, self.version(), number);
         Ok(())
     }
 
     fn check(&mut self) -> Result<(), Differs> {
         let number = self.both.check(&self.read, self.len)?;
-        self.tally.count_number(Call::Check, number);
+        self.tally.count_number(Call::Check, self.version(), number);
         Ok(())
     }
 
@@ -554,7 +571,8 @@ impl History<'_> {
                 .push(format!("on another image: {}", change.story()));
             let mut told = Told::default();
             let answer = both.change(len, size, &change, &mut told)?;
-            self.tally.count(Call::of(&change), &answer, &told);
+            self.tally
+                .count(Call::of(&change), slice[at::HIGH_VERSION], &answer, &told);
             // One that is good after all is left to its own histories.
             if matches!(answer, Answer::Done(_)) {
                 break;

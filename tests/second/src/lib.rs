@@ -1,4 +1,4 @@
-//! A second reader of PDIC Hyper dictionary images (version 4, code order), written from
+//! A second reader of PDIC Hyper dictionary images (versions 4 and 5, code order), written from
 //! the papers and apart from the engine: an image is parsed to values, and the calls are
 //! answered from the values. The second editor places changes on the values and renders them.
 //! The programs `compare` (reading calls on many images) and `histories` (changing calls, one

@@ -4,9 +4,11 @@
 use crate::both::{Both, Change, Differs};
 use crate::calls::{Answer, ABSENT};
 use crate::editor::Told;
-use crate::make::{cut, lay_out, plain, render, Cut, Fronts, Wanted};
+use crate::make::{any_identifier, cut, empty_header, lay_out, plain, render};
+use crate::make::{Cut, Fronts, Wanted};
 use crate::random::Random;
-use crate::reader::{read, Entry, BLOCK, MOST_BLOCKS, MOST_DATA, MOST_HEADWORD};
+use crate::reader::{read, Entry, Format, BLOCK, FORMATS};
+use crate::reader::{MOST_BLOCKS, MOST_DATA, MOST_HEADWORD};
 
 /// A call, its answer, and what the second editor must tell of it.
 type Call = (Change, u32, fn(&Told) -> bool);
@@ -19,8 +21,9 @@ struct Limit {
     calls: Vec<Call>,
 }
 
-/// Runs all cases and gives their number.
-pub fn limits() -> Result<usize, Differs> {
+/// Runs all cases, every other one in version 5 (which ones goes by the seed), and gives their
+/// number.
+pub fn limits(seed: u64) -> Result<usize, Differs> {
     let cases: [fn() -> Limit; 8] = [
         index_limit,
         data_limit,
@@ -31,17 +34,20 @@ pub fn limits() -> Result<usize, Differs> {
         longest_run_moved,
         great_growth,
     ];
-    for case in cases {
+    for (i, case) in cases.iter().enumerate() {
         let case = case();
         let name = case.name;
-        run(case).map_err(|differs| format!("{}: {}", name, differs))?;
+        let format = &FORMATS[(i as u64 ^ seed) as usize % FORMATS.len()];
+        run(case, format)
+            .map_err(|differs| format!("{}, version {}: {}", name, format.version, differs))?;
     }
     Ok(cases.len())
 }
 
-fn run(case: Limit) -> Result<(), Differs> {
+fn run(case: Limit, format: &Format) -> Result<(), Differs> {
     let mut random = Random::of(1, 1);
-    let sketch = plain(case.runs);
+    let header = empty_header(format, any_identifier(&mut random));
+    let sketch = plain(header, case.runs);
     let image = lay_out(&mut random, &sketch);
     let mut slice = render(&mut random, image, sketch.ground).bytes;
     let mut len = slice.len();

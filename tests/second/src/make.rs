@@ -3,7 +3,8 @@
 //! where each field stands.
 
 use crate::random::Random;
-use crate::reader::{at, Entry, Header, Image, Run, BLOCK, CHAIN_END, MOST_HEADWORD, MOST_TEXT};
+use crate::reader::{at, format, Entry, Format, Header, Image, Run, FORMATS};
+use crate::reader::{BLOCK, CHAIN_END, MOST_HEADWORD, MOST_TEXT};
 use std::collections::BTreeSet;
 
 /// The kinds of images that are made.
@@ -150,31 +151,57 @@ impl Made {
     }
 }
 
-/// The header of an empty image.
-pub fn empty_header() -> Vec<u8> {
+/// The header of an empty image. The identifier is looked at for version 5 only: "those eight
+/// bytes as one 64-bit number, low byte first".
+pub fn empty_header(format: &Format, identifier: u64) -> Vec<u8> {
     let mut header = vec![0; BLOCK];
-    put_two(&mut header, at::VERSION, 0x0400);
+    header[at::HIGH_VERSION] = format.version;
     put_two(&mut header, at::LWORD, 248);
     put_two(&mut header, at::LJAPA, 3000);
     put_two(&mut header, at::BLOCK_SIZE, 256);
     put_two(&mut header, at::HEADER_SIZE, 256);
     header[at::ATTRLEN] = 1;
     put_two(&mut header, at::EMPTY_BLOCK, 0xFFFF);
-    put_four(&mut header, at::EMPTY_BLOCK2, CHAIN_END);
+    put_four(&mut header, format.empty_block2, CHAIN_END);
+    if format.version == 5 {
+        header[at::IDENTIFIER..at::IDENTIFIER + 8].copy_from_slice(&identifier.to_le_bytes());
+    }
     header
 }
 
-/// The bytes of the header that no refusal names for a reading call: titles, the version's
-/// low byte, lword, ljapa, index_size to nblock, olenumber, the language numbers, and all
-/// behind index_blkbit.
-pub const UNTESTED: [(usize, usize); 7] = [
-    (0, 140),
-    (140, 141),
-    (142, 146),
-    (152, 160),
-    (167, 171),
-    (172, 182),
-    (199, 256),
+/// An identifier: an end of its numbers, or any.
+pub fn any_identifier(random: &mut Random) -> u64 {
+    let any = random.next();
+    *random.pick(&[0, 1, u64::MAX, any, any])
+}
+
+/// The header of an empty image of either version.
+pub fn any_header(random: &mut Random) -> Vec<u8> {
+    empty_header(random.pick(&FORMATS), any_identifier(random))
+}
+
+/// The bytes of a header that no refusal names for a reading call, by version as FORMATS
+/// stands: titles, the version's low byte, lword, ljapa, index_size to nblock, olenumber and
+/// the language numbers, and all behind the counts; in version 5 a byte beside index_blkbit.
+const UNTESTED: [[(usize, usize); 7]; 2] = [
+    [
+        (0, 140),
+        (140, 141),
+        (142, 146),
+        (152, 160),
+        (167, 171),
+        (172, 182),
+        (199, 256),
+    ],
+    [
+        (0, 140),
+        (140, 141),
+        (142, 146),
+        (152, 160),
+        (168, 182),
+        (183, 184),
+        (200, 256),
+    ],
 ];
 
 pub fn put_two(bytes: &mut [u8], offset: usize, number: u16) {
@@ -315,15 +342,16 @@ pub fn render(random: &mut Random, mut image: Image, ground: Ground) -> Made {
             .iter()
             .map(|run| 3 + run.entries[0].headword.len())
             .sum::<usize>();
+    let format = image.format();
     let header = &mut image.header.bytes;
     put_two(header, at::INDEX_BLOCK, image.index_blocks as u16);
     let entries: usize = image.runs.iter().map(|run| run.entries.len()).sum();
     put_four(header, at::NWORD, entries as u32);
     let first = image.chain.first().map_or(CHAIN_END, |first| *first as u32);
-    put_four(header, at::EMPTY_BLOCK2, first);
-    put_four(header, at::NINDEX2, image.runs.len() as u32);
+    put_four(header, format.empty_block2, first);
+    put_four(header, format.nindex2, image.runs.len() as u32);
     let blocks: usize = image.runs.iter().map(|run| run.blocks).sum();
-    put_four(header, at::NBLOCK2, blocks as u32);
+    put_four(header, format.nblock2, blocks as u32);
 
     let data = BLOCK * (1 + image.index_blocks);
     let size = data + BLOCK * image.data_blocks;
@@ -522,9 +550,9 @@ fn entries(random: &mut Random, number: usize, budget: usize, high: bool) -> Vec
     list
 }
 
-pub fn plain(runs: Vec<Wanted>) -> Sketch {
+pub fn plain(header: Vec<u8>, runs: Vec<Wanted>) -> Sketch {
     Sketch {
-        header: empty_header(),
+        header,
         runs,
         tail: 4,
         extra_index: 0,
@@ -540,9 +568,10 @@ pub fn sketch(random: &mut Random, kind: Kind) -> Sketch {
     let number = *random.pick(&[1, 2, 3, 5, 8, 13, 20, 40]);
     let budget = *random.pick(&[300, 1_000, 2_000, 4_000, 6_500]);
     let few = |random: &mut Random| random.below(5);
+    let header = any_header(random);
     let mut sketch = match kind {
         Kind::Empty => {
-            let mut sketch = plain(vec![]);
+            let mut sketch = plain(header, vec![]);
             if random.chance(3, 4) {
                 sketch.extra_index = few(random);
                 sketch.free = random.below(8);
@@ -553,7 +582,10 @@ pub fn sketch(random: &mut Random, kind: Kind) -> Sketch {
         }
         Kind::Plain => {
             let list = entries(random, number, budget, false);
-            let mut sketch = plain(cut(random, list, Cut::Bytes(1_024), Fronts::Longest));
+            let mut sketch = plain(
+                header,
+                cut(random, list, Cut::Bytes(1_024), Fronts::Longest),
+            );
             sketch.free = few(random) / 2;
             sketch.loose = true;
             sketch
@@ -562,20 +594,20 @@ pub fn sketch(random: &mut Random, kind: Kind) -> Sketch {
             let list = entries(random, number, budget, false);
             let fronts = *random.pick(&[Fronts::Any, Fronts::Any, Fronts::None]);
             let way = *random.pick(&[Cut::Bytes(1_024), Cut::Chance(9), Cut::One]);
-            plain(cut(random, list, way, fronts))
+            plain(header, cut(random, list, way, fronts))
         }
         Kind::LongRuns => {
             let high = random.chance(1, 4);
             let list = entries(random, number * 4, 7_000, high);
             let way = *random.pick(&[Cut::One, Cut::One, Cut::Bytes(3_000)]);
-            let mut sketch = plain(cut(random, list, way, Fronts::Longest));
+            let mut sketch = plain(header, cut(random, list, way, Fronts::Longest));
             sketch.free = few(random);
             sketch.loose = true;
             sketch
         }
         Kind::LooseChain => {
             let list = entries(random, number, budget, false);
-            let mut sketch = plain(cut(random, list, Cut::Chance(4), Fronts::Longest));
+            let mut sketch = plain(header, cut(random, list, Cut::Chance(4), Fronts::Longest));
             sketch.free = random.range(2, 9);
             sketch.loose = true;
             sketch.links = *random.pick(&[Links::Descending, Links::Any, Links::Any]);
@@ -583,7 +615,7 @@ pub fn sketch(random: &mut Random, kind: Kind) -> Sketch {
         }
         Kind::Slack => {
             let list = entries(random, number, budget, false);
-            let mut sketch = plain(cut(random, list, Cut::Chance(6), Fronts::Longest));
+            let mut sketch = plain(header, cut(random, list, Cut::Chance(6), Fronts::Longest));
             for run in &mut sketch.runs {
                 run.spare = random.below(3) as isize;
             }
@@ -592,23 +624,26 @@ pub fn sketch(random: &mut Random, kind: Kind) -> Sketch {
         }
         Kind::WideIndex => {
             let list = entries(random, number, budget, false);
-            let mut sketch = plain(cut(random, list, Cut::Chance(3), Fronts::Longest));
+            let mut sketch = plain(header, cut(random, list, Cut::Chance(3), Fronts::Longest));
             sketch.extra_index = random.range(1, 12);
             sketch.loose = true;
             sketch
         }
         Kind::OldBytes => {
             let list = entries(random, number, budget, false);
-            let mut sketch = plain(cut(random, list, Cut::Bytes(1_024), Fronts::Longest));
+            let mut sketch = plain(
+                header,
+                cut(random, list, Cut::Bytes(1_024), Fronts::Longest),
+            );
             sketch.free = random.range(1, 9);
             sketch.loose = true;
             sketch.ground = Ground::OldRuns;
             sketch
         }
-        Kind::Edges => edges(random, number),
+        Kind::Edges => edges(random, header, number),
         Kind::HighBytes => {
             let list = entries(random, number, budget, true);
-            let mut sketch = plain(cut(random, list, Cut::Chance(5), Fronts::Longest));
+            let mut sketch = plain(header, cut(random, list, Cut::Chance(5), Fronts::Longest));
             sketch.free = few(random);
             sketch.loose = true;
             sketch
@@ -623,14 +658,14 @@ pub fn sketch(random: &mut Random, kind: Kind) -> Sketch {
                 Cut::Chance(8),
             ]);
             let fronts = *random.pick(&[Fronts::Longest, Fronts::Any]);
-            let mut sketch = plain(cut(random, list, way, fronts));
+            let mut sketch = plain(header, cut(random, list, way, fronts));
             for run in &mut sketch.runs {
                 run.spare = random.below(4) as isize / 2;
             }
             mix(random, &mut sketch);
             sketch
         }
-        Kind::Large => large(random),
+        Kind::Large => large(random, header),
         Kind::Giant => unreachable!("made by giant"),
     };
     if random.chance(1, 2) {
@@ -648,8 +683,9 @@ fn mix(random: &mut Random, sketch: &mut Sketch) {
 }
 
 /// Fills the header bytes that a reading call does not test.
-pub fn spoil_untested(random: &mut Random, header: &mut [u8]) {
-    for (from, to) in UNTESTED {
+fn spoil_untested(random: &mut Random, header: &mut [u8]) {
+    let format = format(header[at::HIGH_VERSION]).expect("version 4 or 5");
+    for (from, to) in UNTESTED[format.place()] {
         if random.chance(2, 3) {
             random.fill(&mut header[from..to]);
         }
@@ -698,7 +734,7 @@ pub fn fit_index(random: &mut Random, sketch: &mut Sketch, tail: usize) -> bool 
 
 /// Headwords of 247 and 248 bytes, texts of 2,999 and 3,000, runs whose end marks are the
 /// last bytes or lie across two blocks, an index with exactly four zero bytes.
-fn edges(random: &mut Random, number: usize) -> Sketch {
+fn edges(random: &mut Random, header: Vec<u8>, number: usize) -> Sketch {
     let mut list = entries(random, number.min(8), 1_500, false);
     if random.chance(1, 2) {
         let size = random.range(MOST_HEADWORD - 3, MOST_HEADWORD - 1);
@@ -721,7 +757,7 @@ fn edges(random: &mut Random, number: usize) -> Sketch {
         list[at].text = text(random, size);
     }
     let way = *random.pick(&[Cut::Bytes(1_024), Cut::Chance(3), Cut::One]);
-    let mut sketch = plain(cut(random, list, way, Fronts::Longest));
+    let mut sketch = plain(header, cut(random, list, way, Fronts::Longest));
     if random.chance(1, 2) {
         fit_index(random, &mut sketch, 4);
     }
@@ -740,7 +776,7 @@ fn edges(random: &mut Random, number: usize) -> Sketch {
 }
 
 /// Hundreds or thousands of blocks: one long run, many runs, or many free blocks.
-fn large(random: &mut Random) -> Sketch {
+fn large(random: &mut Random, header: Vec<u8>) -> Sketch {
     let high = random.chance(1, 3);
     let number = random.range(300, 2_500);
     let list = entries(random, number, 600_000, high);
@@ -753,7 +789,7 @@ fn large(random: &mut Random) -> Sketch {
         Cut::Chance(60),
     ]);
     let fronts = *random.pick(&[Fronts::Longest, Fronts::Any]);
-    let mut sketch = plain(cut(random, list, way, fronts));
+    let mut sketch = plain(header, cut(random, list, way, fronts));
     mix(random, &mut sketch);
     sketch.free = *random.pick(&[0, 1, 63, 64, 65, 300, 2_000]);
     if sketch.runs.len() < 4 {
@@ -768,9 +804,9 @@ fn large(random: &mut Random) -> Sketch {
 pub const GIANTS: usize = 12;
 
 /// A giant image, whether it is good, and if not its number.
-pub fn giant(random: &mut Random, which: usize) -> (Made, Option<u32>) {
+pub fn giant(random: &mut Random, which: usize, format: &Format) -> (Made, Option<u32>) {
     let mut number = None;
-    let mut sketch = plain(vec![]);
+    let mut sketch = plain(empty_header(format, any_identifier(random)), vec![]);
     sketch.ground = Ground::Any;
     sketch.links = Links::Any;
     sketch.loose = true;

@@ -1,6 +1,6 @@
 //! The second reader: the first L bytes of a slice are parsed to values (header, index
 //! elements, runs with their entries, chain), and the rules are tested on the values.
-//! Quoted sentences are those of the paper; the numbers are its table's.
+//! Quoted sentences are those of the papers; the numbers are their table's.
 
 /// Size of a block, and of the header.
 pub const BLOCK: usize = 256;
@@ -15,9 +15,10 @@ pub const MOST_TEXT: usize = 3_000;
 /// The link that ends the chain.
 pub const CHAIN_END: u32 = 0xFFFF_FFFF;
 
-/// Offsets of the header fields.
+/// Offsets of the header fields that stand alike in both versions.
 pub mod at {
     pub const VERSION: usize = 140;
+    pub const HIGH_VERSION: usize = 141;
     pub const LWORD: usize = 142;
     pub const LJAPA: usize = 144;
     pub const BLOCK_SIZE: usize = 146;
@@ -28,13 +29,58 @@ pub mod at {
     pub const DICORDER: usize = 164;
     pub const DICTYPE: usize = 165;
     pub const ATTRLEN: usize = 166;
-    pub const OS: usize = 171;
-    pub const EXTHEADER: usize = 182;
-    pub const EMPTY_BLOCK2: usize = 186;
-    pub const NINDEX2: usize = 190;
-    pub const NBLOCK2: usize = 194;
-    pub const INDEX_BLKBIT: usize = 198;
     pub const UPDATE_COUNT: usize = 208;
+    /// Version 5 only: "the eight bytes at 216 identify the dictionary".
+    pub const IDENTIFIER: usize = 216;
+}
+
+/// A kind of file: its high version byte, and the offsets of the header fields that stand
+/// elsewhere in the other kind.
+#[derive(Debug, PartialEq, Eq)]
+pub struct Format {
+    pub version: u8,
+    pub os: usize,
+    pub index_blkbit: usize,
+    pub extheader: usize,
+    pub empty_block2: usize,
+    pub nindex2: usize,
+    pub nblock2: usize,
+}
+
+/// "The high version byte may be 4 or 5". Version 5 "moves os to offset 167, index_blkbit to
+/// 182, extheader to 184, empty_block2 to 188, nindex2 to 192 and nblock2 to 196".
+pub static FORMATS: [Format; 2] = [
+    Format {
+        version: 4,
+        os: 171,
+        index_blkbit: 198,
+        extheader: 182,
+        empty_block2: 186,
+        nindex2: 190,
+        nblock2: 194,
+    },
+    Format {
+        version: 5,
+        os: 167,
+        index_blkbit: 182,
+        extheader: 184,
+        empty_block2: 188,
+        nindex2: 192,
+        nblock2: 196,
+    },
+];
+
+/// The format of a high version byte, if there is one.
+pub fn format(version: u8) -> Option<&'static Format> {
+    FORMATS.iter().find(|format| format.version == version)
+}
+
+impl Format {
+    /// Its place in FORMATS.
+    pub fn place(&self) -> usize {
+        let place = FORMATS.iter().position(|format| format == self);
+        place.expect("each format is listed")
+    }
 }
 
 /// The header: its bytes, and its fields by name.
@@ -54,6 +100,11 @@ impl Header {
 
     pub fn four(&self, offset: usize) -> u32 {
         four(&self.bytes[offset..])
+    }
+
+    /// The format that the high version byte names.
+    pub fn format(&self) -> Option<&'static Format> {
+        format(self.byte(at::HIGH_VERSION))
     }
 }
 
@@ -93,6 +144,11 @@ pub struct Image {
 }
 
 impl Image {
+    /// The format of an image whose high version byte is right.
+    pub fn format(&self) -> &'static Format {
+        self.header.format().expect("version 4 or 5")
+    }
+
     /// All entries in headword order.
     pub fn entries(&self) -> impl Iterator<Item = &Entry> {
         self.runs.iter().flat_map(|run| run.entries.iter())
@@ -133,11 +189,12 @@ pub fn read(slice: &[u8], len: usize) -> Result<Image, u32> {
     let header = Header {
         bytes: image[..BLOCK].to_vec(),
     };
-    let (index_blocks, data_blocks) = test_header(&header, len)?;
+    let format = test_header(&header)?;
+    let (index_blocks, data_blocks) = areas(&header, len)?;
 
     // "After the header come index_block blocks of 256 bytes, then D data blocks".
     let (index, data) = image[BLOCK..].split_at(index_blocks * BLOCK);
-    let elements = read_index(index, header.four(at::NINDEX2)).ok_or(6u32)?;
+    let elements = read_index(index, header.four(format.nindex2)).ok_or(6u32)?;
     // "rows 7 and 8 are taken run by run in index order".
     let mut runs = Vec::new();
     for (i, element) in elements.iter().enumerate() {
@@ -147,7 +204,7 @@ pub fn read(slice: &[u8], len: usize) -> Result<Image, u32> {
         }
         runs.push(run);
     }
-    let chain = read_chain(data, data_blocks, header.four(at::EMPTY_BLOCK2)).ok_or(9u32)?;
+    let chain = read_chain(data, data_blocks, header.four(format.empty_block2)).ok_or(9u32)?;
     let image = Image {
         header,
         index_blocks,
@@ -164,11 +221,12 @@ pub fn read(slice: &[u8], len: usize) -> Result<Image, u32> {
     Ok(image)
 }
 
-/// Rows 3, 4 and 5; gives the number of index blocks and of data blocks.
-fn test_header(header: &Header, len: usize) -> Result<(usize, usize), u32> {
-    // 3: "high version byte, block_size, header_size or attrlen wrong".
-    if header.two(at::VERSION) >> 8 != 4
-        || header.two(at::BLOCK_SIZE) != 256
+/// Rows 3 and 4; gives the format.
+fn test_header(header: &Header) -> Result<&'static Format, u32> {
+    // 3: "high version byte, block_size, header_size or attrlen wrong"; "The high version byte
+    // may be 4 or 5".
+    let format = header.format().ok_or(3u32)?;
+    if header.two(at::BLOCK_SIZE) != 256
         || header.two(at::HEADER_SIZE) != 256
         || header.byte(at::ATTRLEN) != 1
     {
@@ -177,12 +235,17 @@ fn test_header(header: &Header, len: usize) -> Result<(usize, usize), u32> {
     // 4: "dicorder, dictype, os, index_blkbit or extheader not 0".
     if header.byte(at::DICORDER) != 0
         || header.byte(at::DICTYPE) != 0
-        || header.byte(at::OS) != 0
-        || header.byte(at::INDEX_BLKBIT) != 0
-        || header.four(at::EXTHEADER) != 0
+        || header.byte(format.os) != 0
+        || header.byte(format.index_blkbit) != 0
+        || header.four(format.extheader) != 0
     {
         return Err(4);
     }
+    Ok(format)
+}
+
+/// Row 5; gives the number of index blocks and of data blocks.
+fn areas(header: &Header, len: usize) -> Result<(usize, usize), u32> {
     // 5: "index_block over 32,767 or past L; D over 65,536".
     // "L = 256 × (1 + index_block + D)."
     let index_blocks = header.two(at::INDEX_BLOCK) as usize;
@@ -343,5 +406,5 @@ fn counts_hold(image: &Image) -> bool {
     let entries: usize = image.runs.iter().map(|run| run.entries.len()).sum();
     let blocks: usize = image.runs.iter().map(|run| run.blocks).sum();
     image.header.four(at::NWORD) as usize == entries
-        && image.header.four(at::NBLOCK2) as usize == blocks
+        && image.header.four(image.format().nblock2) as usize == blocks
 }

@@ -1,10 +1,11 @@
 //! What histories came to: answers by call, and the happenings that must be seen often
-//! enough, by what the second editor tells.
+//! enough, by what the second editor tells; both by version.
 
 use crate::both::Change;
 use crate::calls::{Answer, ABSENT};
-use crate::drive;
+use crate::drive::{self, add_each};
 use crate::editor::Told;
+use crate::reader::{format, Format, FORMATS};
 use crate::start::STARTS;
 
 #[derive(Clone, Copy, Debug, PartialEq, Eq)]
@@ -28,27 +29,47 @@ impl Call {
     }
 }
 
-/// Each call with the answers that must be seen: 0 done, 100 absent, else the refusal.
-pub const CALLS: [(&str, &[u32]); 7] = [
-    ("create", &[0, 1]),
-    ("check", &[0]),
-    ("look up", &[0, ABSENT, 14]),
-    ("walk", &[0, ABSENT, 14]),
+/// The versions that calls are counted by: those of FORMATS, then any other.
+const VERSIONS: [&str; 3] = ["4", "5", "other"];
+
+/// A version's place in VERSIONS.
+fn version_place(version: u8) -> usize {
+    format(version).map_or(FORMATS.len(), Format::place)
+}
+
+/// Each call with the answers that must be seen, of versions 4 and 5 each and of another: 0
+/// done, 100 absent, else the refusal.
+const CALLS: [(&str, &[u32], &[u32]); 7] = [
+    ("create", &[0, 1], &[1, 3]),
+    ("check", &[0], &[]),
+    ("look up", &[0, ABSENT, 14], &[]),
+    ("walk", &[0, ABSENT, 14], &[]),
     (
         "insert",
         &[0, 1, 2, 3, 4, 5, 6, 7, 8, 9, 10, 11, 12, 13, 15],
+        &[3],
     ),
     (
         "delete",
         &[0, ABSENT, 1, 2, 3, 4, 5, 6, 7, 8, 9, 10, 11, 12, 15],
+        &[3],
     ),
-    ("optimise", &[0, 1, 2, 3, 4, 5, 6, 7, 8, 9, 10, 11]),
+    ("optimise", &[0, 1, 2, 3, 4, 5, 6, 7, 8, 9, 10, 11], &[3]),
 ];
 
-/// Answers have places 0 to 15, and 16 for absent.
-pub const ANSWERS: usize = 17;
+/// The answers that a call must be seen to give at a place of VERSIONS.
+fn must_be_seen(call: usize, version: usize) -> &'static [u32] {
+    let (_, known, other) = CALLS[call];
+    match version < FORMATS.len() {
+        true => known,
+        false => other,
+    }
+}
 
-pub fn answer_place(number: u32) -> usize {
+/// Answers have places 0 to 15, and 16 for absent.
+const ANSWERS: usize = 17;
+
+fn answer_place(number: u32) -> usize {
     match number {
         ABSENT => ANSWERS - 1,
         _ => number as usize,
@@ -56,10 +77,10 @@ pub fn answer_place(number: u32) -> usize {
 }
 
 /// A changing call that was answered.
-pub struct Seen<'a> {
-    pub call: Call,
-    pub number: u32,
-    pub told: &'a Told,
+struct Seen<'a> {
+    call: Call,
+    number: u32,
+    told: &'a Told,
 }
 
 impl Seen<'_> {
@@ -72,10 +93,11 @@ impl Seen<'_> {
     }
 }
 
-/// A happening: its name, how often 1,000 histories must show it, and whether a call did.
-pub type Wanted = (&'static str, u64, fn(&Seen) -> bool);
+/// A happening: its name, how often 1,000 histories of a version must show it, and whether a
+/// call did.
+type Wanted = (&'static str, u64, fn(&Seen) -> bool);
 
-pub const WANTED: &[Wanted] = &[
+const WANTED: &[Wanted] = &[
     ("entry added", 2_000, |s| {
         s.done(Call::Insert) && !s.told.replaced
     }),
@@ -151,82 +173,118 @@ pub const WANTED: &[Wanted] = &[
     ("update count goes to 0", 30, |s| s.told.wrapped),
 ];
 
+/// Counts by version, as FORMATS stands.
+type ByVersion = [u64; FORMATS.len()];
+
 pub struct Tally {
-    pub histories: u64,
+    pub histories: ByVersion,
     pub calls: u64,
-    /// By call and answer.
-    pub answers: [[u64; ANSWERS]; CALLS.len()],
+    /// By version, call and answer.
+    answers: [[[u64; ANSWERS]; CALLS.len()]; VERSIONS.len()],
     /// By place in WANTED.
-    pub wanted: Vec<u64>,
+    wanted: Vec<ByVersion>,
     /// By place in STARTS.
-    pub starts: Vec<u64>,
+    starts: Vec<ByVersion>,
 }
 
 impl drive::Tally for Tally {
     fn new() -> Tally {
         Tally {
-            histories: 0,
+            histories: [0; FORMATS.len()],
             calls: 0,
-            answers: [[0; ANSWERS]; CALLS.len()],
-            wanted: vec![0; WANTED.len()],
-            starts: vec![0; STARTS.len()],
+            answers: [[[0; ANSWERS]; CALLS.len()]; VERSIONS.len()],
+            wanted: vec![[0; FORMATS.len()]; WANTED.len()],
+            starts: vec![[0; FORMATS.len()]; STARTS.len()],
         }
     }
 
     fn add(&mut self, other: &Tally) {
-        self.histories += other.histories;
+        add_each(&mut self.histories, &other.histories);
         self.calls += other.calls;
-        for (ours, theirs) in self.answers.iter_mut().zip(&other.answers) {
-            add_each(ours, theirs);
-        }
-        add_each(&mut self.wanted, &other.wanted);
-        add_each(&mut self.starts, &other.starts);
-    }
-}
-
-fn add_each(ours: &mut [u64], theirs: &[u64]) {
-    for (ours, theirs) in ours.iter_mut().zip(theirs) {
-        *ours += theirs;
+        let (ours, theirs) = (self.answers.as_flattened_mut(), &other.answers);
+        add_each(
+            ours.as_flattened_mut(),
+            theirs.as_flattened().as_flattened(),
+        );
+        add_each(self.wanted.as_flattened_mut(), other.wanted.as_flattened());
+        add_each(self.starts.as_flattened_mut(), other.starts.as_flattened());
     }
 }
 
 impl Tally {
-    pub fn count_number(&mut self, call: Call, number: u32) {
-        self.calls += 1;
-        self.answers[call as usize][answer_place(number)] += 1;
+    /// A history of a version that begins at a place of STARTS.
+    pub fn begin(&mut self, version: u8, start: usize) {
+        let version = version_place(version);
+        self.histories[version] += 1;
+        self.starts[start][version] += 1;
     }
 
-    pub fn count(&mut self, call: Call, answer: &Answer<usize>, told: &Told) {
+    pub fn all_histories(&self) -> u64 {
+        self.histories.iter().sum()
+    }
+
+    /// A call on a file of a version.
+    pub fn count_number(&mut self, call: Call, version: u8, number: u32) {
+        self.calls += 1;
+        self.answers[version_place(version)][call as usize][answer_place(number)] += 1;
+    }
+
+    pub fn count(&mut self, call: Call, version: u8, answer: &Answer<usize>, told: &Told) {
         let number = answer.number();
-        self.count_number(call, number);
+        self.count_number(call, version, number);
+        let Some(format) = format(version) else {
+            return;
+        };
         let seen = Seen { call, number, told };
-        for (count, (_, _, happened)) in self.wanted.iter_mut().zip(WANTED) {
-            *count += happened(&seen) as u64;
+        for (counts, (_, _, happened)) in self.wanted.iter_mut().zip(WANTED) {
+            counts[format.place()] += happened(&seen) as u64;
         }
+    }
+
+    /// How often a happening must be seen in each version.
+    fn least(&self, of_thousand: u64) -> ByVersion {
+        self.histories
+            .map(|count| (of_thousand * count / 1_000).max(1))
     }
 
     /// Prints what was not seen, or too seldom for so many histories.
     pub fn missing(&self) -> bool {
         let mut missing = false;
-        for ((name, must), answers) in CALLS.iter().zip(&self.answers) {
-            for number in *must {
-                if answers[answer_place(*number)] == 0 {
-                    println!("NOT SEEN: {} answers {}", name, number);
+        for (format, count) in FORMATS.iter().zip(&self.histories) {
+            // Half of them are of each version.
+            if count * 5 < self.all_histories() * 2 {
+                println!("TOO SELDOM: histories of version {}", format.version);
+                missing = true;
+            }
+        }
+        for (version, calls) in self.answers.iter().enumerate() {
+            for (call, answers) in calls.iter().enumerate() {
+                for number in must_be_seen(call, version) {
+                    if answers[answer_place(*number)] == 0 {
+                        let (name, version) = (CALLS[call].0, VERSIONS[version]);
+                        println!("NOT SEEN: {} answers {}, version {}", name, number, version);
+                        missing = true;
+                    }
+                }
+            }
+        }
+        for ((name, least, _), counts) in WANTED.iter().zip(&self.wanted) {
+            for ((format, count), least) in FORMATS.iter().zip(counts).zip(self.least(*least)) {
+                if *count < least {
+                    println!(
+                        "TOO SELDOM: {}, version {}: {} times, not {}",
+                        name, format.version, count, least
+                    );
                     missing = true;
                 }
             }
         }
-        for ((name, least, _), count) in WANTED.iter().zip(&self.wanted) {
-            let least = (least * self.histories / 1_000).max(1);
-            if *count < least {
-                println!("TOO SELDOM: {}: {} times, not {}", name, count, least);
-                missing = true;
-            }
-        }
-        for ((_, name), count) in STARTS.iter().zip(&self.starts) {
-            if *count == 0 {
-                println!("NOT SEEN: start {}", name);
-                missing = true;
+        for ((_, name), counts) in STARTS.iter().zip(&self.starts) {
+            for (format, count) in FORMATS.iter().zip(counts) {
+                if *count == 0 {
+                    println!("NOT SEEN: start {}, version {}", name, format.version);
+                    missing = true;
+                }
             }
         }
         missing
@@ -234,29 +292,38 @@ impl Tally {
 
     pub fn print(&self) {
         println!("How often each answer was seen (0 done or found, absent, else the refusal):");
-        print!("{:>10}", "");
+        print!("{:>10}{:>9}", "", "version");
         for place in 0..ANSWERS - 1 {
             print!("{:>7}", place);
         }
         println!("{:>8}", "absent");
-        for ((name, _), answers) in CALLS.iter().zip(&self.answers) {
-            print!("{:>10}", name);
-            for count in &answers[..ANSWERS - 1] {
-                print!("{:>7}", count);
+        for call in 0..CALLS.len() {
+            for (version, calls) in self.answers.iter().enumerate() {
+                if must_be_seen(call, version).is_empty() {
+                    continue;
+                }
+                print!("{:>10}{:>9}", CALLS[call].0, VERSIONS[version]);
+                for count in &calls[call][..ANSWERS - 1] {
+                    print!("{:>7}", count);
+                }
+                println!("{:>8}", calls[call][ANSWERS - 1]);
             }
-            println!("{:>8}", answers[ANSWERS - 1]);
         }
         println!();
-        println!("What happened, how often it must at least:");
-        for ((name, least, _), count) in WANTED.iter().zip(&self.wanted) {
-            let least = (least * self.histories / 1_000).max(1);
-            println!("{:>8}{:>8}  {}", count, least, name);
+        println!("What happened in version 4 and in version 5, each with how often it must:");
+        for ((name, least, _), counts) in WANTED.iter().zip(&self.wanted) {
+            for (count, least) in counts.iter().zip(self.least(*least)) {
+                print!("{:>8}{:>8}", count, least);
+            }
+            println!("  {}", name);
         }
         println!();
-        println!("Starts:");
-        for ((_, name), count) in STARTS.iter().zip(&self.starts) {
-            println!("{:>8}  {}", count, name);
+        println!("Starts in version 4 and in version 5:");
+        for ((_, name), counts) in STARTS.iter().zip(&self.starts) {
+            println!("{:>8}{:>8}  {}", counts[0], counts[1], name);
         }
         println!();
+        let [four, five] = self.histories;
+        println!("Histories of version 4: {}, of version 5: {}", four, five);
     }
 }

@@ -1,8 +1,8 @@
 //! Where a history starts: an empty image, or one that another program could have written.
 
 use crate::both::Change;
-use crate::make::{cut, entry, headwords, lay_out, plain, put_four, render, sketch, text};
-use crate::make::{empty_header, Cut, Fronts, Ground, Kind, Links, Sketch};
+use crate::make::{any_header, cut, entry, headwords, lay_out, plain, put_four, render};
+use crate::make::{sketch, text, Cut, Fronts, Ground, Kind, Links, Sketch};
 use crate::random::Random;
 use crate::reader::{at, BLOCK, MOST_HEADWORD, MOST_TEXT};
 
@@ -38,7 +38,8 @@ pub enum How {
     Gaps,
 }
 
-/// A start: the image's bytes, and a first change where one is wanted.
+/// A start: the image's bytes, and a first change where one is wanted. Where it is to be
+/// created, the bytes say in which version.
 pub struct Start {
     /// Its place in STARTS.
     pub kind: usize,
@@ -61,7 +62,7 @@ pub fn start(random: &mut Random) -> Start {
         How::Created => {
             return Start {
                 kind,
-                bytes: empty_header(),
+                bytes: any_header(random),
                 opening,
             }
         }
@@ -125,7 +126,7 @@ fn long_fronts(random: &mut Random) -> Sketch {
     small.retain(|entry| entry.headword < long);
     let mut all = cut(random, small, Cut::Chance(2), Fronts::Longest);
     all.append(&mut runs);
-    let mut sketch = plain(all);
+    let mut sketch = plain(any_header(random), all);
     sketch.free = random.below(6);
     sketch.loose = random.chance(1, 2);
     sketch.links = Links::Any;
@@ -140,7 +141,8 @@ fn one_block(random: &mut Random) -> (Sketch, Change) {
         let word = [&stem[..], &[tail]].concat();
         list.push(entry(random, word, 4));
     }
-    let sketch = plain(cut(random, list, Cut::One, Fronts::Longest));
+    let runs = cut(random, list, Cut::One, Fronts::Longest);
+    let sketch = plain(any_header(random), runs);
     let size = random.range(1_100, MOST_TEXT);
     let change = Change::Insert {
         headword: [&stem[..], b"M"].concat(),
@@ -158,7 +160,8 @@ fn gaps(random: &mut Random) -> Sketch {
         let size = random.below(most);
         list.push(entry(random, headword, size));
     }
-    let mut sketch = plain(cut(random, list, Cut::Chance(2), Fronts::Longest));
+    let runs = cut(random, list, Cut::Chance(2), Fronts::Longest);
+    let mut sketch = plain(any_header(random), runs);
     sketch.free = random.range(6, 40);
     sketch.loose = true;
     sketch.links = Links::Any;

@@ -3,12 +3,15 @@
 
 mod by_hand;
 
-use by_hand::{empty, put};
+use by_hand::{empty, put, File, FILES};
 use second::both::{Both, Change};
 use second::calls::Answer;
 use second::editor::Told;
 use second::random::Random;
 use second::reader::{read, Image};
+
+/// The identifier that `empty` has in version 5.
+const IDENTIFIER: u64 = 0x8877_6655_4433_2211;
 
 /// A dictionary under change.
 struct Book {
@@ -18,9 +21,9 @@ struct Book {
 
 impl Book {
     /// Created in a slice of so many bytes, which held anything before.
-    fn new(size: usize) -> Book {
+    fn new(file: &File, size: usize) -> Book {
         let mut both = Both::new(&vec![0xDD; size], Random::of(1, 1));
-        let Ok(Answer::Done(len)) = both.create() else {
+        let Ok(Answer::Done(len)) = both.create(file.version, IDENTIFIER) else {
             panic!("created");
         };
         Book { both, len }
@@ -80,32 +83,92 @@ fn t(size: usize) -> Vec<u8> {
     vec![b't'; size]
 }
 
+/// The header of an empty file of version 5 from byte 128 to byte 223; all before and behind
+/// is zero.
+const EMPTY_5: [u8; 96] = [
+    0x00, 0x00, 0x00, 0x00, 0x00, 0x00, 0x00, 0x00, 0x00, 0x00, 0x00, 0x00, 0x00, 0x05, 0xF8, 0x00,
+    0xB8, 0x0B, 0x00, 0x01, 0x00, 0x00, 0x00, 0x01, 0x00, 0x00, 0xFF, 0xFF, 0x00, 0x00, 0x00, 0x00,
+    0x00, 0x00, 0x00, 0x00, 0x00, 0x00, 0x01, 0x00, 0x00, 0x00, 0x00, 0x00, 0x00, 0x00, 0x00, 0x00,
+    0x00, 0x00, 0x00, 0x00, 0x00, 0x00, 0x00, 0x00, 0x00, 0x00, 0x00, 0x00, 0xFF, 0xFF, 0xFF, 0xFF,
+    0x00, 0x00, 0x00, 0x00, 0x00, 0x00, 0x00, 0x00, 0x00, 0x00, 0x00, 0x00, 0x00, 0x00, 0x00, 0x00,
+    0x00, 0x00, 0x00, 0x00, 0x00, 0x00, 0x00, 0x00, 0x11, 0x22, 0x33, 0x44, 0x55, 0x66, 0x77, 0x88,
+];
+
 #[test]
 fn create_writes_256_bytes() {
-    let book = Book::new(300);
-    assert_eq!(book.bytes(), empty());
-    assert_eq!(book.both.ours.contents()[256..], [0xDD; 44]);
+    for file in &FILES {
+        let book = Book::new(file, 300);
+        assert_eq!(book.bytes(), empty(file));
+        assert_eq!(book.both.ours.contents()[256..], [0xDD; 44]);
+    }
+    let book = Book::new(&FILES[1], 256);
+    assert_eq!(book.bytes(), [&[0; 128][..], &EMPTY_5, &[0; 32]].concat());
+}
+
+/// Create on a slice of so many bytes, which held 0xDD before: the number, and the slice.
+fn create(size: usize, version: u8, ident: u64) -> (u32, Vec<u8>) {
+    let mut both = Both::new(&vec![0xDD; size], Random::of(1, 1));
+    let answer = both.create(version, ident).expect("both answer alike");
+    (answer.number(), both.ours.contents().to_vec())
+}
+
+#[test]
+fn create_refuses_1_then_3() {
+    for version in 0..=255 {
+        for ident in [0, 1, IDENTIFIER, u64::MAX] {
+            for (size, taken, other) in [(0, 1, 1), (255, 1, 1), (256, 0, 3), (257, 0, 3)] {
+                let number = match version {
+                    4 | 5 => taken,
+                    _ => other,
+                };
+                let (given, slice) = create(size, version, ident);
+                assert_eq!(given, number, "version {}, slice {}", version, size);
+                assert!(number == 0 || slice == vec![0xDD; size], "nothing written");
+            }
+        }
+    }
+}
+
+#[test]
+fn identifiers_low_byte_first() {
+    for (ident, bytes) in [
+        (0, [0; 8]),
+        (1, [1, 0, 0, 0, 0, 0, 0, 0]),
+        (0xFF00, [0, 0xFF, 0, 0, 0, 0, 0, 0]),
+        (1 << 63, [0, 0, 0, 0, 0, 0, 0, 0x80]),
+        (u64::MAX, [0xFF; 8]),
+    ] {
+        assert_eq!(create(256, 5, ident).1[216..224], bytes);
+        // It is looked at for version 5 only.
+        assert_eq!(create(256, 4, ident).1[216..224], [0; 8]);
+    }
 }
 
 #[test]
 fn p1_shared_fronts() {
-    let mut book = Book::new(1_024);
-    for headword in [&b"AGDE"[..], b"ABDGD", b"ABC", b"ABDEF"] {
-        assert_eq!(book.insert(headword, b""), 0);
+    for file in &FILES {
+        let mut book = Book::new(file, 1_024);
+        for headword in [&b"AGDE"[..], b"ABDGD", b"ABC", b"ABDEF"] {
+            assert_eq!(book.insert(headword, b""), 0);
+        }
+        let image = book.image();
+        let fronts: Vec<usize> = image.entries().map(|entry| entry.front).collect();
+        assert_eq!(fronts, [0, 2, 3, 1]);
     }
-    let image = book.image();
-    let fronts: Vec<usize> = image.entries().map(|entry| entry.front).collect();
-    assert_eq!(fronts, [0, 2, 3, 1]);
 }
 
 #[test]
 fn p2_p3_bytes() {
-    let mut book = Book::new(900);
+    FILES.iter().for_each(p2_p3_bytes_of);
+}
+
+fn p2_p3_bytes_of(file: &File) {
+    let mut book = Book::new(file, 900);
     assert_eq!(book.insert(b"ABC", b"one"), 0);
     assert_eq!(book.len, 768);
-    let mut bytes = Book::new(256).bytes().to_vec();
+    let mut bytes = empty(file);
     bytes.resize(768, 0);
-    for place in [148, 160, 190, 194, 208] {
+    for place in [148, 160, file.nindex2, file.nblock2, 208] {
         bytes[place] = 1;
     }
     put(&mut bytes, 256, b"\x00\x00ABC\x00");
@@ -123,17 +186,21 @@ fn p2_p3_bytes() {
 
 #[test]
 fn p4_to_p7_parts() {
-    let mut one = Book::new(4_096);
+    FILES.iter().for_each(p4_to_p7_parts_of);
+}
+
+fn p4_to_p7_parts_of(file: &File) {
+    let mut one = Book::new(file, 4_096);
     assert_eq!(one.insert(b"a", &t(500)), 0);
     assert_eq!(one.insert(b"b", &t(508)), 0);
     assert_eq!(one.image().runs.len(), 1);
 
-    let mut book = Book::new(1_792);
+    let mut book = Book::new(file, 1_792);
     assert_eq!(book.insert(b"a", &t(500)), 0);
     assert_eq!(book.insert(b"b", &t(509)), 0);
     assert_eq!((book.len, book.places()), (1_792, vec![(0, 2), (2, 3)]));
 
-    let mut short = Book::new(1_791);
+    let mut short = Book::new(file, 1_791);
     assert_eq!(short.insert(b"a", &t(500)), 0);
     assert_eq!(short.insert(b"b", &t(509)), 15);
 
@@ -147,7 +214,11 @@ fn p4_to_p7_parts() {
 
 #[test]
 fn p8_p9_a_deletion_can_need_space() {
-    let mut book = Book::new(2_304);
+    FILES.iter().for_each(p8_p9_a_deletion_can_need_space_of);
+}
+
+fn p8_p9_a_deletion_can_need_space_of(file: &File) {
+    let mut book = Book::new(file, 2_304);
     assert_eq!(book.insert(b"a", b""), 0);
     assert_eq!(book.insert(&[b'a'; 248], b""), 0);
     assert_eq!(book.insert(b"b", &t(762)), 0);
@@ -161,9 +232,51 @@ fn p8_p9_a_deletion_can_need_space() {
 
 #[test]
 fn p10_longest() {
-    let mut book = Book::new(8_192);
+    FILES.iter().for_each(p10_longest_of);
+}
+
+fn p10_longest_of(file: &File) {
+    let mut book = Book::new(file, 8_192);
     assert_eq!(book.insert(&[b'x'; 248], b""), 0);
     assert_eq!(book.insert(&[b'x'; 249], b""), 12);
     assert_eq!(book.insert(b"x", &t(3_000)), 0);
     assert_eq!(book.insert(b"x", &t(3_001)), 13);
+}
+
+#[test]
+fn a_version_only_for_reading() {
+    for file in &FILES {
+        let mut book = Book::new(file, 2_048);
+        assert_eq!(book.insert(b"a", b"one"), 0);
+        for low in 0..=255 {
+            let number = if low < 16 { 0 } else { 11 };
+            let mut bytes = book.both.ours.contents().to_vec();
+            bytes[140] = low;
+            let mut other = Book {
+                both: Both::new(&bytes, Random::of(1, 1)),
+                len: book.len,
+            };
+            assert_eq!(other.optimise(), number, "low byte {}", low);
+            assert_eq!(other.insert(b"b", b"two"), number, "low byte {}", low);
+            assert_eq!(other.delete(b"b"), number, "low byte {}", low);
+            assert_eq!(other.bytes()[140..142], [low, file.version]);
+        }
+    }
+}
+
+#[test]
+fn changes_keep_the_identifier() {
+    let mut book = Book::new(&FILES[1], 4_096);
+    assert_eq!(book.insert(b"a", &t(700)), 0);
+    assert_eq!(book.insert(b"b", &t(700)), 0);
+    assert_eq!(book.insert(b"c", &t(3_000)), 15);
+    assert_eq!(book.delete(b"a"), 0);
+    assert_eq!(book.delete(b"a"), 100);
+    assert_eq!(book.optimise(), 0);
+    assert_eq!(book.bytes()[216..224], IDENTIFIER.to_le_bytes());
+    // index_blkbit, a byte without a name, extheader, empty_block2, nindex2, nblock2.
+    assert_eq!(
+        book.bytes()[182..200],
+        *b"\0\0\0\0\0\0\xFF\xFF\xFF\xFF\x01\0\0\0\x03\0\0\0"
+    );
 }

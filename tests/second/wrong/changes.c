@@ -6,7 +6,7 @@
 #include <stdlib.h>
 #include <string.h>
 
-uint32_t right_pdic_create(uint8_t *image, size_t image_size, size_t *new_len);
+uint32_t right_pdic_create(uint8_t *image, size_t image_size, uint8_t version, uint64_t ident, size_t *new_len);
 uint32_t right_pdic_insert(uint8_t *image, size_t image_size, size_t len, uint8_t *work, size_t work_size,
                            const uint8_t *headword, size_t headword_size, uint8_t attribute,
                            const uint8_t *text, size_t text_size, size_t *new_len);
@@ -43,6 +43,11 @@ static void take_back(call *c) {
     *c->new_len = c->new_len_before;
 }
 
+/* The fields that version 5 has two bytes later than version 4. */
+static uint8_t *moved(uint8_t *image, size_t place) { return image + place + (image[141] == 5 ? 2 : 0); }
+static uint8_t *empty_block2(uint8_t *image) { return moved(image, 186); }
+static uint8_t *nindex2(uint8_t *image) { return moved(image, 190); }
+
 static uint32_t index_blocks(const uint8_t *image) { return two(image + 148); }
 static uint8_t *block(uint8_t *image, uint32_t number) {
     return image + 256 * (1 + (size_t)index_blocks(image) + number);
@@ -50,7 +55,7 @@ static uint8_t *block(uint8_t *image, uint32_t number) {
 
 /* The element of an image at a place; NULL past the last. */
 static uint8_t *element(uint8_t *image, uint32_t place) {
-    if (place >= four(image + 190)) return NULL;
+    if (place >= four(nindex2(image))) return NULL;
     uint8_t *at = image + 256;
     while (place--) at += 2 + strlen((char *)at + 2) + 1;
     return at;
@@ -58,7 +63,7 @@ static uint8_t *element(uint8_t *image, uint32_t place) {
 
 /* The place of the last element not above a headword, else 0. */
 static uint32_t concerned(uint8_t *image, const uint8_t *headword, size_t size) {
-    uint32_t found = 0, elements = four(image + 190);
+    uint32_t found = 0, elements = four(nindex2(image));
     const char *word = (const char *)image + 256 + 2;
     for (uint32_t i = 0; i < elements; i++) {
         size_t length = strlen(word), common = length < size ? length : size;
@@ -80,7 +85,7 @@ static uint8_t *run_end(uint8_t *run) { return run + 256 * (size_t)two(run); }
 
 /* Every number of the chain goes up. */
 static void shift_chain(uint8_t *image, uint32_t by) {
-    uint8_t *link = image + 186;
+    uint8_t *link = empty_block2(image);
     while (four(link) != CHAIN_END) {
         uint32_t number = four(link);
         put_four(link, number + by);
@@ -90,7 +95,7 @@ static void shift_chain(uint8_t *image, uint32_t by) {
 
 /* The chain from its last block to its first. */
 static void turn_chain(uint8_t *image) {
-    uint32_t before = CHAIN_END, number = four(image + 186);
+    uint32_t before = CHAIN_END, number = four(empty_block2(image));
     while (number != CHAIN_END) {
         uint8_t *link = block(image, number) + 2;
         uint32_t next = four(link);
@@ -98,7 +103,7 @@ static void turn_chain(uint8_t *image) {
         before = number;
         number = next;
     }
-    put_four(image + 186, before);
+    put_four(empty_block2(image), before);
 }
 
 /* An entry with a shared front gets one that is a byte shorter, if its run has a byte left. */
@@ -125,7 +130,7 @@ static void old_headword(call *c) {
     uint8_t *old = element(c->image_before, place), *now = element(c->image, place);
     if (now && strlen((char *)now + 2) == c->headword_size && strlen((char *)old + 2) == c->headword_size &&
         memcmp(old + 2, c->headword, c->headword_size) == 0 &&
-        four(c->image + 190) == four(c->image_before + 190))
+        four(nindex2(c->image)) == four(nindex2(c->image_before)))
         memcpy(now + 2, c->headword, c->headword_size);
 }
 
@@ -136,7 +141,7 @@ static void place_highest(call *c) {
     uint32_t data = (uint32_t)(*c->new_len / 256) - 1 - index_blocks(image);
     uint32_t from = two(at), size = two(block(image, from)), to = 0, found = 0;
     uint8_t *is_free = calloc(data + 1, 1);
-    for (uint32_t n = four(image + 186); n != CHAIN_END; n = four(block(image, n) + 2)) is_free[n] = 1;
+    for (uint32_t n = four(empty_block2(image)); n != CHAIN_END; n = four(block(image, n) + 2)) is_free[n] = 1;
     if (!is_free[from + size])
         for (uint32_t n = from + size, length = 0; n <= data; n++) {
             if (is_free[n]) length++;
@@ -150,7 +155,7 @@ static void place_highest(call *c) {
         memset(is_free + from, 1, size);
         memset(is_free + to, 0, size);
         put_two(at, to);
-        uint8_t *link = image + 186;
+        uint8_t *link = empty_block2(image);
         for (uint32_t n = 0; n < data; n++)
             if (is_free[n]) {
                 put_four(link, n);
@@ -160,6 +165,22 @@ static void place_highest(call *c) {
         put_four(link, CHAIN_END);
     }
     free(is_free);
+}
+
+/* The counts go where version 4 has them, and version 5 keeps its own. */
+static void counts_at_4(call *c) {
+    uint8_t counts[12];
+    memcpy(counts, c->image + 188, 12);
+    memcpy(c->image + 182, c->image_before + 182, 18);
+    memcpy(c->image + 186, counts, 12);
+}
+
+/* What is spoiled after a call that was done on a file of version 5. */
+static void done_wrong_5(call *c) {
+    if (is("counts-at-version-4")) counts_at_4(c);
+    if (is("identifier-altered")) c->image[223] ^= 0x80;
+    if (is("optimise-zeroes-identifier") && c->kind == OPTIMISE) memset(c->image + 216, 0, 8);
+    if (is("version-5-becomes-4")) c->image[141] = 4;
 }
 
 /* What is spoiled after a call that was done. */
@@ -211,7 +232,7 @@ static uint32_t done_wrong(call *c) {
             }
         if (is("chain-descending")) turn_chain(image);
         if (is("free-block-wiped"))
-            for (uint32_t n = four(image + 186); n != CHAIN_END; n = four(block(image, n) + 2))
+            for (uint32_t n = four(empty_block2(image)); n != CHAIN_END; n = four(block(image, n) + 2))
                 memset(block(image, n) + 6, 0, 250);
     }
     if (c->kind == OPTIMISE) {
@@ -221,6 +242,7 @@ static uint32_t done_wrong(call *c) {
         if (is("optimise-not-counted") && *c->new_len == c->len)
             memcpy(image + 208, c->image_before + 208, 4);
     }
+    if (image[141] == 5) done_wrong_5(c);
     if (is("count-not-wrapped") && four(image + 208) == 0) put_four(image + 208, CHAIN_END);
     if (is("empty_block-written")) put_two(image + 154, 0xFFFF);
     if (is("work-kept-past-L")) memcpy(c->work + c->len, c->work_before + c->len, c->work_size - c->len);
@@ -242,6 +264,7 @@ static uint32_t refused_wrong(call *c, uint32_t number) {
     if (is("work-kept-on-15") && number == 15) memcpy(c->work, c->work_before, c->work_size);
     if (is("half-done-on-15") && number == 15) c->image[c->len - 1] ^= 1;
     if (is("12-before-11") && number == 11 && c->kind != OPTIMISE && c->headword_size == 0) return 12;
+    if (is("identifier-altered-on-15") && number == 15 && c->image[141] == 5) c->image[216] ^= 1;
     if (is("absent-as-12") && number == 100) return 12;
     if (is("crash-on-15") && number == 15) *(volatile int *)0 = 0;
     return number;
@@ -266,11 +289,36 @@ static uint32_t after(call *c, uint32_t number) {
     return number;
 }
 
-uint32_t pdic_create(uint8_t *image, size_t image_size, size_t *new_len) {
+/* An identifier's eight bytes the other way round. */
+static void turn_identifier(uint8_t *image) {
+    for (int i = 0; i < 4; i++) {
+        uint8_t low = image[216 + i];
+        image[216 + i] = image[223 - i];
+        image[223 - i] = low;
+    }
+}
+
+uint32_t pdic_create(uint8_t *image, size_t image_size, uint8_t version, uint64_t ident, size_t *new_len) {
+    int known = version == 4 || version == 5;
     if (is("create-in-255") && image_size == 255) return 0;
-    uint32_t number = right_pdic_create(image, image_size, new_len);
-    if (is("create-clears-all") && number == 0) memset(image + 256, 0, image_size - 256);
-    return number;
+    if (is("create-3-before-1") && !known) return 3;
+    if (is("create-low-bits") && !known) version &= 0x7F;
+    if (is("identifier-32-bits")) ident = (uint32_t)ident;
+    uint8_t as = is("version-6-created") && version == 6 ? 5 : version;
+    uint32_t number = right_pdic_create(image, image_size, as, ident, new_len);
+    if (number == 3 && is("create-clears-on-3")) memset(image, 0, 256);
+    if (number == 3 && is("L-on-3")) *new_len = 256;
+    if (number != 0) return number;
+    image[141] = version;
+    if (is("create-clears-all")) memset(image + 256, 0, image_size - 256);
+    if (is("identifier-high-byte-first") && version == 5) turn_identifier(image);
+    if (is("identifier-in-version-4") && version == 4)
+        for (int i = 0; i < 8; i++) image[216 + i] = (uint8_t)(ident >> 8 * i);
+    if (is("empty_block2-at-186") && version == 5) {
+        memset(image + 188, 0, 4);
+        put_four(image + 186, CHAIN_END);
+    }
+    return 0;
 }
 
 uint32_t pdic_insert(uint8_t *image, size_t image_size, size_t len, uint8_t *work, size_t work_size,

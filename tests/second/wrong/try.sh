@@ -45,7 +45,7 @@ try() {
 try compare 20000 absent-always text-length-one-more 14-for-absent zero-behind-text byte-past-slice \
     attribute-on-absent argument-first headword-8-bits count-by-guess refuse-all accept-10 9-as-10 \
     chain-16-bits touch-behind-L number-on-refusal length-32-bits skip-run-start above-low-bit \
-    write-before-14 walk-empty-12 crash
+    write-before-14 walk-empty-12 crash version-6-read os-at-171 os-at-167-too nblock2-at-194
 try histories 500 15-without-placing image-untouched first-call-only same-entry-ignored replaced-counted \
     L-one-block-more behind-end-marks touch-behind-new-L byte-past-image highest-of-equals full-slice-refused \
     old-headword-in-index front-shorter chain-not-renumbered moved-run-trimmed chain-descending \
@@ -53,5 +53,8 @@ try histories 500 15-without-placing image-untouched first-call-only same-entry-
     empty_block-written work-kept-past-L 15-at-index-32767 15-at-data-65536 L-on-refusal L-on-absent \
     absent-counted work-zeroed-on-2 work-kept-on-12 work-kept-on-15 half-done-on-15 12-before-11 \
     absent-as-12 crash-on-15 create-in-255 create-clears-all text-first text-16-bits \
-    attribute-high-bit-only version-16-changed
+    attribute-high-bit-only version-16-changed counts-at-version-4 version-5-becomes-4 identifier-altered \
+    identifier-altered-on-15 optimise-zeroes-identifier identifier-high-byte-first identifier-32-bits \
+    identifier-in-version-4 version-6-created create-low-bits create-3-before-1 create-clears-on-3 L-on-3 \
+    empty_block2-at-186
 exit $failed

@@ -23,12 +23,41 @@ static const char *way(void) {
 
 static int is(const char *name) { return strcmp(way(), name) == 0; }
 
+/* How much later a header has empty_block2, nindex2 and nblock2 than version 4. */
+static size_t later(const uint8_t *image) { return image[141] == 5 ? 2 : 0; }
+
+/* A header whose fields are looked for at the wrong places, as one with them at the right ones. */
+static void misread(uint8_t *header) {
+    if (is("version-6-read") && header[141] == 6)
+        header[141] = 5;
+    if (is("os-at-171") && header[141] == 5)
+        header[167] = header[171];
+    if (is("os-at-167-too") && header[141] == 4)
+        header[171] |= header[167];
+    if (is("nblock2-at-194") && header[141] == 5)
+        memmove(header + 196, header + 194, 4);
+}
+
+/* Check by a misread header, which stands there again afterwards. */
+static uint32_t check_misread(const uint8_t *image, size_t image_size, size_t len, uint64_t *headwords,
+                              uint64_t *index_blocks, uint64_t *data_blocks, uint64_t *free_blocks) {
+    uint8_t *header = (uint8_t *)image, kept[256];
+    size_t size = image_size < 256 ? 0 : 256;
+    memcpy(kept, header, size);
+    if (size)
+        misread(header);
+    uint32_t number =
+        right_pdic_check(image, image_size, len, headwords, index_blocks, data_blocks, free_blocks);
+    memcpy(header, kept, size);
+    return number;
+}
+
 uint32_t pdic_check(const uint8_t *image, size_t image_size, size_t len, uint64_t *headwords,
                     uint64_t *index_blocks, uint64_t *data_blocks, uint64_t *free_blocks) {
     if (is("length-32-bits"))
         len = (uint32_t)len;
     uint32_t number =
-        right_pdic_check(image, image_size, len, headwords, index_blocks, data_blocks, free_blocks);
+        check_misread(image, image_size, len, headwords, index_blocks, data_blocks, free_blocks);
     if (is("count-by-guess") && number == 0)
         *headwords = *data_blocks;
     if (is("refuse-all") && number == 0)
@@ -43,7 +72,7 @@ uint32_t pdic_check(const uint8_t *image, size_t image_size, size_t len, uint64_
         /* A chain whose first number is right in its low half. */
         uint8_t *other = malloc(image_size);
         memcpy(other, image, image_size);
-        other[188] = other[189] = 0;
+        memset(other + 188 + later(image), 0, 2);
         uint64_t n[4];
         uint32_t again = right_pdic_check(other, image_size, len, n, n + 1, n + 2, n + 3);
         free(other);
@@ -87,7 +116,8 @@ uint32_t pdic_look_up(const uint8_t *image, size_t image_size, size_t len, const
 
 /* Whether a headword is that of an index element. */
 static int in_index(const uint8_t *image, const uint8_t *headword, size_t size) {
-    size_t elements = image[190] | (size_t)image[191] << 8, at = 256;
+    const uint8_t *nindex2 = image + 190 + later(image);
+    size_t elements = nindex2[0] | (size_t)nindex2[1] << 8, at = 256;
     for (size_t i = 0; i < elements; i++) {
         size_t length = strlen((const char *)image + at + 2);
         if (length == size && memcmp(image + at + 2, headword, size) == 0)

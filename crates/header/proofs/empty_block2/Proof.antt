@@ -5,6 +5,9 @@ use borrow.Author.Needs.{needs}
 use Rattle.header.proofs.empty_block2.Statement.{statement}
 use Rattle.header.proofs.empty_block2.Tie as tie
 
+places-requires : tie.Need-places-requires
+places-requires c κs = search needs
+
 read-u32-requires : tie.Need-read-u32-requires
 read-u32-requires c κs = search needs
 
@@ -12,4 +15,7 @@ returns : tie.Need-returns
 returns c = (search read-empty-block2, omega arith)
 
 pub empty-block2-spec : {M : Type 1} → statement M
-empty-block2-spec = tie.close (tie.spec read-u32-requires returns)
+empty-block2-spec = tie.close (tie.spec
+    places-requires
+    read-u32-requires
+    returns)

@@ -4,20 +4,23 @@ use borrow.Author.Needs.{needs}
 use Rattle.header.proofs.kind_ok.Statement.{statement}
 use Rattle.header.proofs.kind_ok.Tie as tie
 
-read-u16-requires : tie.Need-read-u16-requires
-read-u16-requires c κs = search needs
+version-requires : tie.Need-version-requires
+version-requires c κs = search needs
+
+known-version-requires : tie.Need-known-version-requires
+known-version-requires c κs = search needs
 
 returns : tie.Need-returns
 returns c = search kind-version
 
-read-u16-requires-2 : tie.Need-read-u16-requires-2
-read-u16-requires-2 c κs = search needs
+read-u16-requires : tie.Need-read-u16-requires
+read-u16-requires c κs = search needs
 
 returns-2 : tie.Need-returns-2
 returns-2 c = search kind-block
 
-read-u16-requires-3 : tie.Need-read-u16-requires-3
-read-u16-requires-3 c κs = search needs
+read-u16-requires-2 : tie.Need-read-u16-requires-2
+read-u16-requires-2 c κs = search needs
 
 returns-3 : tie.Need-returns-3
 returns-3 c = search kind-header
@@ -35,11 +38,12 @@ pub kind-ok-spec : {M : Type 1} → statement M
 kind-ok-spec =
     tie.close
     (tie.spec
-    read-u16-requires
+    version-requires
+    known-version-requires
     returns
-    read-u16-requires-2
+    read-u16-requires
     returns-2
-    read-u16-requires-3
+    read-u16-requires-2
     returns-3
     shared-slice-read-if4
     returns-4

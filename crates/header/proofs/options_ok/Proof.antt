@@ -4,6 +4,9 @@ use borrow.Author.Needs.{needs}
 use Rattle.header.proofs.options_ok.Statement.{statement}
 use Rattle.header.proofs.options_ok.Tie as tie
 
+places-requires : tie.Need-places-requires
+places-requires c κs = search needs
+
 shared-slice-read-if1 : tie.Need-shared-slice-read-if1
 shared-slice-read-if1 c = search needs
 
@@ -38,6 +41,7 @@ pub options-ok-spec : {M : Type 1} → statement M
 options-ok-spec =
     tie.close
     (tie.spec
+    places-requires
     shared-slice-read-if1
     returns
     shared-slice-read-if2

@@ -5,6 +5,9 @@ use borrow.Author.Needs.{needs}
 use Rattle.header.proofs.write_counts.Statement.{statement}
 use Rattle.header.proofs.write_counts.Tie as tie
 
+places-requires : tie.Need-places-requires
+places-requires c κs = search needs
+
 next-update-requires : tie.Need-next-update-requires
 next-update-requires c κs = search needs
 
@@ -31,7 +34,8 @@ same-length c = search needs
 
 returns : tie.Need-returns
 returns c = (
-  counts-stored _ _ _ _ _ _ _ _ _ _ _ _ _
+  counts-stored _ _ _ _ _ _ _ _ _ _ _ _ _ _
+      (after-places .places .ensures .0)
       (after-next-update .next-update .ensures)
       (after-write-u32 .write-u32 .ensures .0)
       (after-write-u322 .write-u322 .ensures .0)
@@ -63,10 +67,14 @@ returns c = (
     after-next-update : tie.After-next-update
     after-next-update = search after-write-u32
 
+    after-places : tie.After-places
+    after-places = search after-next-update
+
 pub write-counts-spec : {M : Type 1} → statement M
 write-counts-spec =
     tie.close
     (tie.spec
+    places-requires
     next-update-requires
     write-u32-requires
     write-u32-requires-2

@@ -5,8 +5,17 @@ use borrow.Author.Needs.{needs}
 use Rattle.header.proofs.write_empty.Statement.{statement}
 use Rattle.header.proofs.write_empty.Tie as tie
 
+cast-version : tie.Need-cast-version
+cast-version c = search needs
+
+places-of-requires : tie.Need-places-of-requires
+places-of-requires c κs = search needs
+
 fill-zero-requires : tie.Need-fill-zero-requires
 fill-zero-requires c κs = search needs
+
+write-identifier-requires : tie.Need-write-identifier-requires
+write-identifier-requires c κs = search needs
 
 write-u32-requires : tie.Need-write-u32-requires
 write-u32-requires c κs = search needs
@@ -30,7 +39,10 @@ pub write-empty-spec : {M : Type 1} → statement M
 write-empty-spec =
     tie.close
     (tie.spec
+    cast-version
+    places-of-requires
     fill-zero-requires
+    write-identifier-requires
     write-u32-requires
     write-u16-requires
     write-u8-requires

@@ -17,6 +17,9 @@ write-u16-requires-3 c κs = search needs
 write-u16-requires-4 : tie.Need-write-u16-requires-4
 write-u16-requires-4 c κs = search needs
 
+mul-write-u16 : tie.Need-mul-write-u16
+mul-write-u16 c = search needs
+
 write-u16-requires-5 : tie.Need-write-u16-requires-5
 write-u16-requires-5 c κs = search needs
 
@@ -34,6 +37,7 @@ write-sizes-spec =
     write-u16-requires-2
     write-u16-requires-3
     write-u16-requires-4
+    mul-write-u16
     write-u16-requires-5
     same-length
     returns)

@@ -5,17 +5,17 @@
 //! Compares the images FIRST (0) to FIRST + IMAGES (200,000) under SEED (1), for SECONDS
 //! (600) at most. Image, arguments and slices depend on the seed and the image's number
 //! alone, so `compare SEED 1 60 NUMBER` repeats one image. Ends with status 1 at a
-//! difference, if a number that must be seen was not (not asked where FIRST is given), or if
-//! images were left over.
+//! difference, if a number that must be seen in each version was not (not asked where FIRST is
+//! given), or if images were left over.
 
 use second::both::{Both, Differs};
 use second::calls::{self, Answer, Read, ABSENT};
 use second::cases::{case, Case, Expected};
 use second::damage::DAMAGES;
-use second::drive::{self, drive, Found, Plan};
+use second::drive::{self, add_each, drive, Found, Plan};
 use second::make::KINDS;
 use second::random::Random;
-use second::reader::{read, MOST_HEADWORD, MOST_TEXT};
+use second::reader::{read, FORMATS, MOST_HEADWORD, MOST_TEXT};
 use second::words::{bad, lengths_to_try, near};
 
 /// The calls compared; those that change an image are compared by `histories`.
@@ -49,12 +49,12 @@ struct Tally {
     images: u64,
     calls: u64,
     bytes: u64,
-    /// By kind, call and answer.
-    seen: Vec<[[u64; ANSWERS]; CALLS.len()]>,
-    /// By kind: images, accepted ones, and accepted among those made good.
-    kinds: Vec<[u64; 3]>,
-    /// By damage: images that have it alone, and with others.
-    damages: Vec<[u64; 2]>,
+    /// By kind, version made in, call and answer.
+    seen: Vec<[[[u64; ANSWERS]; CALLS.len()]; FORMATS.len()]>,
+    /// By kind and version made in: images, accepted ones, and accepted among those made good.
+    kinds: Vec<[[u64; 3]; FORMATS.len()]>,
+    /// By damage and version made in: images that have it alone, and with others.
+    damages: Vec<[[u64; 2]; FORMATS.len()]>,
     longest_run: usize,
     most_blocks: usize,
 }
@@ -65,9 +65,9 @@ impl drive::Tally for Tally {
             images: 0,
             calls: 0,
             bytes: 0,
-            seen: vec![[[0; ANSWERS]; CALLS.len()]; KINDS.len()],
-            kinds: vec![[0; 3]; KINDS.len()],
-            damages: vec![[0; 2]; DAMAGES.len()],
+            seen: vec![[[[0; ANSWERS]; CALLS.len()]; FORMATS.len()]; KINDS.len()],
+            kinds: vec![[[0; 3]; FORMATS.len()]; KINDS.len()],
+            damages: vec![[[0; 2]; FORMATS.len()]; DAMAGES.len()],
             longest_run: 0,
             most_blocks: 0,
         }
@@ -77,22 +77,38 @@ impl drive::Tally for Tally {
         self.images += other.images;
         self.calls += other.calls;
         self.bytes += other.bytes;
-        for kind in 0..KINDS.len() {
-            for call in 0..CALLS.len() {
-                for answer in 0..ANSWERS {
-                    self.seen[kind][call][answer] += other.seen[kind][call][answer];
-                }
-            }
-            for i in 0..3 {
-                self.kinds[kind][i] += other.kinds[kind][i];
-            }
+        for (ours, theirs) in self.seen.iter_mut().zip(&other.seen) {
+            add_each(
+                ours.as_flattened_mut().as_flattened_mut(),
+                theirs.as_flattened().as_flattened(),
+            );
+        }
+        for (ours, theirs) in self.kinds.iter_mut().zip(&other.kinds) {
+            add_each(ours.as_flattened_mut(), theirs.as_flattened());
         }
         for (ours, theirs) in self.damages.iter_mut().zip(&other.damages) {
-            ours[0] += theirs[0];
-            ours[1] += theirs[1];
+            add_each(ours.as_flattened_mut(), theirs.as_flattened());
         }
         self.longest_run = self.longest_run.max(other.longest_run);
         self.most_blocks = self.most_blocks.max(other.most_blocks);
+    }
+}
+
+impl Tally {
+    /// How often a call gave the answer at a place on images made in a version.
+    fn answered(&self, version: usize, call: usize, place: usize) -> u64 {
+        let each =
+            |kind: &[[[u64; ANSWERS]; CALLS.len()]; FORMATS.len()]| kind[version][call][place];
+        self.seen.iter().map(each).sum()
+    }
+
+    /// The images made in a version, accepted ones, and accepted among those made good.
+    fn of_version(&self, version: usize) -> [u64; 3] {
+        let mut sum = [0; 3];
+        for kind in &self.kinds {
+            add_each(&mut sum, &kind[version]);
+        }
+        sum
     }
 }
 
@@ -101,13 +117,14 @@ struct Bench<'a> {
     both: Both,
     random: Random,
     kind: usize,
+    version: usize,
     tally: &'a mut Tally,
 }
 
 impl Bench<'_> {
     fn count(&mut self, call: usize, number: u32) {
         self.tally.calls += 1;
-        self.tally.seen[self.kind][call][answer_place(number)] += 1;
+        self.tally.seen[self.kind][self.version][call][answer_place(number)] += 1;
     }
 
     fn check(&mut self, read: &Read, len: usize) -> Result<(), Differs> {
@@ -206,14 +223,15 @@ fn compare_case(case: Case, tally: &mut Tally) -> Result<(), Differs> {
         mut random,
         ..
     } = case;
+    let version = case.format.place();
     let result = read(&slice, len);
     tally.images += 1;
     tally.bytes += slice.len() as u64;
-    tally.kinds[kind][0] += 1;
-    tally.kinds[kind][1] += result.is_ok() as u64;
+    tally.kinds[kind][version][0] += 1;
+    tally.kinds[kind][version][1] += result.is_ok() as u64;
     match case.expected {
         Expected::Good(image) => match &result {
-            Ok(values) if *values == *image => tally.kinds[kind][2] += 1,
+            Ok(values) if *values == *image => tally.kinds[kind][version][2] += 1,
             Ok(_) => return Err("the second reader reads other values than made".to_string()),
             Err(number) => {
                 return Err(format!(
@@ -234,7 +252,7 @@ fn compare_case(case: Case, tally: &mut Tally) -> Result<(), Differs> {
         Expected::Open => {}
     }
     for damage in &case.damages {
-        tally.damages[*damage][(case.damages.len() > 1) as usize] += 1;
+        tally.damages[*damage][version][(case.damages.len() > 1) as usize] += 1;
     }
     if let Ok(image) = &result {
         let longest = image.runs.iter().map(|run| run.blocks).max().unwrap_or(0);
@@ -246,6 +264,7 @@ fn compare_case(case: Case, tally: &mut Tally) -> Result<(), Differs> {
         both: Both::new(&slice, Random::of(random.next(), 1)),
         random: Random::of(random.next(), 0),
         kind,
+        version,
         tally,
     };
     let big = slice.len() > 1 << 20;
@@ -328,7 +347,8 @@ fn compare_case(case: Case, tally: &mut Tally) -> Result<(), Differs> {
 fn report(plan: &Plan, found: &Found) {
     let case = case(plan.seed, found.number);
     println!("DIFFERENCE: seed {}, image {}", plan.seed, found.number);
-    println!("  kind: {}", KINDS[case.kind].1);
+    let (name, version) = (KINDS[case.kind].1, case.format.version);
+    println!("  kind: {}, made in version {}", name, version);
     println!("  image: {}", case.story);
     println!("  L {}, slice of {} bytes", case.len, case.slice.len());
     println!("  {}", found.differs);
@@ -352,6 +372,13 @@ fn main() {
         total.images as f64 / outcome.elapsed,
         total.bytes >> 20
     );
+    for (version, format) in FORMATS.iter().enumerate() {
+        let [images, accepted, _] = total.of_version(version);
+        println!(
+            "version {}: {} images, {} accepted",
+            format.version, images, accepted
+        );
+    }
     println!(
         "longest accepted run {} blocks, most data blocks {}",
         total.longest_run, total.most_blocks
@@ -380,40 +407,70 @@ fn main() {
     std::process::exit(wrong as i32);
 }
 
-/// Prints what must have been seen and was not.
+/// Prints what must have been seen in each version and was not.
 fn missing(total: &Tally) -> bool {
     let mut missing = false;
-    for (call, must) in MUST.iter().enumerate() {
-        for number in *must {
-            let place = answer_place(*number);
-            let seen: u64 = total.seen.iter().map(|kind| kind[call][place]).sum();
-            if seen == 0 {
-                println!("NOT SEEN: {} answers {}", CALLS[call], number);
-                missing = true;
-            }
-        }
-    }
-    for ((_, name), kind) in KINDS.iter().zip(&total.kinds) {
-        // About 7 in 20 images of a kind are made good.
-        if kind[2] == 0 || kind[1] * 10 < kind[0] {
-            println!("TOO FEW ACCEPTED: {}", name);
-            missing = true;
-        }
-    }
-    for (damage, seen) in DAMAGES.iter().zip(&total.damages) {
-        if seen[0] == 0 {
-            println!("NOT SEEN: {}", damage.name);
+    for (version, format) in FORMATS.iter().enumerate() {
+        for said in missing_in(total, version) {
+            println!("{}, version {}", said, format.version);
             missing = true;
         }
     }
     missing
 }
 
+fn missing_in(total: &Tally, version: usize) -> Vec<String> {
+    let mut missing = Vec::new();
+    for (call, must) in MUST.iter().enumerate() {
+        for number in *must {
+            if total.answered(version, call, answer_place(*number)) == 0 {
+                missing.push(format!("NOT SEEN: {} answers {}", CALLS[call], number));
+            }
+        }
+    }
+    for ((_, name), kind) in KINDS.iter().zip(&total.kinds) {
+        // About 7 in 20 images of a kind are made good.
+        let [made, accepted, good] = kind[version];
+        if good == 0 || accepted * 10 < made {
+            missing.push(format!("TOO FEW ACCEPTED: {}", name));
+        }
+    }
+    // Half of them are of each version.
+    if total.of_version(version)[0] * 5 < total.images * 2 {
+        missing.push("TOO FEW: images".to_string());
+    }
+    for (damage, seen) in DAMAGES.iter().zip(&total.damages) {
+        if seen[version][0] == 0 {
+            missing.push(format!("NOT SEEN: {}", damage.name));
+        }
+    }
+    missing
+}
+
 fn print_tables(total: &Tally) {
+    print_answers(total);
+    print_kinds(total);
+    println!("By damage: its number, images of version 4 and 5 with it alone, with others:");
+    for (damage, seen) in DAMAGES.iter().zip(&total.damages) {
+        println!(
+            "{:>4}{:>7}{:>7}{:>7}  {}",
+            damage.number,
+            seen[0][0],
+            seen[1][0],
+            seen[0][1] + seen[1][1],
+            damage.name
+        );
+    }
+    println!();
+}
+
+fn print_answers(total: &Tally) {
     println!("How often each answer was seen (0 done or found, absent, else the refusal):");
     print!("{:>8}", "answer");
     for call in CALLS {
-        print!("{:>12}", call);
+        for format in &FORMATS {
+            print!("{:>12}", format!("{} {}", call, format.version));
+        }
     }
     println!();
     for place in 0..ANSWERS {
@@ -423,8 +480,9 @@ fn print_tables(total: &Tally) {
             print!("{:>8}", place);
         }
         for call in 0..CALLS.len() {
-            let seen: u64 = total.seen.iter().map(|kind| kind[call][place]).sum();
-            print!("{:>12}", seen);
+            for version in 0..FORMATS.len() {
+                print!("{:>12}", total.answered(version, call, place));
+            }
         }
         if ONLY_CHANGING.contains(&(place as u32)) {
             print!("  (calls that change an image only)");
@@ -432,8 +490,14 @@ fn print_tables(total: &Tally) {
         println!();
     }
     println!();
-    println!("By kind of image: images, accepted, then calls by answer:");
-    print!("{:>51}{:>7}{:>7}", "", "images", "acc.");
+}
+
+fn print_kinds(total: &Tally) {
+    println!("By kind of image: images of version 4 and 5, accepted ones, then calls by answer:");
+    print!("{:>51}", "");
+    for head in ["4", "5", "acc. 4", "acc. 5"] {
+        print!("{:>7}", head);
+    }
     for place in 0..ANSWERS - 1 {
         if !ONLY_CHANGING.contains(&(place as u32)) {
             print!("{:>8}", place);
@@ -441,25 +505,17 @@ fn print_tables(total: &Tally) {
     }
     println!("{:>8}", "absent");
     for (kind, (_, name)) in KINDS.iter().enumerate() {
-        print!(
-            "{:>51}{:>7}{:>7}",
-            name, total.kinds[kind][0], total.kinds[kind][1]
-        );
+        let [four, five] = total.kinds[kind];
+        print!("{:>51}", name);
+        print!("{:>7}{:>7}{:>7}{:>7}", four[0], five[0], four[1], five[1]);
         for place in 0..ANSWERS {
             if !ONLY_CHANGING.contains(&(place as u32)) {
-                let seen: u64 = total.seen[kind].iter().map(|call| call[place]).sum();
+                let calls = total.seen[kind].as_flattened();
+                let seen: u64 = calls.iter().map(|call| call[place]).sum();
                 print!("{:>8}", seen);
             }
         }
         println!();
-    }
-    println!();
-    println!("By damage: its number, images with it alone, with others:");
-    for (damage, seen) in DAMAGES.iter().zip(&total.damages) {
-        println!(
-            "{:>4}{:>7}{:>7}  {}",
-            damage.number, seen[0], seen[1], damage.name
-        );
     }
     println!();
 }

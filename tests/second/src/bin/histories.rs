@@ -5,7 +5,7 @@
 //! Runs the histories FIRST (0) to FIRST + HISTORIES (2,500) under SEED (1), for SECONDS
 //! (600) at most; each depends on the seed and its number alone. Then the cases at the limits
 //! are run (not where FIRST is given). Ends with status 1 at a difference, if a happening was
-//! seen too seldom, or if histories were left over.
+//! seen too seldom in one of the versions, or if histories were left over.
 
 use second::drive::{drive, print_slice, Found, Plan, Tally as _};
 use second::history::history;
@@ -48,14 +48,18 @@ fn main() {
     if outcome.late {
         println!("the limit of {} s was reached", plan.seconds);
     }
-    if total.histories < plan.cases {
-        println!("{} histories wanted, {} run", plan.cases, total.histories);
+    if total.all_histories() < plan.cases {
+        println!(
+            "{} histories wanted, {} run",
+            plan.cases,
+            total.all_histories()
+        );
         wrong = true;
     }
     if plan.whole && differences == 0 {
         wrong |= total.missing();
         let start = Instant::now();
-        match limits() {
+        match limits(plan.seed) {
             Ok(cases) => println!(
                 "{} cases at the limits in {:.1} s",
                 cases,
@@ -69,7 +73,10 @@ fn main() {
     }
     println!(
         "{} histories, {} calls compared in {:.1} s, {} differences",
-        total.histories, total.calls, outcome.elapsed, differences
+        total.all_histories(),
+        total.calls,
+        outcome.elapsed,
+        differences
     );
     std::process::exit((wrong || differences > 0) as i32);
 }
