@@ -136,7 +136,8 @@ def _done(number: int) -> bool:
 class Dictionary:
     """A dictionary in memory, at first empty. Its memory grows with it up to `most` bytes; a change that needs more is refused with 15.
 
-    `version` is FORMAT_4 or FORMAT_5. One of version 5 has the identifier `ident`, or else one that is drawn at random.
+    `version` is FORMAT_4 or FORMAT_5, the high byte; another one raises PdicError 3. A dictionary of version 5 has the identifier
+    `ident`, or else one that is drawn at random; `ident` with another version is a ValueError.
     """
 
     def __init__(self, most: int = MAX_IMAGE, version: int = FORMAT_4, ident: Optional[int] = None):

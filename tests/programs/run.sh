@@ -7,7 +7,8 @@ set -eu
 here=$(cd "$(dirname "$0")" && pwd)
 root=$here/../..
 work=$(mktemp -d)
-trap 'rm -rf "$work"' EXIT
+beside=
+trap '[ -z "$beside" ] || kill "$beside" 2>/dev/null; rm -rf "$work"' EXIT
 "$root/programs/build.sh" "$work/plain" -g
 "$root/programs/build.sh" "$work/sanitized" -g -fsanitize=address,undefined -fno-sanitize-recover=all
 memory="valgrind -q --error-exitcode=99 --leak-check=full --show-leak-kinds=all --errors-for-leak-kinds=all"
@@ -71,6 +72,7 @@ gcc -std=c11 -O2 -Wall -Wextra -Wpedantic -Werror -I"$root/include" -I"$root/pro
     "$root/programs/alike.c" "$root/programs/bytes.c"
 report 'programs' "$work/alike" 1 5000
 wait "$beside"
+beside=
 echo "programs: $(cat "$here"/stories/*.txt | grep -c '^\$') runs as stored, plain, sanitized and under valgrind; the demo as stored"
 report 'programs' inside growth "$here/growth.sh" "$work/plain"
 report 'programs' "$here/wrong.sh" "$work"

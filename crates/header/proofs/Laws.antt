@@ -1,7 +1,7 @@
 -- The fields of a header as code reads them, what its tests and its frame show, and what it is after stores.
 use Prim.Native.Nat.{ℕ, _+_, _-_, _*_, _/_, _%_, _<_, _≤_}
 use mathlib.Core.Path.{_≡_, refl, sym, ap, subst, _∙_}
-use mathlib.Core.Bool.{Bool, true, false, not, _&&_, _||_}
+use mathlib.Core.Bool.{Bool, true, false, not, _&&_}
 use mathlib.Core.List.{List, [], _∷_, _++_, append-nil}
 use native.Mathlib.Omega.{arith}
 use lib.ListN.{length, getD, take, drop, length-drop, take-append-drop}
@@ -41,7 +41,7 @@ use Rattle.spec.specs.Check.{Frame, slice-ok, kind-ok, options-ok, frame-from, 
 use Rattle.spec.specs.Rows.{SliceRule}
 use Rattle.spec.specs.Lists.{All}
 use Rattle.spec.specs.declared.NewFile.{NewFile}
-use Rattle.spec.proofs.ListsLaws.{clash, or-right, or-false}
+use Rattle.spec.proofs.ListsLaws.{clash}
 use Rattle.spec.proofs.BytesLaws.{length-to-little-endian, length-zeros}
 use Rattle.spec.proofs.WriteLaws.{length-write, write-left}
 use Rattle.spec.proofs.PartLaws.{bytes-at-cons}
@@ -139,15 +139,6 @@ version-read s v h = rw (get-at 140 2 s, ← h)
 -- the places by the version that was read
 pub places-named : (s : List ℕ) (v : ℕ) (m : Moved) → v ≡ version-of s → Placed (layout-of v) m → Placed (layout-named s) m
 places-named s v m h p = subst (λ (o : Layout). Placed o m) (ap layout-of h ∙ sym (named s)) p
-
--- version 5 is known, and of the others 4 alone
-pub known-five : (v : ℕ) → v ≡ 5 → true ≡ known-version v
-unfolding known-version
-known-five v e = sym (or-right (eqb v 4) (eqb v 5) (eq-eqb v 5 e))
-
-pub known-four : (v : ℕ) → (v ≡ 5 → ⊥) → eqb v 4 ≡ known-version v
-unfolding known-version
-known-four v n = or-false (eqb v 4) ∙ ap (λ (t : Bool). eqb v 4 || t) (sym (ne-eqb v 5 n))
 
 -- a field by its place
 get-field : (f : Field) (a n : ℕ) → f ≡ field-at a n → (s : List ℕ) → get f s ≡ from-little-endian (bytes-at a n s)

@@ -116,7 +116,7 @@ pub fn known_version(version: usize) -> bool
     version == VERSION_4
 }
 
-// Where a version has the moved fields. Every version but 5 is read as 4; row 3 refuses it.
+// Where a version has the moved fields. Every version but 5 is read as 4; row 3 refuses those that are not 4.
 fn places_of(version: usize) -> Moved
     ensures { λ r. ⌜ Placed (layout-of version) r ⌝ }
     ensures { λ r. ⌜ InHeader r ⌝ }
@@ -197,7 +197,7 @@ pub fn empty_block2(s: &[u8]) -> usize
     read_u32(s, at.empty_block2)
 }
 
-// Whether the header is of this kind of file: row 3.
+// Whether the header is of a known kind of file: row 3.
 fn kind_ok(s: &[u8]) -> bool
     requires { ⌜ 256 ≤ length (now s) ⌝ }
     ensures { λ r. ⌜ r ≡ kind-ok (layout-named (now (s .entry))) (now (s .entry)) ⌝ }

@@ -185,7 +185,7 @@ module _ (s : List ℕ) (L : ℕ) (work : List ℕ) where
     by-slice : No (SliceRule s L) → n ≡ 1 → ChangeCase n
     by-work : SliceRule s L → length work < length s → n ≡ 2 → ChangeCase n
     by-content : length s ≤ length work → image-in s L ≡ refused n → n ∈ content-numbers → ChangeCase n
-    by-version : (i : Image) → length s ≤ length work → image-in s L ≡ ok i → writable (i .frame .format .layout) s ≡ false → n ≡ 11 → ChangeCase n
+    by-low-byte : (i : Image) → length s ≤ length work → image-in s L ≡ ok i → writable (i .frame .format .layout) s ≡ false → n ≡ 11 → ChangeCase n
 
   -- behind row 1 the image is that of its first L bytes
   found-in : slice-ok s L ≡ ok tt → image-in s L ≡ image-from (take L s)
@@ -217,7 +217,7 @@ module _ (s : List ℕ) (L : ℕ) (work : List ℕ) where
             (λ (f, r).
             ⊎-elim (λ e. let h : image-in s L ≡ refused n = found-in a ∙ e in by-content (ltb-false (length work) (length s) f) h (content-told a n h))
             (λ (i, got, v).
-            ⊎-elim (λ (t, m). by-version i (ltb-false (length work) (length s) f) (found-in a ∙ got) (not-true (writable (i .frame .format .layout) s) t) m) (λ (g, w). absurd (ok-not-refused i n w))
+            ⊎-elim (λ (t, m). by-low-byte i (ltb-false (length work) (length s) f) (found-in a ∙ got) (not-true (writable (i .frame .format .layout) s) t) m) (λ (g, w). absurd (ok-not-refused i n w))
             (when-refused 11 (not (writable (i .frame .format .layout) s)) (ok i) n v))
             (bind-refused (image-from (take L s)) _ n r))
             (when-refused 2 (ltb (length work) (length s)) _ n q)
@@ -227,7 +227,7 @@ module _ (s : List ℕ) (L : ℕ) (work : List ℕ) where
   change-back n (by-slice b m) = rw (slice-one s L .1 b, m)
   change-back n (by-work r l m) = rw (slice-stored s L .1 r, lt-ltb (length work) (length s) l, m)
   change-back n (by-content l h a) = let (q, e) = found-from n a h in rw (q, le-ltb (length work) (length s) l, e)
-  change-back n (by-version i l got w m) = let (q, e) = in-told s L i got in rw (q, le-ltb (length work) (length s) l, e, w, m)
+  change-back n (by-low-byte i l got w m) = let (q, e) = in-told s L i got in rw (q, le-ltb (length work) (length s) l, e, w, m)
 
   -- they have no other number
   change-number : (n : ℕ) → ChangeCase n → n ∈ change-numbers
@@ -235,7 +235,7 @@ module _ (s : List ℕ) (L : ℕ) (work : List ℕ) where
   change-number n (by-slice b m) = rw m
   change-number n (by-work r l m) = rw m
   change-number n (by-content l h a) = content-begins n a
-  change-number n (by-version i l got w m) = rw m
+  change-number n (by-low-byte i l got w m) = rw m
 
   -- they do not apply
   may-told : (i : Image) → changeable s L work ≡ ok i → MayChange s L work i
@@ -288,32 +288,32 @@ module _ (s : List ℕ) (L : ℕ) (work : List ℕ) where
           row-1 = Iff·trans (beginning 1 refl) (λ c. one c, λ b. by-slice b refl);
           row-2 = Iff·trans (beginning 2 refl) (λ c. two c, λ (r, l). by-work r l refl);
           content-rows = λ n a. Iff·trans (beginning n (content-begins n a)) (λ c. found n a c, λ (l, h). by-content l h a);
-          row-11 = Iff·trans (beginning 11 refl) (λ c. eleven c, λ (i, l, got, w). by-version i l got w refl);
+          row-11 = Iff·trans (beginning 11 refl) (λ c. eleven c, λ (i, l, got, w). by-low-byte i l got w refl);
         }
       where
         one : ChangeCase 1 → No (SliceRule s L)
         one (by-slice b m) = b
         one (by-work r l m) = absurd (omega arith)
         one (by-content l h a) = absurd (false≢true a)
-        one (by-version i l got w m) = absurd (omega arith)
+        one (by-low-byte i l got w m) = absurd (omega arith)
 
         two : ChangeCase 2 → SliceRule s L × (length work < length s)
         two (by-slice b m) = absurd (omega arith)
         two (by-work r l m) = (r, l)
         two (by-content l h a) = absurd (false≢true a)
-        two (by-version i l got w m) = absurd (omega arith)
+        two (by-low-byte i l got w m) = absurd (omega arith)
 
         found : (n : ℕ) → n ∈ content-numbers → ChangeCase n → (length s ≤ length work) × (image-in s L ≡ refused n)
         found n q (by-slice b m) = absurd (false≢true (rw m at q))
         found n q (by-work r l m) = absurd (false≢true (rw m at q))
         found n q (by-content l h a) = (l, h)
-        found n q (by-version i l got w m) = absurd (false≢true (rw m at q))
+        found n q (by-low-byte i l got w m) = absurd (false≢true (rw m at q))
 
         eleven : ChangeCase 11 → (i : Image) × (length s ≤ length work) × (image-in s L ≡ ok i) × (writable (i .frame .format .layout) s ≡ false)
         eleven (by-slice b m) = absurd (omega arith)
         eleven (by-work r l m) = absurd (omega arith)
         eleven (by-content l h a) = absurd (false≢true a)
-        eleven (by-version i l got w m) = (i, l, got, w)
+        eleven (by-low-byte i l got w m) = (i, l, got, w)
 
 -- what follows row 11 of an insertion
 abbrev inserts : List ℕ → List ℕ → ℕ → List ℕ → Image → Outcome Plan

@@ -373,7 +373,7 @@ free-probes =
     ∷ patched 769 (1 ∷ []) (checks 1_792 (refusal 9))
     ∷ []
 
--- a new file of another version, with an identifier
+-- a new file of a version, with an identifier
 unfoldable pub file-of : ℕ → ℕ → NewFile
 file-of v ident = record { version = v; identifier = ident }
 
@@ -404,7 +404,9 @@ version-probes =
     ∷ patched 140 (16 ∷ []) (checks 768 (2 ∷ 1 ∷ 1 ∷ 0 ∷ []))
     ∷ patched 140 (16 ∷ []) (keeps (lent 768) (del (ascii "ABC")) (refusal 11) (zeros 768))
     ∷ patched 140 (15 ∷ []) (works (lent 768) opt (768 ∷ []) (zeros 768))
-    -- 4: os, index_blkbit, the first and the last byte of extheader; nothing at the old os, nor between index_blkbit and extheader
+    -- 4: dicorder, dictype, os, index_blkbit, the first and the last byte of extheader; nothing at the old os, nor between index_blkbit and extheader
+    ∷ patched 164 (1 ∷ []) (checks 768 (refusal 4))
+    ∷ patched 165 (1 ∷ []) (checks 768 (refusal 4))
     ∷ patched 167 (1 ∷ []) (checks 768 (refusal 4))
     ∷ patched 171 (1 ∷ []) (checks 768 (2 ∷ 1 ∷ 1 ∷ 0 ∷ []))
     ∷ patched 182 (1 ∷ []) (checks 768 (refusal 4))
@@ -417,6 +419,10 @@ version-probes =
     ∷ patched 196 (2 ∷ []) (checks 768 (refusal 10))
     ∷ patched 198 (1 ∷ []) (checks 768 (refusal 10))
     ∷ patched 199 (1 ∷ []) (checks 768 (refusal 10))
+    -- where version 4 has empty_block2, nindex2 and nblock2, a byte of extheader, of empty_block2 and of nindex2 stands
+    ∷ patched 186 (1 ∷ []) (checks 768 (refusal 4))
+    ∷ patched 190 (0 ∷ []) (checks 768 (refusal 9))
+    ∷ patched 194 (1 ∷ []) (checks 768 (refusal 6))
     -- the identifier may be anything
     ∷ patched 216 (lent 8) (checks 768 (2 ∷ 1 ∷ 1 ∷ 0 ∷ []))
     ∷ looks-up (ascii "ABC") (lent 5) (128 ∷ 3 ∷ []) (ascii "one" ++ lent 2)

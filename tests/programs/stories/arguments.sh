@@ -12,6 +12,7 @@ note "a value behind an equals sign, or as a word of its own"
 run glossary list --from=washer machinery.dic
 run glossary list --from washer machinery.dic
 run glossary add --wait 0 machinery.dic --attribute 0xA3 horn avertisseur
+run glossary dump machinery.dic | sed -n '1p; /^horn/p'
 run glossary list machinery.dic horn --from
 run glossary add machinery.dic --attribute horn avertisseur
 run glossary add --waiting=0 machinery.dic horn avertisseur

@@ -30,7 +30,7 @@ run glossary make --format=5 drawn-0.dic machinery.tsv
 for i in 1 2 3 4 5 6 7; do "$programs/glossary" make --format=5 drawn-$i.dic machinery.tsv >/dev/null; done
 for i in 0 1 2 3 4 5 6 7; do ident_of drawn-$i.dic; done >drawn.txt
 echo "$(grep -c '^[0-9A-F]\{16\}$' drawn.txt) drawn, $(sort -u drawn.txt | wc -l) different"
-for i in 1 2 3 4 5 6 7; do cmp -l drawn-0.dic drawn-$i.dic; done | awk '$1 < 217 || $1 > 224'
+for i in 1 2 3 4 5 6 7; do cmp -l drawn-0.dic drawn-$i.dic || true; done | awk '$1 < 217 || $1 > 224'
 
 note "every command reads and changes both, and keeps version and identifier"
 printf 'coolant\tantigel\nflat\tplat\n' >more.tsv

@@ -72,12 +72,11 @@ fn place(kind: Kind) -> usize {
 /// Image `number` under `seed`.
 pub fn case(seed: u64, number: u64) -> Case {
     let mut random = Random::of(seed, number);
-    let giants = FIRST_GIANT..FIRST_GIANT + GIANT_STEP * GIANTS as u64;
+    let giants = FIRST_GIANT..FIRST_GIANT + GIANT_STEP * (GIANTS * FORMATS.len()) as u64;
     if giants.contains(&number) && (number - FIRST_GIANT) % GIANT_STEP == 0 {
+        // First all in version 4, then all in version 5.
         let which = ((number - FIRST_GIANT) / GIANT_STEP) as usize;
-        // Every other one is of version 5; which ones goes by the seed.
-        let format = &FORMATS[(which as u64 ^ seed) as usize % FORMATS.len()];
-        return a_giant(random, which, format);
+        return a_giant(random, which % GIANTS, &FORMATS[which / GIANTS]);
     }
     let kind = match number % LARGE_STEP {
         250 => Kind::Large,

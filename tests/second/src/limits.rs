@@ -21,9 +21,8 @@ struct Limit {
     calls: Vec<Call>,
 }
 
-/// Runs all cases, every other one in version 5 (which ones goes by the seed), and gives their
-/// number.
-pub fn limits(seed: u64) -> Result<usize, Differs> {
+/// Runs all cases, each in both versions, and gives their number.
+pub fn limits() -> Result<usize, Differs> {
     let cases: [fn() -> Limit; 8] = [
         index_limit,
         data_limit,
@@ -34,14 +33,14 @@ pub fn limits(seed: u64) -> Result<usize, Differs> {
         longest_run_moved,
         great_growth,
     ];
-    for (i, case) in cases.iter().enumerate() {
-        let case = case();
-        let name = case.name;
-        let format = &FORMATS[(i as u64 ^ seed) as usize % FORMATS.len()];
-        run(case, format)
-            .map_err(|differs| format!("{}, version {}: {}", name, format.version, differs))?;
+    for format in &FORMATS {
+        for case in cases {
+            let case = case();
+            let story = format!("{}, version {}", case.name, format.version);
+            run(case, format).map_err(|differs| format!("{}: {}", story, differs))?;
+        }
     }
-    Ok(cases.len())
+    Ok(cases.len() * FORMATS.len())
 }
 
 fn run(case: Limit, format: &Format) -> Result<(), Differs> {

@@ -256,6 +256,8 @@ fn a_version_only_for_reading() {
                 both: Both::new(&bytes, Random::of(1, 1)),
                 len: book.len,
             };
+            // "16 to 255 only read".
+            assert_eq!(other.both.check(&read(&bytes, book.len), book.len), Ok(0));
             assert_eq!(other.optimise(), number, "low byte {}", low);
             assert_eq!(other.insert(b"b", b"two"), number, "low byte {}", low);
             assert_eq!(other.delete(b"b"), number, "low byte {}", low);

@@ -1,5 +1,5 @@
 -- `known_version` meets its contract.
-use Rattle.header.proofs.Laws.{known-five, known-four}
+use Rattle.spec.proofs.HeaderLaws.{known-five, known-four}
 use Rattle.header.proofs.known_version.Statement.{statement}
 use Rattle.header.proofs.known_version.Tie as tie
 

@@ -33,7 +33,38 @@ same-length : tie.Need-same-length
 same-length c = search needs
 
 returns : tie.Need-returns
-returns c = (search empty-stored, omega arith)
+returns c = (
+  empty-stored _ _ _ _ _ _ _ _ _
+      (after-places-of .places-of .ensures .0)
+      (after-fill-zero .fill-zero .ensures .0)
+      (after-write-identifier .write-identifier .ensures .0)
+      (after-write-u32 .write-u32 .ensures .0)
+      (after-write-u16 .write-u16 .ensures .0)
+      (after-write-u8 .write-u8 .ensures .0)
+      (after-write-sizes .write-sizes .ensures .0),
+  omega arith,
+)
+  where
+    after-write-sizes : tie.After-write-sizes
+    after-write-sizes = search
+
+    after-write-u8 : tie.After-write-u8
+    after-write-u8 = search after-write-sizes
+
+    after-write-u16 : tie.After-write-u16
+    after-write-u16 = search after-write-u8
+
+    after-write-u32 : tie.After-write-u32
+    after-write-u32 = search after-write-u16
+
+    after-write-identifier : tie.After-write-identifier
+    after-write-identifier = search after-write-u32
+
+    after-fill-zero : tie.After-fill-zero
+    after-fill-zero = search after-write-identifier
+
+    after-places-of : tie.After-places-of
+    after-places-of = search after-fill-zero
 
 pub write-empty-spec : {M : Type 1} → statement M
 write-empty-spec =

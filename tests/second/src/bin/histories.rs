@@ -59,7 +59,7 @@ fn main() {
     if plan.whole && differences == 0 {
         wrong |= total.missing();
         let start = Instant::now();
-        match limits(plan.seed) {
+        match limits() {
             Ok(cases) => println!(
                 "{} cases at the limits in {:.1} s",
                 cases,
