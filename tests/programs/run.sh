@@ -8,7 +8,7 @@ here=$(cd "$(dirname "$0")" && pwd)
 root=$here/../..
 work=$(mktemp -d)
 beside=
-trap '[ -z "$beside" ] || kill "$beside" 2>/dev/null; rm -rf "$work"' EXIT
+trap '[ -z "$beside" ] || kill "$beside" 2>/dev/null || :; rm -rf "$work"' EXIT
 "$root/programs/build.sh" "$work/plain" -g
 "$root/programs/build.sh" "$work/sanitized" -g -fsanitize=address,undefined -fno-sanitize-recover=all
 memory="valgrind -q --error-exitcode=99 --leak-check=full --show-leak-kinds=all --errors-for-leak-kinds=all"
