@@ -5,36 +5,33 @@ use mathlib.Core.Bool.{Bool, true, false, not}
 use mathlib.Core.List.{List}
 use native.Mathlib.Omega.{arith}
 use lib.ListN.{length, getD, take}
-use lib.Seq.{length-take-le, take-length, take-take}
-use lib.Dec.{T, eqb}
-use lib.Pow.{areBytes}
+use lib.Seq.{length-take-le, take-take}
+use lib.Dec.{eqb}
 use borrow.Author.Tests.{lt-ltb, le-ltb, eqb-true, eq-eqb, not-true, not-false}
 use Rattle.spec.specs.Outcome.{refused, ok, accepted, _>>=_, _>>_, refuse_when_}
-use Rattle.spec.specs.Bytes as Bytes
+use Rattle.spec.specs.Lists.{_∈_}
 use Rattle.spec.specs.Bytes.{from-little-endian, write, zeros, bytes-at}
 use Rattle.spec.specs.Header.{Layout, known-version, new-image, get, writable}
 use Rattle.spec.specs.Blocks.{run-blocks}
 use Rattle.spec.specs.Check as Check
-use Rattle.spec.specs.Check.{Frame, Image, slice-ok, image-from, image-in, all-entries, entries-of}
+use Rattle.spec.specs.Check.{Frame, Image, slice-ok, image-from, all-entries, entries-of}
 use Rattle.spec.specs.Place.{plan-packed, plan-written}
 use Rattle.spec.specs.Calls as Calls
 use Rattle.spec.specs.Calls.{ChangeResult, create, changeable, insert-plan, insert, delete-plan, delete, optimise-plan, optimise, plan-length, given-up-zeroed}
 use Rattle.spec.specs.Answers as Answers
 use Rattle.spec.specs.Answers.{length-answer, delete-answer}
-use Rattle.spec.specs.Claim as Claim
 use Rattle.spec.specs.Rows as RowsSpec
-use Rattle.spec.specs.Rows.{SliceRule}
-use Rattle.spec.specs.CallRows.{ChangeRows}
+use Rattle.spec.specs.Rows.{No, SliceRule}
+use Rattle.spec.specs.CallRows.{change-numbers, ChangeRows}
 use Rattle.spec.specs.Slices.{WorkZeroed}
 use Rattle.spec.specs.declared.LengthAnswer.{LengthAnswer}
 use Rattle.spec.specs.declared.DeleteAnswer.{DeleteAnswer}
 use Rattle.spec.specs.declared.NewFile.{NewFile}
 use Rattle.spec.proofs.ListsLaws.{and-left}
-use Rattle.spec.proofs.BytesLaws.{small-of, bytes-of, small-take, small-at, from-small, small-part}
+use Rattle.spec.proofs.BytesLaws.{all-bytes, small-of, small-take, small-at, from-small}
 use Rattle.spec.proofs.PartLaws.{length-bytes-at}
 use Rattle.spec.proofs.SlicesLaws.{work-after-calls}
 use Rattle.spec.proofs.CallRowsLaws.{first-numbers}
-use Rattle.spec.proofs.ClaimLaws.{packed-room}
 use Rattle.header.specs.Form.{layout-named}
 use Rattle.header.proofs.Laws.{read-nword, layout-kept, slice-refused, slice-accepted, slice-has-header, slice-in-blocks, slice-holds}
 use Rattle.inspect.specs.Overview.{AcceptedImage}
@@ -92,11 +89,6 @@ unfolding Calls.optimise Calls.optimise-result Calls.changed Answers.length-answ
 optimise-refuses s L work k e = (sym (rw e), sym (rw e))
 
 -- ---- rows 1 and 2 of a changing call
--- bytes as code knows them
-pub all-bytes : (s : List ℕ) → ((k : ℕ) → getD s k 0 < 256) → T (areBytes s)
-unfolding Bytes.bytes-at
-all-bytes s h = bytes-of s (rw (take-length s) at (small-part s h (length s) 0))
-
 -- what the code has tested before it looks at the image
 abbrev pub Tested : List ℕ → ℕ → List ℕ → Type 0
 Tested s L work = (256 ≤ L) × (L % 256 ≡ 0) × (L ≤ length s) × (length s ≤ length work)
@@ -241,6 +233,17 @@ module _ (s : List ℕ) (L : ℕ) (work : List ℕ) where
             cleared ∙ ap zeros long ∙ sym (zeroed-by (optimise s L work) (first-numbers .optimise-rows s L work (all-bytes s bytes) .change-rows) (work-after-calls .optimise-work s L work)) in
             rw (e, f, z)
 
+  -- what is promised of an optimising follows from its equation: its number is never 15, but one of those with which a changing call begins
+  pub optimise-promised : ((k : ℕ) → getD s k 0 < 256) → (r : LengthAnswer) (s′ w′ : List ℕ)
+      → record { answer = length-answer r; image = s′; work = w′ } ≡ optimise s L work
+      → (record { answer = length-answer r; image = s′; work = w′ } ≡ optimise s L work)
+      × (No (length-answer r ≡ refused 15) × ((n : ℕ) → length-answer r ≡ refused n → n ∈ change-numbers))
+  unfolding RowsSpec.No
+  optimise-promised bytes r s′ w′ e =
+      let a : length-answer r ≡ optimise s L work .answer = ap (λ (x : ChangeResult ℕ). x .answer) e in
+      let o = first-numbers .optimise-rows s L work (all-bytes s bytes) in
+      (e, (λ p. o .never-15 (sym a ∙ p), λ n p. o .no-other n (sym a ∙ p)))
+
   -- ---- what is left when rows 1 and 2 do not apply
   module _ (p₁ : 256 ≤ L) (p₂ : L % 256 ≡ 0) (p₃ : L ≤ length s) (p₄ : length s ≤ length work) where
     -- the image decides
@@ -289,13 +292,11 @@ module _ (s : List ℕ) (L : ℕ) (work : List ℕ) where
       unfolding Calls.optimise-plan
       optimise-eleven q = optimise-refuses s L work 11 (rw (change-eleven v a t version q))
 
-      module _ (q : not t ≡ false) (bytes : (k : ℕ) → getD s k 0 < 256) where
-        -- an optimising has room
-        fits : optimise-plan s L work ≡ ok (plan-packed (a .image .frame .format) (a .image .runs))
-        unfolding Calls.optimise-plan Calls.fitting Claim.optimise-placing Check.image-in Check.slice-ok
-        fits =
-            let got : image-in s L ≡ ok (a .image) = rw (le-ltb L 256 p₁, eq-eqb (L % 256) 0 p₂, le-ltb (length s) L p₃, a .is) in
-            rw (change-may v a t version q, packed-room s L (a .image) got (all-bytes s bytes))
+      module _ (q : not t ≡ false) where
+        -- nothing refuses it then
+        goes-on : optimise-plan s L work ≡ ok (plan-packed (a .image .frame .format) (a .image .runs))
+        unfolding Calls.optimise-plan
+        goes-on = rw (change-may v a t version q)
 
         -- the new length and the image
         pub optimise-done : (old s′ : List ℕ) → old ≡ take L s → (r : ℕ) → ((i : Image) → image-from old ≡ ok i → r ≡ plan-length (plan-packed (i .frame .format) (i .runs)))
@@ -305,4 +306,4 @@ module _ (s : List ℕ) (L : ℕ) (work : List ℕ) where
         optimise-done old s′ o r f g =
             let i : image-from old ≡ ok (a .image) = ap image-from o ∙ a .is in
             let l : length old ≡ L = ap length o ∙ length-take-le L s p₃ in
-            (sym (rw (fits, f (a .image) i)), rw (fits) (rw l at (g (a .image) i)))
+            (sym (rw (goes-on, f (a .image) i)), rw (goes-on) (rw l at (g (a .image) i)))

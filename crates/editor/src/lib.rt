@@ -1,9 +1,13 @@
 // The changing calls: create, insert, delete and optimise.
 ghost use mathlib.Core.Path.{_≡_};
-ghost use Prim.Native.Nat.{_%_, _<_, _≤_};
+ghost use Prim.Native.Nat.{ℕ, _%_, _<_, _≤_};
 ghost use lib.ListN.{length, take};
+ghost use Rattle.spec.specs.Outcome.{refused};
+ghost use Rattle.spec.specs.Lists.{_∈_};
 ghost use Rattle.spec.specs.Calls.{create, insert, delete, optimise};
 ghost use Rattle.spec.specs.Answers.{length-answer, delete-answer};
+ghost use Rattle.spec.specs.Rows.{No};
+ghost use Rattle.spec.specs.CallRows.{change-numbers};
 ghost use Rattle.marks.specs.Marks.{marks};
 ghost use Rattle.inspect.specs.Overview.{AcceptedImage, FreeMarked};
 ghost use Rattle.change.specs.Ready.{old-length};
@@ -221,11 +225,13 @@ fn optimise_tested(image: &mut [u8], len: usize, work: &mut [u8]) -> LengthAnswe
     }
 }
 
-// Optimise: the runs one after the other, no free block.
+// Optimise: the runs one after the other, no free block. It cannot run out: its number is never 15, but one of 1 to 11.
 pub fn optimise(image: &mut [u8], len: usize, work: &mut [u8]) -> LengthAnswer
     ensures { λ r. ⌜
         record { answer = length-answer r; image = now (image .exit); work = now (work .exit) }
         ≡ optimise (now (image .entry)) len (now (work .entry)) ⌝ }
+    ensures { λ r. ⌜ No (length-answer r ≡ refused 15) ⌝ }
+    ensures { λ r. ⌜ ((n : ℕ) → length-answer r ≡ refused n → n ∈ change-numbers) ⌝ }
 {
     if !header::slice_ok(image, len) {
         return LengthAnswer::Refused(1);

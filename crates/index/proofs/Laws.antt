@@ -143,7 +143,7 @@ module _ (w : ℕ) where
 
   -- ---- what is read
   -- elements read from `at` on are those that stand there, inside the index
-  pub elements-found-from : 1 ≤ w → (below : HeadwordOrder) (index prev : List ℕ) (at n : ℕ) (es : List Element) → elements-from w below n prev (drop at index) ≡ ok es
+  elements-found-from : 1 ≤ w → (below : HeadwordOrder) (index prev : List ℕ) (at n : ℕ) (es : List Element) → elements-from w below n prev (drop at index) ≡ ok es
       → (es ≡ elements-at w index at n) × Inside w index at n
   unfolding elements-at element-at
   elements-found-from wide below index prev at zero es h =

@@ -1,45 +1,47 @@
 -- An accepted image packed is the specification's: what it tells of its parts, and what the stores make of the slice.
-use Prim.Native.Nat.{ℕ, zero, suc, _+_, _-_, _*_, _%_, _≤_}
+use Prim.Native.Nat.{ℕ, zero, suc, _+_, _-_, _*_, _%_, _<_, _≤_}
 use mathlib.Core.Path.{_≡_, refl, sym, ap, ap₂, subst, _∙_}
-use mathlib.Core.Bool.{not}
 use mathlib.Core.List.{List, [], _∷_, _++_, map, append-assoc}
 use native.Mathlib.Omega.{arith}
-use lib.ListN.{length, take, drop, length-drop, length-map}
-use lib.Seq.{length-take-le, take-take, drop-drop}
-use lib.Dec.{ltb, eqb}
-use borrow.Author.Tests.{ltb-false, eqb-true, not-false}
-use Rattle.spec.specs.Order.{HeadwordOrder, below-of}
-use Rattle.spec.specs.Outcome.{Outcome, ok, _>>=_, _>>_, refuse_when_}
-use Rattle.spec.specs.Bytes as BytesSpec
-use Rattle.spec.specs.Bytes.{write, zeros, blocks-for, all-zero}
+use lib.ListN.{length, getD, take, drop, length-drop, length-map}
+use lib.Seq.{take-length, take-take, drop-drop}
+use lib.Dec.{eqb}
+use borrow.Author.Tests.{le-ltb, eqb-true, eq-eqb}
+use Rattle.spec.specs.Order.{below-of}
+use Rattle.spec.specs.Outcome.{ok}
+use Rattle.spec.specs.Bytes.{write, zeros, blocks-for}
 use Rattle.spec.specs.Header.{Layout, Format, Lawful, Counts, get, changed-header}
 use Rattle.spec.proofs.HeaderLaws.{lawful-format}
-use Rattle.spec.specs.Entry.{headword-ok}
 use Rattle.spec.specs.Run.{Run}
 use Rattle.spec.specs.Index as IndexSpec
-use Rattle.spec.specs.Index.{Element, elements-bytes, elements-from, index-from, index-need, index-bytes}
+use Rattle.spec.specs.Index.{Element, elements-bytes, index-need, index-bytes}
 use Rattle.spec.specs.Blocks as BlocksSpec
 use Rattle.spec.specs.Blocks.{run-blocks, free-blocks, free-list-written}
 use Rattle.spec.specs.Check as CheckSpec
-use Rattle.spec.specs.Check.{Frame, Image, index-area, data-area, runs-from, image-from, all-entries}
+use Rattle.spec.specs.Check.{Image, data-area, runs-from, image-from, all-entries}
 use Rattle.spec.specs.Place as PlaceSpec
 use Rattle.spec.specs.Place.{Plan, element-of, packed, runs-written, plan-packed, plan-counts, plan-written}
 use Rattle.spec.specs.Calls as CallsSpec
 use Rattle.spec.specs.Calls.{plan-length, given-up-zeroed}
+use Rattle.spec.specs.Claim as ClaimSpec
+use Rattle.spec.specs.Claim.{optimise-placing}
+use Rattle.spec.specs.PackedForm as PackedForm
+use Rattle.spec.specs.PackedForm.{NeedsNoMore}
 use Rattle.spec.proofs.ListsLaws.{and-right}
-use Rattle.spec.proofs.OutcomeLaws.{same-value, when-ok, bind-ok}
+use Rattle.spec.proofs.OutcomeLaws.{same-value}
+use Rattle.spec.proofs.BytesLaws.{all-bytes}
 use Rattle.spec.proofs.WriteLaws.{take-write, drop-write, length-write, write-behind}
 use Rattle.spec.proofs.IndexLaws.{index-bytes-length, need-room}
-use Rattle.spec.proofs.ReadLaws.{ImageTold, frame-fits, runs-elements, runs-inside, free-list-below}
-use Rattle.spec.proofs.CountLaws.{blocks-once}
+use Rattle.spec.proofs.ReadLaws.{frame-fits, runs-elements}
 use Rattle.spec.proofs.PlaceLaws.{packed-entries}
 use Rattle.spec.proofs.MoveFormLaws.{packed-as-worded}
+use Rattle.spec.proofs.PackedLaws.{packed-needs-no-more}
 use Rattle.index.specs.Elements as Elements
-use Rattle.index.specs.Elements.{element-end, element-headword, element-at, elements-at, elements-end, Inside}
-use Rattle.index.proofs.Laws.{element-then, element-read, elements-found-from, elements-count, ends-inside}
+use Rattle.index.specs.Elements.{elements-at, elements-end, Inside}
+use Rattle.index.proofs.Laws.{elements-count, ends-inside}
 use Rattle.elements.proofs.Laws.{elements-length}
 use Rattle.header.specs.Form.{layout-named, format-by, index-start, area-start, index-part, data-part}
-use Rattle.header.proofs.Laws.{header-front, layout-kept, index-slice}
+use Rattle.header.proofs.Laws.{header-front, layout-kept}
 use Rattle.inspect.specs.Overview.{AcceptedImage}
 use Rattle.inspect.specs.declared.Overview.{Overview}
 use Rattle.inspect.proofs.Laws.{index-few}
@@ -47,39 +49,6 @@ use Rattle.inspect.proofs.Accepted.{accepted-format, image-format, accepted-n, 
 use Rattle.pack.specs.Packing as Packing
 use Rattle.pack.specs.Packing.{blocks-needed, runs-bytes, packed-elements, runs-packed, RunsFit}
 use Rattle.pack.proofs.Laws.{Whole, packed-same, runs-bytes-length, packed-written, runs-whole}
-
--- ---- the index of an accepted image
-module _ (width : ℕ) (some-bytes : 1 ≤ width) (below : HeadwordOrder) where
-  -- behind elements that are read there are at least four bytes
-  elements-room : (index prev : List ℕ) (at elements : ℕ) (es : List Element) → elements-from width below elements prev (drop at index) ≡ ok es
-      → elements-end width index at elements + 4 ≤ length index
-  unfolding IndexSpec.elements-from Elements.elements-end element-then
-  elements-room index prev at zero es h =
-      let (a, b) = when-ok 6 (ltb (length (drop at index)) 4) (refuse 6 when not (all-zero (drop at index)) >> ok []) es h in
-      omega (arith, ltb-false (length (drop at index)) 4 a, length-drop at index)
-  elements-room index prev at (suc elements) es h =
-      let (p, q, i) = elements-found-from width some-bytes below index prev at (suc elements) es h .1 in
-      let e : Element = element-at width index at in
-      let rest : Outcome (List Element) = elements-from width below elements (element-headword width index at) (drop (element-end width index at + 1) index) in
-      let (a, b) =
-      when-ok 6 (not (headword-ok (e .headword))) (refuse 6 when not (below prev (e .headword)) >> (rest >>= λ ds. ok (e ∷ ds))) es
-      (sym (element-read width below index prev at elements p q) ∙ h) in
-      let (c, d) = when-ok 6 (not (below prev (e .headword))) (rest >>= λ ds. ok (e ∷ ds)) es b in
-      let (ds, k, l) = bind-ok rest (λ ds. ok (e ∷ ds)) es d in
-      elements-room index (element-headword width index at) (element-end width index at + 1) elements ds k
-
-  -- they need no more blocks than an index has that is read
-  need-few : (index : List ℕ) (b elements : ℕ) (es : List Element) → length index ≡ 256 * b → index-from width below b elements index ≡ ok es
-      → index-need width (elements-at width index 0 elements) ≤ b
-  unfolding IndexSpec.index-from IndexSpec.index-need Elements.elements-at BytesSpec.blocks-for
-  need-few index zero elements es l h =
-      let (p, q) = when-ok 6 (not (eqb elements 0)) (ok []) es h in
-      let z : elements ≡ 0 = eqb-true elements 0 (not-false (eqb elements 0) p) in
-      rw z (omega arith)
-  need-few index (suc b) zero es l h = omega arith
-  need-few index (suc b) (suc elements) es l h =
-      let i : Inside width index 0 (suc elements) = elements-found-from width some-bytes below index [] 0 (suc elements) es h .1 in
-      omega (arith, elements-room index [] 0 (suc elements) es h, elements-length width index 0 (suc elements) i)
 
 -- the blocks that the code finds needed are those of the specification
 needed-is : (width : ℕ) (index : List ℕ) (elements m : ℕ) → Inside width index 0 elements → m ≡ blocks-needed elements (elements-end width index 0 elements)
@@ -119,18 +88,17 @@ module _ (s : List ℕ) (v : Overview) (a : AcceptedImage s v) (in-blocks : leng
   pub old-whole : area-start (v .form) (v .n) + 256 * v .d ≡ length s
   old-whole = accepted-whole s v a in-blocks
 
+  -- packed, it needs no more than there is
+  no-more : ((k : ℕ) → getD s k 0 < 256) → NeedsNoMore (length s) (a .image) (optimise-placing (a .image))
+  unfolding PackedForm.PackedNeedsNoMore CheckSpec.image-in CheckSpec.slice-ok
+  no-more bytes =
+      packed-needs-no-more s (length s) (a .image) (all-bytes s bytes)
+      (rw (le-ltb (length s) 256 (omega (arith, old-whole)), eq-eqb (length s % 256) 0 in-blocks, le-ltb (length s) (length s) (omega arith), take-length s, a .is))
+
   -- its runs have no more blocks than there are
-  pub blocks-few : run-blocks (a .image .runs) ≤ v .d
-  blocks-few =
-      let D : ℕ = a .image .frame .data-blocks in
-      let told : ImageTold format-here s (a .image) = accepted-told s v a in
-      omega (
-        arith,
-        accepted-d s v a,
-        blocks-once D (a .image .runs) (a .image .free-list) (told .once)
-            (runs-inside (below-of (v .form .order)) D (data-area (a .image .frame) s) (told .elements) (a .image .runs) (told .runs))
-            (free-list-below D D _ _ (a .image .free-list) (told .free-list)),
-      )
+  blocks-few : ((k : ℕ) → getD s k 0 < 256) → run-blocks (a .image .runs) ≤ v .d
+  unfolding ClaimSpec.optimise-placing PlaceSpec.plan-packed
+  blocks-few bytes = omega (arith, accepted-d s v a, no-more bytes .no-more-data-blocks)
 
   -- they are as many as nblock2 says
   pub blocks-counted : (g : ℕ) → g ≡ get (layout-named s .nblock2) s → g ≡ run-blocks (a .image .runs)
@@ -142,8 +110,8 @@ module _ (s : List ℕ) (v : Overview) (a : AcceptedImage s v) (in-blocks : leng
       e ∙ eqb-true (get (o .nblock2) s) (run-blocks rs) k
 
   -- which is no more than there are
-  pub blocks-fewer : (g : ℕ) → g ≡ get (layout-named s .nblock2) s → g ≤ v .d
-  blocks-fewer g e = omega (arith, blocks-counted g e, blocks-few)
+  pub blocks-fewer : ((k : ℕ) → getD s k 0 < 256) → (g : ℕ) → g ≡ get (layout-named s .nblock2) s → g ≤ v .d
+  blocks-fewer bytes g e = omega (arith, blocks-counted g e, blocks-few bytes)
 
   -- the elements end before the limit
   pub end-short : v .end ≤ 8_388_608
@@ -167,20 +135,12 @@ module _ (s : List ℕ) (v : Overview) (a : AcceptedImage s v) (in-blocks : leng
       need-is = needed-is (v .form .width) old-index e m (accepted-inside s v a e number) (needed ∙ rw (a .end-is, number))
 
       -- the new index is no longer than the old one
-      pub index-fewer : m ≤ v .n
-      index-fewer =
-          let w : ℕ = v .form .width in
-          let b : HeadwordOrder = below-of (v .form .order) in
-          let told : ImageTold format-here s (a .image) = accepted-told s v a in
-          let x : index-area (a .image .frame) s ≡ old-index = ap (λ (g : Frame). index-area g s) (a .frame-is) ∙ index-slice (layout-named s) (v .form) s (v .n) (v .d) in
-          let l : length old-index ≡ 256 * v .n
-          = length-take-le (area-start (v .form) (v .n) - index-start (v .form)) (drop (index-start (v .form)) s) (omega (arith, old-whole, length-drop (index-start (v .form)) s))
-          ∙ omega arith in
-          let i : index-from w b (v .n) e old-index ≡ ok (told .elements) =
-          ap (λ (k : ℕ). index-from w b k e old-index) (accepted-n s v a)
-          ∙ ap₂ (λ (k : ℕ) (l : List ℕ). index-from w b (a .image .frame .index-blocks) k l) number (sym x)
-          ∙ told .index in
-          omega (arith, need-is, need-few w (omega (arith, a .good .0 .0)) b old-index (v .n) e (told .elements) l i)
+      pub index-fewer : ((k : ℕ) → getD s k 0 < 256) → m ≤ v .n
+      unfolding ClaimSpec.optimise-placing PlaceSpec.plan-packed
+      index-fewer bytes =
+          let same : index-need (a .image .frame .format .number-width) (map element-of (a .image .runs)) ≡ index-need (v .form .width) (old-elements e)
+          = ap₂ index-need (ap (λ (F : Format). F .number-width) (image-format s v a)) elements-are in
+          omega (arith, need-is, same, accepted-n s v a, no-more bytes .no-longer-index)
 
       -- and holds the elements
       pub index-holds : index-start (v .form) + length (elements-bytes (v .form .width) (old-elements e)) ≤ area-start (v .form) m
@@ -320,7 +280,7 @@ module _ (F : Format) (lawful : Lawful F) (rs : List Run) (m : ℕ) (need : m �
 -- ---- pack
 module _ (s : List ℕ) (v : Overview) (a : AcceptedImage s v) (in-blocks : length s % 256 ≡ 0) (e : ℕ) (number : e ≡ get (layout-named s .nindex2) s)
     (blocks : ℕ) (counted : blocks ≡ get (layout-named s .nblock2) s)
-    (m : ℕ) (needed : m ≡ blocks-needed e (v .end)) where
+    (m : ℕ) (needed : m ≡ blocks-needed e (v .end)) (bytes : (k : ℕ) → getD s k 0 < 256) where
   -- the runs, and the format
   abbrev runs : List Run
   runs = a .image .runs
@@ -358,7 +318,7 @@ module _ (s : List ℕ) (v : Overview) (a : AcceptedImage s v) (in-blocks : leng
 
   -- the new length is no longer than the old one
   pub packed-shorter : new-end ≤ length s
-  packed-shorter = omega (arith, old-whole s v a in-blocks, blocks-of, blocks-few s v a in-blocks, index-fewer s v a in-blocks e number m needed)
+  packed-shorter = omega (arith, old-whole s v a in-blocks, blocks-of, blocks-few s v a in-blocks bytes, index-fewer s v a in-blocks e number m needed bytes)
 
   -- and is the plan's
   pub packed-length : (i : Image) → image-from s ≡ ok i → new-end ≡ plan-length (plan-packed (i .frame .format) (i .runs))

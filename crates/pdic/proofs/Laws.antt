@@ -1,17 +1,25 @@
 -- What the returns of the calls from C show.
 use Prim.Native.Nat.{ℕ}
-use mathlib.Core.Path.{_≡_}
-use mathlib.Core.List.{List}
+use mathlib.Core.Path.{_≡_, refl}
+use mathlib.Core.List.{List, _∷_}
 use mathlib.Core.Option.{Option}
-use Rattle.spec.specs.Outcome.{Outcome}
+use native.Mathlib.Omega.{arith}
+use lib.Dec.{eqb}
+use Rattle.spec.specs.Outcome.{Outcome, refused}
+use Rattle.spec.specs.Lists as Lists
+use Rattle.spec.specs.Lists.{any, _∈_}
 use Rattle.spec.specs.Calls.{CreateResult, Figures, LookUpResult, WalkResult, ChangeResult}
 use Rattle.spec.specs.Answers as Answers
 use Rattle.spec.specs.Answers.{length-answer, check-answer, look-up-answer, walk-answer, delete-answer}
+use Rattle.spec.specs.Rows as Rows
+use Rattle.spec.specs.Rows.{No}
+use Rattle.spec.specs.CallRows.{change-numbers}
 use Rattle.spec.specs.declared.LengthAnswer.{LengthAnswer}
 use Rattle.spec.specs.declared.CheckAnswer.{CheckAnswer}
 use Rattle.spec.specs.declared.LookUpAnswer.{LookUpAnswer}
 use Rattle.spec.specs.declared.WalkAnswer.{WalkAnswer}
 use Rattle.spec.specs.declared.DeleteAnswer.{DeleteAnswer}
+use Rattle.spec.proofs.ListsLaws.{or-right}
 use Rattle.pdic.specs.Lent.{create-lent, check-lent, look-up-lent, walk-lent, change-lent, delete-lent}
 
 module _ (r : CheckAnswer) (o : Outcome Figures) (e : check-answer r ≡ o) (h₀ i₀ d₀ f₀ : ℕ) where
@@ -78,6 +86,18 @@ module _ (r : LengthAnswer) (s w : List ℕ) (o : ChangeResult ℕ) (e : record 
   pub change-done : (n : ℕ) → r ≡ LengthAnswer.Done n → record { returned = 0; image = s; work = w; new-length = n } ≡ change-lent o n₀
   unfolding change-lent Answers.length-answer Answers.code Answers.lent-number
   change-done n q = rw (← e, q)
+
+-- what an optimising returns, by the numbers that its answer can be
+module _ (r : LengthAnswer) (never : No (length-answer r ≡ refused 15)) (known : (n : ℕ) → length-answer r ≡ refused n → n ∈ change-numbers) where
+  -- a refusal's number
+  pub optimise-number : (k : ℕ) → r ≡ LengthAnswer.Refused k → No (k ≡ 15) × (k ∈ 0 ∷ change-numbers)
+  unfolding Rows.No Lists.any Answers.length-answer
+  optimise-number k q = (λ e. never (rw (q, e)), or-right (eqb k 0) (any (eqb k) change-numbers) (known k (rw q)))
+
+-- done: 0
+pub optimise-zero : No (_≡_ {A = ℕ} 0 15) × (0 ∈ 0 ∷ change-numbers)
+unfolding Rows.No Lists.any
+optimise-zero = (λ e. omega (arith, e), refl)
 
 module _ (r : DeleteAnswer) (s w : List ℕ) (o : ChangeResult (Option ℕ)) (e : record { answer = delete-answer r; image = s; work = w } ≡ o) (n₀ : ℕ) where
   -- a refusal's number

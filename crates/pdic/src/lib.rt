@@ -1,8 +1,12 @@
 // The calls from C, as include/pdic.h declares them.
 ghost use mathlib.Core.Path.{_≡_};
 ghost use mathlib.Core.Bool.{not};
+ghost use mathlib.Core.List.{_∷_};
 ghost use lib.Dec.{eqb};
+ghost use Rattle.spec.specs.Lists.{_∈_};
 ghost use Rattle.spec.specs.Calls.{create, check, look-up, walk, insert, delete, optimise};
+ghost use Rattle.spec.specs.Rows.{No};
+ghost use Rattle.spec.specs.CallRows.{change-numbers};
 ghost use Rattle.pdic.specs.Lent.{create-lent, check-lent, look-up-lent, walk-lent, change-lent, delete-lent};
 use spec::CheckAnswer;
 use spec::DeleteAnswer;
@@ -198,6 +202,7 @@ pub extern "C" fn pdic_delete(
     }
 }
 
+// Never 15, but 0 or one of 1 to 11.
 #[no_mangle]
 pub extern "C" fn pdic_optimise(
     image: &mut [u8],
@@ -213,6 +218,8 @@ pub extern "C" fn pdic_optimise(
           new-length = now («new_len» .exit);
         }
         ≡ change-lent (optimise (now (image .entry)) len (now (work .entry))) (now («new_len» .entry)) ⌝ }
+    ensures { λ r. ⌜ No (r ≡ 15) ⌝ }
+    ensures { λ r. ⌜ r ∈ 0 ∷ change-numbers ⌝ }
 {
     let r = editor::optimise(image, len, work);
     match r {

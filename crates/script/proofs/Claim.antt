@@ -15,9 +15,8 @@ use Rattle.spec.specs.Entry.{Entry}
 use Rattle.spec.specs.Check.{entries-of}
 use Rattle.spec.specs.Claim.{Call, perform, is-refused, list-step, Matches, History, call-bytes, SortedListClaim}
 use Rattle.spec.proofs.ListsLaws.{hold-both}
-use Rattle.spec.proofs.BytesLaws.{Small, small-of, bytes-of, small-drop, small-at}
+use Rattle.spec.proofs.BytesLaws.{Small, all-bytes, small-of, bytes-of, small-drop, small-at}
 use Rattle.spec.proofs.ClaimLaws.{sorted-list-claim}
-use Rattle.editor.proofs.Rows.{all-bytes}
 use Rattle.script.specs.Script.{headword-size, text-size, call-size, kinds, call-of, front-call, calls-from, calls-of, Told, told, Played, played-from, played, fed, Claimed}
 
 -- after the last call the image is accepted and its entries are the sorted list's

@@ -16,8 +16,8 @@ use Rattle.spec.specs.Claim.{Call, look-up-call, walk-call, insert-call, delete
 use Rattle.spec.specs.Rows.{numbers, content-numbers, image-numbers}
 use Rattle.spec.specs.CallRows.{change-numbers}
 use Rattle.spec.proofs.ListsLaws.{in-all}
+use Rattle.spec.proofs.BytesLaws.{all-bytes}
 use Rattle.spec.proofs.CallRowsLaws.{first-numbers}
-use Rattle.editor.proofs.Rows.{all-bytes}
 use Rattle.script.specs.Script.{code-of, Told, told}
 
 -- a look up that is refused by bytes alone has a byte for its code

@@ -132,7 +132,7 @@ module _ (s : List ℕ) (L : ℕ) (i : Image) (got : image-in s L ≡ ok i) wher
       go none = refl
 
   optimise-verdict : (work : List ℕ) → optimise-plan s L work ≡ verdict (first-row (rows s i (entries-of i) (optimise-call work))) (optimise-placing i)
-  unfolding optimise-plan fitting rows _if_ too-short optimise-placing
+  unfolding optimise-plan rows _if_ too-short optimise-placing
   optimise-verdict work = changes work _ ∙ rows-verdict (rows s i (entries-of i) (optimise-call work)) (optimise-placing i)
 
   -- an optimising

@@ -27,7 +27,6 @@ use Rattle.spec.proofs.OutcomeLaws.{ok-not-refused, same-value, Among, 
 use Rattle.spec.proofs.StoredHeaderLaws.{slice-stored, slice-one, slice-refused}
 use Rattle.spec.proofs.RowsLaws.{first-row-broken}
 use Rattle.spec.proofs.AnswerLaws.{in-told}
-use Rattle.spec.proofs.ClaimLaws.{packed-room}
 
 -- the image's own rows
 image-told : (s : List ℕ) (L : ℕ) → T (areBytes s) → Among image-numbers (image-in s L)
@@ -488,9 +487,9 @@ module _ (s : List ℕ) (L : ℕ) (work h : List ℕ) where
       fifteen (by-headword x m) = absurd (omega arith)
       fifteen (by-placing e x l z m) = (e, x, l, z)
 
--- Optimise: an accepted image is never too long for its slice when packed.
+-- Optimise: behind row 11 nothing refuses.
 module _ (s : List ℕ) (L : ℕ) (work : List ℕ) where
-  optimise-answered : (n : ℕ) → (optimise s L work .answer ≡ refused n) ↔ ((changeable s L work >>= λ i. fitting s (optimise-placing i)) ≡ refused n)
+  optimise-answered : (n : ℕ) → (optimise s L work .answer ≡ refused n) ↔ ((changeable s L work >>= λ i. ok (optimise-placing i)) ≡ refused n)
   unfolding optimise optimise-plan optimise-result changed optimise-placing
   optimise-answered n = (go (optimise-plan s L work), λ e. rw e)
     where
@@ -498,20 +497,23 @@ module _ (s : List ℕ) (L : ℕ) (work : List ℕ) where
       go (refused k) p = let e : k ≡ n = cc in rw e
       go (ok p) q = absurd (ok-not-refused (plan-length p) n q)
 
-  fitting-number : (p : Plan) (n : ℕ) → fitting s p ≡ refused n → (n ≡ 15) × (plan-full s p ≡ true)
-  unfolding fitting
-  fitting-number p n e = ⊎-elim (λ (t, m). (m, t)) (λ (f, u). absurd (ok-not-refused p n u)) (when-refused 15 (plan-full s p) (ok p) n e)
+  module _ (small : T (areBytes s)) where
+    -- it has no number of its own
+    optimise-told : (i : Image) → Among [] (ok (optimise-placing i))
+    optimise-told i n p = absurd (ok-not-refused (optimise-placing i) n p)
 
-  optimise-rows : T (areBytes s) → OptimiseRows s L work
-  unfolding any all numbers content-numbers change-numbers
-  optimise-rows small =
-      record {
-        change-rows = change-rows s L work small (optimise s L work .answer) (λ i. fitting s (optimise-placing i)) optimise-answered (15 ∷ []) refl
-            (λ i n p. rw (fitting-number (optimise-placing i) n p .0));
-        no-other = λ n p. ⊎-elim (λ e. change-number s L work n (change-told s L work small n e))
-            (λ (i, q, r). absurd (false≢true (sym (packed-room s L i (may-told s L work i q .image) small) ∙ fitting-number (optimise-placing i) n r .1)))
-            (bind-refused (changeable s L work) _ n (optimise-answered n .0 p));
-      }
+    optimise-number : Among change-numbers (optimise s L work .answer)
+    unfolding all any numbers content-numbers change-numbers
+    optimise-number = begins-or-own s L work small (optimise s L work .answer) (λ i. ok (optimise-placing i)) optimise-answered [] refl optimise-told
+
+    optimise-rows : OptimiseRows s L work
+    unfolding No any all numbers content-numbers change-numbers
+    optimise-rows =
+        record {
+          change-rows = change-rows s L work small (optimise s L work .answer) (λ i. ok (optimise-placing i)) optimise-answered [] refl optimise-told;
+          never-15 = λ p. false≢true (optimise-number 15 p);
+          no-other = optimise-number;
+        }
 
 -- create: row 1, then row 3 by its argument
 module _ (s : List ℕ) (k : NewFile) where

@@ -2,11 +2,10 @@
 use Prim.Native.Nat.{ℕ, _+_, _-_, _*_, _%_, _<_, _≤_, max}
 use mathlib.Core.Path.{_≡_, refl, sym, ap, subst, _∙_}
 use mathlib.Core.Bool.{Bool, true, false, not, _&&_}
-use mathlib.Core.List.{List, [], _∷_, map}
+use mathlib.Core.List.{List, [], _∷_}
 use mathlib.Core.Option.{Option, none, some, Option·none-ne-some}
 use native.Mathlib.Omega.{arith}
 use lib.ListN.{length, take, drop}
-use lib.Seq.{length-take-le}
 use lib.Dec.{T, leb, ltb, eqb, leb→le}
 use lib.Pow.{areBytes}
 use borrow.Author.Tests.{le-ltb, not-false}
@@ -17,15 +16,15 @@ use Rattle.spec.specs.Bytes.{from-little-endian, bytes-at, zeros}
 use Rattle.spec.specs.Header.{Format, Lawful, format-of, get, writable, tested-fields, written-fields, lies-in}
 use Rattle.spec.specs.Entry.{Entry, headword-ok, text-ok, attribute-ok, body-ok, entry-of}
 use Rattle.spec.specs.Run.{Run}
-use Rattle.spec.specs.Index.{index-need}
 use Rattle.spec.specs.Blocks.{covers, run-blocks, free-blocks, each-once}
 use Rattle.spec.specs.Check.{Frame, Image, image-in, image-by, image-from, slice-ok, kind-ok, options-ok, frame-length, data-start, entries-of, all-entries}
 use Rattle.spec.specs.SortedList.{lookup}
-use Rattle.spec.specs.Place.{Plan, element-of, plan-change, plan-packed, plan-full, plan-written}
+use Rattle.spec.specs.Place.{Plan, plan-change, plan-packed, plan-full, plan-written}
 use Rattle.spec.specs.Calls.{figures, check, plan-length, given-up-zeroed}
 use Rattle.spec.specs.ImageForm.{IsImage, Accepted}
 use Rattle.spec.specs.Rows.{SliceRule}
 use Rattle.spec.specs.Claim.{Call, look-up-call, walk-call, insert-call, delete-call, optimise-call, Observed, done, removed, absent, too-short, tell-removed, is-there, Row, _if_, Performed, perform, is-refused, first-row, rows, expected, insert-placing, delete-placing, optimise-placing, slice-after, slice-kept, list-answer, list-after, list-step, is-change, next-count, Zeroed, Matches, AnswersAs, History, call-bytes, SortedListClaim, slice-after-all, IdentifierKept, good-change, InsertRefused, DeleteRefused, OptimiseDone}
+use Rattle.spec.specs.PackedForm.{PackedNeedsNoMore, PackedNeverFull}
 use Rattle.spec.proofs.ListsLaws.{range-all, and-left, and-right, both-hold, hold-both, holds-true}
 use Rattle.spec.proofs.PartLaws.{bytes-same}
 use Rattle.spec.proofs.HeaderLaws.{get-take, fields-inside, fields-same, kind-same, options-same, lawful-format, format-stays}
@@ -34,13 +33,14 @@ use Rattle.spec.proofs.CountLaws.{block-once, blocks-once, marks-once}
 use Rattle.spec.proofs.ReadLaws.{frame-fits, ImageTold, image-told, runs-inside, free-list-below}
 use Rattle.spec.proofs.SortedLaws.{ok-sorted, absent-stays}
 use Rattle.spec.proofs.StoredHeaderLaws.{slice-stored}
-use Rattle.spec.proofs.StoredIndexLaws.{empty-below, index-enough}
+use Rattle.spec.proofs.StoredIndexLaws.{empty-below}
 use Rattle.spec.proofs.AcceptedLaws.{accepted}
 use Rattle.spec.proofs.ChangeLaws.{Sound, image-sound, image-ascends, insert-entries, insert-sound, delete-entries, delete-sound, optimise-entries, optimise-sound}
 use Rattle.spec.proofs.PlanLaws.{written-inside, plan-back, written-length, written-past, written-header, written-count}
 use Rattle.spec.proofs.WrittenLaws.{zeroed-length, zeroed-image, zeroed-past, zeroed-given-up, zeroed-front}
 use Rattle.spec.proofs.StillBytesLaws.{EntryBytes, written-bytes, zeroed-bytes}
 use Rattle.spec.proofs.ChangeBytesLaws.{insert-bytes, delete-bytes, optimise-bytes}
+use Rattle.spec.proofs.PackedLaws.{packed-needs-no-more, packed-never-full}
 use Rattle.spec.proofs.AnswerLaws.{in-told, look-up-observed, walk-observed, left, insert-performed, delete-performed, optimise-performed, slice-without, length-without}
 
 -- An accepted image in a slice of bytes.
@@ -67,14 +67,6 @@ module _ (s : List ℕ) (L : ℕ) (i : Image) (got : image-in s L ≡ ok i) (sma
 
   told : ImageTold (i .frame .format) (take L s) i
   told = image-told (i .frame .format) (take L s) i read
-
-  -- its bytes are L
-  whole : length (take L s) ≡ L
-  whole = length-take-le L s (slice .in-slice)
-
-  -- "L = 256 × (1 + index_block + D)."
-  frame-whole : L ≡ i .frame .format .header-bytes + 256 * i .frame .index-blocks + 256 * i .frame .data-blocks
-  frame-whole = omega (arith, whole, sound .fits .index-inside, sound .fits .data-are, slice .whole-blocks, law .front-in-blocks)
 
   -- the tested fields lie in the image, so rows 3 and 4 say the same of it and of the slice
   tested : All (λ g. get g (take L s) ≡ get g s) (tested-fields (i .frame .format .layout))
@@ -352,28 +344,17 @@ module _ (s : List ℕ) (L : ℕ) (i : Image) (got : image-in s L ≡ ok i) (sma
   unfolding written-fields
   count-inside = fields-inside (written-fields (i .frame .format .layout)) (law .layout-lawful .written-inside) .1 .1 .1 .1 .1 .0
 
-  -- the index has the blocks that its elements need
-  index-room : index-need (i .frame .format .number-width) (map element-of (i .runs)) ≤ i .frame .index-blocks
-  index-room = index-enough (i .frame .format .number-width) _ (described .index) _ (described .index-length) (described .index-stored)
-
-  -- an optimising needs no more than there is
+  -- the packed image is no longer
   packed-shorter : plan-length (optimise-placing i) ≤ L
-  unfolding optimise-placing plan-packed plan-length frame-length data-start
-  packed-shorter = omega (arith, frame-whole, blocks, index-room)
+  unfolding PackedNeedsNoMore
+  packed-shorter = packed-needs-no-more s L i small got .no-longer
 
-  -- so it is never too long for the slice
-  pub packed-room : plan-full s (optimise-placing i) ≡ false
-  unfolding optimise-placing plan-packed plan-full plan-length
-  packed-room =
-      let p : frame-length (optimise-placing i .frame) ≤ length s = omega (arith, packed-shorter, slice .in-slice) in
-      let q : run-blocks (i .runs) ≤ i .frame .format .most-blocks = omega (arith, blocks, sound .fits .data-few) in
-      let r : index-need (i .frame .format .number-width) (map element-of (i .runs)) ≤ 32_767 = omega (arith, index-room, sound .fits .index-few) in
-      rw (
-        le-ltb (length s) (frame-length (optimise-placing i .frame)) p,
-        le-ltb (i .frame .format .most-blocks) (run-blocks (i .runs)) q,
-        le-ltb 32_767 (index-need (i .frame .format .number-width) (map element-of (i .runs))) r,
-      )
+  -- and has room
+  packed-room : plan-full s (optimise-placing i) ≡ false
+  unfolding PackedNeverFull
+  packed-room = packed-never-full s L i small got
 
+  -- an optimising
   module _ (work : List ℕ) where
     optimise-placed : first-row (rows s i (entries-of i) (optimise-call work)) ≡ none
         → Next (optimise-call work) (record {
@@ -509,8 +490,10 @@ delete-refused s L i small got work h e good found =
 
 -- an optimising is not refused for want of space
 pub optimise-done : OptimiseDone
-unfolding OptimiseDone rows too-short
+unfolding OptimiseDone rows too-short Zeroed
 optimise-done s L i small got work good =
-    let (y, z) = both-hold (leb (length s) (length work)) (writable (i .frame .format .layout) s) good in
-    refused-by s L i got small (optimise-call work) ∙ row-passed 2 _ _ (le-ltb (length work) (length s) (leb→le (length s) (length work) y))
-    ∙ row-passed 11 _ _ (ap not (holds-true (writable (i .frame .format .layout) s) z)) ∙ row-last 15 _ ∙ packed-room s L i got small
+    let (y, z) = both-hold (leb (length s) (length work)) (writable (i .frame .format .layout) s) good in (
+      refused-by s L i got small (optimise-call work) ∙ row-passed 2 _ _ (le-ltb (length work) (length s) (leb→le (length s) (length work) y))
+          ∙ row-last 11 _ ∙ ap not (holds-true (writable (i .frame .format .layout) s) z),
+      next s L i got small (optimise-call work) .answers .given-up .0,
+    )

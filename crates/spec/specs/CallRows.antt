@@ -86,9 +86,10 @@ pub record DeleteRows (s : List ℕ) (L : ℕ) (work h : List ℕ) : Type 0 wher
       ↔ ((i : Image) × (e : Entry) × MayChange s L work i × (headword-ok h ≡ true) × (lookup h (entries-of i) ≡ some e) × (plan-full s (delete-placing i h) ≡ true))
   pub no-other : (n : ℕ) → delete s L work h .answer ≡ refused n → n ∈ change-numbers ++ 12 ∷ 15 ∷ []
 
--- optimise: row 15 cannot be given, for it never needs more than there is
+-- optimise: "15 is never given by optimise", and no number but those with which a changing call begins
 pub record OptimiseRows (s : List ℕ) (L : ℕ) (work : List ℕ) : Type 0 where
   pub change-rows : ChangeRows s L work (optimise s L work .answer)
+  pub never-15 : No (optimise s L work .answer ≡ refused 15)
   pub no-other : (n : ℕ) → optimise s L work .answer ≡ refused n → n ∈ change-numbers
 
 -- Demand 1: each call gives the first number in the order of testing, for every content, length and argument

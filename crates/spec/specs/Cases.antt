@@ -19,6 +19,7 @@ use Rattle.spec.specs.Place.{Grown, grown}
 use Rattle.spec.specs.Calls.{create, check, look-up, walk}
 use Rattle.spec.specs.Answers.{length-answer, check-answer, look-up-answer, walk-answer, delete-answer, code, code-or-absent, lent-number, lent-number-or-absent, open-answers}
 use Rattle.spec.specs.Listing.{listing, column}
+use Rattle.spec.specs.CallRows.{change-numbers}
 use Rattle.spec.specs.declared.NewFile.{NewFile}
 use Rattle.spec.specs.Play.{t, refusal, lent, Step, ins, ins-as, del, opt, store, State, play, step, step-with, file4, file5, empty, told-length, told-removed, told-figures, told-text, told-entry, index-blocks-of, runs-at, free-at}
 
@@ -28,6 +29,8 @@ pub data Probe : Type 0 where
   patched : ℕ → List ℕ → Probe → Probe
   -- the same with another L
   with-length : ℕ → Probe → Probe
+  -- the same after optimising
+  optimised : Probe → Probe
   -- check with this L: headwords, index blocks, data blocks, free blocks
   checks : ℕ → List ℕ → Probe
   -- headword and output slice; attribute and text length, and the output slice then
@@ -49,6 +52,7 @@ pub data Probe : Type 0 where
 unfoldable pub probe-holds : State → Probe → Bool
 probe-holds q (patched i x p) = probe-holds (step q (store i x)) p
 probe-holds q (with-length n p) = probe-holds (record { slice = q .slice; L = n; told = q .told; work = q .work }) p
+probe-holds q (optimised p) = probe-holds (step q opt) p
 probe-holds q (checks L told) = bytes-equal (told-figures (check (q .slice) L)) told
 probe-holds q (looks-up h out told out′) =
     let r = look-up (q .slice) (q .L) h out in
@@ -439,6 +443,36 @@ strange-bytes5 =
     lent 140 ++ (0 ∷ 5 ∷ []) ++ lent 4 ++ (0 ∷ 1 ∷ 1 ∷ 0 ∷ 0 ∷ 1 ∷ []) ++ lent 8 ++ (2 ∷ 0 ∷ 0 ∷ 0 ∷ 0 ∷ 0 ∷ 1 ∷ 0 ∷ []) ++ lent 14 ++ (0 ∷ []) ++ lent 1
     ++ zeros 4 ++ (0xFF ∷ 0xFF ∷ 0xFF ∷ 0xFF ∷ 1 ∷ 0 ∷ 0 ∷ 0 ∷ 1 ∷ 0 ∷ 0 ∷ 0 ∷ []) ++ lent 8 ++ (0xAB ∷ []) ++ lent 47
 
+-- another program's run of 3 blocks that takes 26 bytes: an image of 1,280 bytes
+unfoldable pub spare-blocks : List Step
+spare-blocks = two-entries ++ store 194 (3 ∷ []) ∷ store 512 (3 ∷ []) ∷ []
+
+-- another program's file without an entry, with 3 index blocks: an image of 1,024 bytes
+unfoldable pub idle-index : List Step
+idle-index = store 148 (3 ∷ []) ∷ store 256 (zeros 768) ∷ []
+
+-- P9's calls: 2 index blocks, both needed, and no free block
+unfoldable pub none-free : List Step
+none-free = ins (ascii "a") [] ∷ ins (t 248) [] ∷ ins (ascii "b") (t 762) ∷ del (ascii "a") ∷ []
+
+-- "15 is never given by optimise": images that fill their slice to the last byte
+unfoldable pub optimise-cases : List Case
+optimise-cases =
+    -- no run; a packed image, of which only update_count changes
+    after file5 256 [] (optimised (lays-out (256 ∷ []) 0 [] []) ∷ [])
+    ∷ after file4 768 two-entries (optimised (lays-out (768 ∷ []) 1 (0 ∷ []) []) ∷ optimised (stores 208 (3 ∷ [])) ∷ map (λ p. optimised (patched 208 (2 ∷ []) p)) bytes-probes)
+    -- nothing free and no index block to spare; then 2 index blocks where 1 is needed, and 2 free blocks
+    ∷ after file4 2_304 none-free (optimised (lays-out (2_304 ∷ []) 2 (0 ∷ 2 ∷ []) []) ∷ [])
+    ∷ after file4 2_304 (none-free ++ del (t 248) ∷ opt ∷ []) (lays-out (1_536 ∷ []) 1 (0 ∷ []) [] ∷ stores 1_536 (zeros 768) ∷ [])
+    -- 1 index block where none is needed; 3, and no data block
+    ∷ after file5 768 (ins (ascii "ABC") (ascii "one") ∷ del (ascii "ABC") ∷ opt ∷ []) (lays-out (256 ∷ []) 0 [] [] ∷ stores 256 (zeros 512) ∷ [])
+    ∷ after file4 1_024 idle-index (map (with-length 1_024) (checks 1_024 (0 ∷ 3 ∷ 0 ∷ 0 ∷ []) ∷ optimised (lays-out (256 ∷ []) 0 [] []) ∷ optimised (stores 256 (zeros 768)) ∷ []))
+    -- a run with blocks to spare keeps them
+    ∷ after file4 1_280 spare-blocks (map (with-length 1_280) (checks 1_280 (2 ∷ 1 ∷ 3 ∷ 0 ∷ []) ∷ optimised (lays-out (1_280 ∷ []) 1 (0 ∷ []) []) ∷ []))
+    -- the numbers that it can give
+    ∷ gives change-numbers (1 ∷ 2 ∷ 3 ∷ 4 ∷ 5 ∷ 6 ∷ 7 ∷ 8 ∷ 9 ∷ 10 ∷ 11 ∷ [])
+    ∷ []
+
 -- all cases
 unfoldable pub cases : List Case
 cases =
@@ -458,7 +492,7 @@ cases =
     -- the longest front
     ∷ after file4 1_280 (ins (t 247) [] ∷ ins (t 248) [] ∷ []) (stores 1_022 (3 ∷ 0 ∷ 247 ∷ 97 ∷ 0 ∷ 128 ∷ 0 ∷ 0 ∷ []) ∷ [])
     -- two elements of 252 bytes together and four zero bytes fill one index block
-    ∷ after file4 2_304 (ins (ascii "a") (t 600) ∷ ins (replicate 245 98) (t 600) ∷ []) (lays-out (2_304 ∷ []) 1 (0 ∷ 3 ∷ []) [] ∷ [])
+    ∷ after file4 2_304 (ins (ascii "a") (t 600) ∷ ins (replicate 245 98) (t 600) ∷ []) (lays-out (2_304 ∷ []) 1 (0 ∷ 3 ∷ []) [] ∷ optimised (lays-out (2_304 ∷ []) 1 (0 ∷ 3 ∷ []) []) ∷ [])
     -- a headword between two runs goes into the lower one
     ∷ after file4 2_560 (ins (ascii "a") (t 500) ∷ ins (ascii "b") (t 509) ∷ ins (ascii "aa") [] ∷ []) (lays-out (2_560 ∷ []) 1 (5 ∷ 2 ∷ []) (0 ∷ 1 ∷ []) ∷ [])
     -- unsigned byte order
@@ -523,19 +557,19 @@ cases =
     ∷ after file5 768 (two-entries ++ strange-header5 ++ ins (ascii "ABC") (ascii "one") ∷ []) (checks 768 (2 ∷ 1 ∷ 1 ∷ 0 ∷ []) ∷ stores 0 strange-bytes5 ∷ [])
     -- a growth by two, and an optimising, in version 5
     ∷ after file5 4_352 two-moved (lays-out (4_352 ∷ []) 3 (1 ∷ 0 ∷ 3 ∷ 8 ∷ 4 ∷ []) (6 ∷ 7 ∷ []) ∷ stores 184 (zeros 4 ++ 6 ∷ 0 ∷ 0 ∷ 0 ∷ 5 ∷ 0 ∷ 0 ∷ 0 ∷ 11 ∷ 0 ∷ 0 ∷ 0 ∷ [])
-    ∷ stores 216 ident5 ∷ [])
+    ∷ stores 216 ident5 ∷ optimised (lays-out (3_840 ∷ []) 3 (0 ∷ 2 ∷ 3 ∷ 4 ∷ 9 ∷ []) []) ∷ optimised (stores 1_790 (9 ∷ 9 ∷ [])) ∷ optimised (stores 3_840 (zeros 512)) ∷ [])
     ∷ after file5 1_794 (two-free ++ store 1_792 (7 ∷ 8 ∷ []) ∷ opt ∷ []) (stores 1_278 (0 ∷ 0 ∷ zeros 512 ++ 7 ∷ 8 ∷ []) ∷ stores 188 (0xFF ∷ 0xFF ∷ 0xFF ∷ 0xFF ∷ 1 ∷ [])
     ∷ stores 216 ident5 ∷ [])
     ∷ []
 
 -- THE THEOREM: every row holds
 unfoldable pub CasesHold : Type 0
-CasesHold = T (all case-holds cases)
+CasesHold = T (all case-holds (cases ++ optimise-cases))
 
 -- names all definitions of this module: who unfolds it unfolds them
 unfoldable pub open-cases : Unit {0}
 unfolding open-answers probe-holds case-holds file-of front5 empty5 ident5 version-probes strange-header5 strange-bytes5 strange-header strange-bytes
     strange-entry two-entries two-free xq xr two-moved long-run equal-extents one-block
     told-grown check-probes run-probes long-headword-probes long-text-probes look-up-probes walk-probes refusal-probes bytes-probes deleted-probes free-probes
-    cases CasesHold
+    spare-blocks idle-index none-free optimise-cases cases CasesHold
 open-cases = tt

@@ -196,7 +196,8 @@ delete-placing i h = plan-change (i .frame .format) i h (remove h)
 unfoldable pub optimise-placing : Image → Plan
 optimise-placing i = plan-packed (i .frame .format) (i .runs)
 
--- the rows of a call on the slice s with the accepted image i, beside the sorted list es; "15 by the image the call found"
+-- the rows of a call on the slice s with the accepted image i, beside the sorted list es; "15 by the image the call found", and "15 is never
+-- given by optimise"
 unfoldable pub rows : List ℕ → Image → List Entry → Call → List Row
 rows s i es (look-up-call h out) =
     12 if not (headword-ok h)
@@ -222,7 +223,6 @@ rows s i es (delete-call work h) =
 rows s i es (optimise-call work) =
     2 if too-short work s
     ∷ 11 if not (writable (i .frame .format .layout) s)
-    ∷ 15 if plan-full s (optimise-placing i)
     ∷ []
 
 -- what must be observed: the first refusal that applies, else the sorted list's answer
@@ -353,11 +353,12 @@ DeleteRefused =
     → (work h : List ℕ) (e : Entry) → T (good-change s i work h) → lookup h (entries-of i) ≡ some e
     → is-refused (perform s L (delete-call work h) .observed) ≡ plan-full s (delete-placing i h)
 
--- an optimising with a working slice and a writable version is not refused: it never needs more than there is
+-- an optimising with a working slice and a writable version is not refused, and the image gets no longer
 unfoldable pub OptimiseDone : Type 0
 OptimiseDone =
     (s : List ℕ) (L : ℕ) (i : Image) → T (areBytes s) → image-in s L ≡ ok i
-    → (work : List ℕ) → T (leb (length s) (length work) && writable (i .frame .format .layout) s) → is-refused (perform s L (optimise-call work) .observed) ≡ false
+    → (work : List ℕ) → T (leb (length s) (length work) && writable (i .frame .format .layout) s)
+    → (is-refused (perform s L (optimise-call work) .observed) ≡ false) × (perform s L (optimise-call work) .length-after ≤ L)
 
 -- names all definitions of this module: who unfolds it unfolds them
 unfoldable pub open-claim : Unit {0}

@@ -1,9 +1,18 @@
 -- `optimise` meets its contract.
+use Prim.Native.Nat.{ℕ, _<_}
 use native.Mathlib.Omega.{arith}
-use Rattle.editor.proofs.Rows.{optimise-slice, optimise-short, now-tested, optimise-whole}
+use lib.ListN.{getD}
+use Rattle.editor.proofs.Rows.{optimise-slice, optimise-short, now-tested, optimise-whole, optimise-promised}
 use borrow.Author.Needs.{needs}
 use Rattle.editor.proofs.optimise.Statement.{statement}
 use Rattle.editor.proofs.optimise.Tie as tie
+
+abbrev start-of-image : tie.After-slice-known → tie.Start
+start-of-image c = search
+
+-- the image slice is of bytes
+bytes : (c : tie.After-slice-known) (k : ℕ) → getD (start-of-image c .args .image .now) k 0 < 256
+bytes c k = omega (arith, c .slice-known .given k)
 
 slice-ok-requires : tie.Need-slice-ok-requires
 slice-ok-requires c κs = search needs
@@ -12,13 +21,29 @@ same-length : tie.Need-same-length
 same-length c = search needs
 
 returns : tie.Need-returns
-returns c = search optimise-slice
+returns c =
+    optimise-promised (start .args .image .now) (start .args .len) (start .args .work .now) (bytes after-slice-known) _ _ _
+    (search optimise-slice)
+  where
+    after-slice-known : tie.After-slice-known
+    after-slice-known = search
+
+    start : tie.Start
+    start = search after-slice-known
 
 same-length-2 : tie.Need-same-length-2
 same-length-2 c = search needs
 
 returns-2 : tie.Need-returns-2
-returns-2 c = search optimise-short
+returns-2 c =
+    optimise-promised (start .args .image .now) (start .args .len) (start .args .work .now) (bytes after-slice-known) _ _ _
+    (search optimise-short)
+  where
+    after-slice-known : tie.After-slice-known
+    after-slice-known = search
+
+    start : tie.Start
+    start = search after-slice-known
 
 optimise-tested-requires : tie.Need-optimise-tested-requires
 optimise-tested-requires c κs =
@@ -48,10 +73,10 @@ same-length-4 c = search needs
 returns-3 : tie.Need-returns-3
 returns-3 c =
     let call = after-optimise-tested .optimise-tested in
-    optimise-whole (start .args .image .now) (start .args .len) (start .args .work .now) _ (after-slice-ok .slice-ok .ensures) (else1 .if1 .left)
-    (else2 .if2 .left)
-    (λ k. omega (arith, after-slice-known .slice-known .given k)) (call .last .1 .1 .0) _ (call .ensures .1 .1) (after-clear .clear .ensures .0) _
-    _ (call .ensures .0) (call .ensures .1 .0)
+    let small = bytes after-slice-known in
+    optimise-promised (start .args .image .now) (start .args .len) (start .args .work .now) small _ _ _
+    (optimise-whole (start .args .image .now) (start .args .len) (start .args .work .now) _ (after-slice-ok .slice-ok .ensures) (else1 .if1 .left)
+    (else2 .if2 .left) small (call .last .1 .1 .0) _ (call .ensures .1 .1) (after-clear .clear .ensures .0) _ _ (call .ensures .0) (call .ensures .1 .0))
   where
     after-clear : tie.After-clear
     after-clear = search

@@ -137,7 +137,7 @@ same-length-4 c = search needs
 returns-3 : tie.Need-returns-3
 returns-3 c =
     let r = optimise-done (start .args .image .now) (start .args .len) (start .args .work .now) (start .pre .0) (start .pre .1) (start .pre .2) (start .pre .3)
-    _ (accepted after-known-told2) _ (after-writable .writable .ensures) (else1 .if1 .left) (λ k. omega (arith, after-slice-known .slice-known .given k))
+    _ (accepted after-known-told2) _ (after-writable .writable .ensures) (else1 .if1 .left)
     _ _ (copy-is _ _ (start .pre .2) _ _ (after-copy .copy .ensures .0)) _ (after-pack .pack .ensures .1 .0) (after-pack .pack .ensures .0) in
     (r .0, (r .1, after-copy .copy .ensures .1))
   where
@@ -156,11 +156,11 @@ returns-3 c =
     after-known-told2 : tie.After-known-told2
     after-known-told2 = search after-writable
 
-    after-slice-known : tie.After-slice-known
-    after-slice-known = search after-known-told2
+    at-match-keys2 : tie.At-match-keys2
+    at-match-keys2 = search after-known-told2
 
     start : tie.Start
-    start = search after-slice-known
+    start = search at-match-keys2
 
 pub optimise-tested-spec : {M : Type 1} → statement M
 optimise-tested-spec =

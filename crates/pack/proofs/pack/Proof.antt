@@ -1,9 +1,9 @@
 -- The stores of the code are the plan that the specification writes, and what it gives up zeroed.
-use Prim.Native.Nat.{_+_, _*_, _≤_}
+use Prim.Native.Nat.{ℕ, _+_, _*_, _<_, _≤_}
 use mathlib.Core.Path.{_≡_, _∙_}
 use mathlib.Core.List.{List}
 use native.Mathlib.Omega.{arith}
-use lib.ListN.{length}
+use lib.ListN.{length, getD}
 use denote.Ref.{now}
 use Rattle.spec.specs.Index.{Element, elements-bytes}
 use Rattle.index.specs.Elements.{elements-at}
@@ -15,6 +15,13 @@ use borrow.Author.Needs.{needs}
 use Rattle.pack.proofs.pack.Statement.{statement}
 use Rattle.pack.proofs.pack.Tie as tie
 
+abbrev start-of-old : tie.After-shared-slice-known → tie.Start
+start-of-old c = search
+
+-- the old image is of bytes
+bytes : (c : tie.After-shared-slice-known) (k : ℕ) → getD (now (start-of-old c .args .old)) k 0 < 256
+bytes c k = omega (arith, c .shared-slice-known .given k)
+
 abbrev start-of-need : tie.After-need → tie.Start
 start-of-need c = search
 
@@ -22,22 +29,29 @@ start-of-need c = search
 fewer : (c : tie.After-need) → c .need .result ≤ start-of-need c .args .v .n
 fewer c =
     index-fewer _ _ (start .pre .0) (start .pre .1 .0) _ (after-nindex2 .nindex2 .ensures .0) _ (c .need .ensures)
+    (bytes after-shared-slice-known)
   where
     after-nindex2 : tie.After-nindex2
     after-nindex2 = search
 
+    after-shared-slice-known : tie.After-shared-slice-known
+    after-shared-slice-known = search after-nindex2
+
     start : tie.Start
-    start = search after-nindex2
+    start = search after-shared-slice-known
 
 abbrev start-of-nblock2 : tie.After-nblock2 → tie.Start
 start-of-nblock2 c = search
 
 -- nor has it more data blocks
 few : (c : tie.After-nblock2) → c .nblock2 .result ≤ start-of-nblock2 c .args .v .d
-few c = blocks-fewer _ _ (start .pre .0) (start .pre .1 .0) _ (c .nblock2 .ensures .0)
+few c = blocks-fewer _ _ (start .pre .0) (start .pre .1 .0) (bytes after-shared-slice-known) _ (c .nblock2 .ensures .0)
   where
+    after-shared-slice-known : tie.After-shared-slice-known
+    after-shared-slice-known = search
+
     start : tie.Start
-    start = search
+    start = search after-shared-slice-known
 
 -- the old image's bytes behind its header are those of its blocks
 long : (c : tie.Start) → area-start (c .args .v .form) (c .args .v .n) + 256 * c .args .v .d ≡ length (now (c .args .old))
@@ -269,9 +283,10 @@ returns c =
     let written = after-write-runs .write-runs .ensures in
     let zeroed = after-fill-zero .fill-zero .ensures in
     let headed = after-write-counts .write-counts .ensures in
-    let last = after-fill-zero2 .fill-zero2 .ensures in (
-      packed-image _ _ a in-blocks _ number _ counted _ needed _ _ _ _ _ _ (start .pre .1 .1) (start .pre .1 .2) (written .0) (written .1 .0) (zeroed .0) (headed .0) (last .0),
-      (packed-length _ _ a in-blocks _ number _ counted _ needed, last .1 ∙ headed .1 ∙ zeroed .1 ∙ written .1 .1),
+    let last = after-fill-zero2 .fill-zero2 .ensures in
+    let small = bytes after-shared-slice-known in (
+      packed-image _ _ a in-blocks _ number _ counted _ needed small _ _ _ _ _ _ (start .pre .1 .1) (start .pre .1 .2) (written .0) (written .1 .0) (zeroed .0) (headed .0) (last .0),
+      (packed-length _ _ a in-blocks _ number _ counted _ needed small, last .1 ∙ headed .1 ∙ zeroed .1 ∙ written .1 .1),
     )
   where
     after-fill-zero2 : tie.After-fill-zero2
@@ -295,8 +310,11 @@ returns c =
     after-nindex2 : tie.After-nindex2
     after-nindex2 = search after-nblock2
 
+    after-shared-slice-known : tie.After-shared-slice-known
+    after-shared-slice-known = search after-nindex2
+
     start : tie.Start
-    start = search after-nindex2
+    start = search after-shared-slice-known
 
 pub pack-spec : {M : Type 1} → statement M
 pack-spec =
