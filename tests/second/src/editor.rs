@@ -52,7 +52,10 @@ pub struct Told {
     pub over_slice: bool,
     pub over_data: bool,
     pub over_index: bool,
-    /// Blocks that optimise gave up.
+    /// What optimise found, index blocks and whether L was the slice's length, and how many
+    /// blocks it gave up.
+    pub index_before: usize,
+    pub full_before: bool,
     pub given_up: usize,
 }
 
@@ -141,12 +144,27 @@ pub fn optimise(lent: Slices, told: &mut Told) -> Answer<usize> {
                 in_run: vec![true; next],
             },
         };
-        let new_len = finish(slice, &image, &layout, told)?;
+        told.index_before = image.index_blocks;
+        told.full_before = len == slice.len();
+        layout.tell(told);
+        assert_no_longer(&image, len, &layout);
+        let new_len = write(slice, &image, &layout, told);
         // "optimise zeroes what it gives up".
         slice[new_len..len].fill(0);
         told.given_up = (len - new_len) / BLOCK;
         Ok(Some(new_len))
     })
+}
+
+/// "An accepted image never needs a longer index or more data blocks when packed." So "15 is
+/// never given by optimise": row 15 is not tested, and this is a fault of ours if it fails.
+fn assert_no_longer(image: &Image, len: usize, packed: &Layout) {
+    assert!(packed.index_blocks <= image.index_blocks, "a longer index");
+    assert!(
+        packed.area.blocks() <= image.data_blocks,
+        "more data blocks"
+    );
+    assert!(packed.len() <= len, "a longer image");
 }
 
 /// Rows 1 and 2, the call itself, and the working slice's rule. The call gives the new L,
@@ -284,7 +302,9 @@ fn change(
         runs,
         area,
     };
-    finish(slice, image, &layout, told)
+    layout.tell(told);
+    test_room(slice, &layout, told)?;
+    Ok(write(slice, image, &layout, told))
 }
 
 /// Step 2: "each part takes as many entries as encode in 1,024 bytes, count and end marks
@@ -467,22 +487,35 @@ struct Layout {
     area: Area,
 }
 
-/// Row 15, then the image's bytes. Gives the new L.
-fn finish(slice: &mut [u8], image: &Image, layout: &Layout, told: &mut Told) -> Result<usize, u32> {
-    let (index_blocks, data_blocks) = (layout.index_blocks, layout.area.blocks());
-    let len = BLOCK * (1 + index_blocks + data_blocks);
-    told.index_blocks = index_blocks;
-    told.data_blocks = data_blocks;
-    told.free_blocks = layout.area.free().len();
-    // 15: "when finished: L over the slice, D over 65,536, or index over 32,767 blocks".
-    told.over_slice = len > slice.len();
-    told.over_data = data_blocks > MOST_DATA;
-    told.over_index = index_blocks > MOST_BLOCKS;
-    if told.over_slice || told.over_data || told.over_index {
-        return Err(15);
+impl Layout {
+    /// "L = 256 × (1 + index_block + D)."
+    fn len(&self) -> usize {
+        BLOCK * (1 + self.index_blocks + self.area.blocks())
     }
+
+    fn tell(&self, told: &mut Told) {
+        told.index_blocks = self.index_blocks;
+        told.data_blocks = self.area.blocks();
+        told.free_blocks = self.area.free().len();
+    }
+}
+
+/// 15: "when finished: L over the slice, D over 65,536, or index over 32,767 blocks".
+fn test_room(slice: &[u8], layout: &Layout, told: &mut Told) -> Result<(), u32> {
+    told.over_slice = layout.len() > slice.len();
+    told.over_data = layout.area.blocks() > MOST_DATA;
+    told.over_index = layout.index_blocks > MOST_BLOCKS;
+    match told.over_slice || told.over_data || told.over_index {
+        true => Err(15),
+        false => Ok(()),
+    }
+}
+
+/// The image's bytes. Gives the new L.
+fn write(slice: &mut [u8], image: &Image, layout: &Layout, told: &mut Told) -> usize {
+    let len = layout.len();
     let (header, rest) = slice[..len].split_at_mut(BLOCK);
-    let (index, data) = rest.split_at_mut(BLOCK * index_blocks);
+    let (index, data) = rest.split_at_mut(BLOCK * layout.index_blocks);
     header.copy_from_slice(&new_header(image, layout));
     index.copy_from_slice(&index_area(layout));
     for run in &layout.runs {
@@ -492,7 +525,7 @@ fn finish(slice: &mut [u8], image: &Image, layout: &Layout, told: &mut Told) -> 
     write_chain(data, &layout.area.free());
     told.wrapped = image.header.four(at::UPDATE_COUNT) == u32::MAX;
     told.filled = len == slice.len();
-    Ok(len)
+    len
 }
 
 /// "A successful change ... writes index_block, nword, empty_block2, nindex2, nblock2 and

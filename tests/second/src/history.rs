@@ -181,7 +181,8 @@ impl History<'_> {
             52..=65 => self.delete_one(),
             66..=71 => self.delete_first(),
             72..=74 => self.delete_absent(),
-            75..=79 => self.change(Change::Optimise),
+            75..=78 => self.change(Change::Optimise),
+            79 => self.optimise_full(),
             80..=82 => self.look_up(),
             83..=85 => self.walk(),
             86..=87 => self.check(),
@@ -455,6 +456,18 @@ impl History<'_> {
         let words = self.words();
         let headword = near(&mut self.random, &words);
         self.change(Change::Delete { headword })
+    }
+
+    /// Optimise on a copy of the image that fills its slice to the last byte.
+    fn optimise_full(&mut self) -> Result<(), Differs> {
+        let slice = self.both.ours.contents()[..self.len].to_vec();
+        self.log.push("optimise in a full slice".to_string());
+        let mut both = Both::new(&slice, Random::of(self.random.next(), 4));
+        let mut told = Told::default();
+        let answer = both.change(self.len, self.len, &Change::Optimise, &mut told)?;
+        self.tally
+            .count(Call::Optimise, self.version(), &answer, &told);
+        Ok(())
     }
 
     // Reading calls.

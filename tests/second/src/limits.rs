@@ -16,6 +16,8 @@ type Call = (Change, u32, fn(&Told) -> bool);
 struct Limit {
     name: &'static str,
     runs: Vec<Wanted>,
+    /// Index blocks beyond the need.
+    extra_index: usize,
     /// Bytes of the image slice behind L.
     room: usize,
     calls: Vec<Call>,
@@ -23,7 +25,7 @@ struct Limit {
 
 /// Runs all cases, each in both versions, and gives their number.
 pub fn limits() -> Result<usize, Differs> {
-    let cases: [fn() -> Limit; 8] = [
+    let cases: [fn() -> Limit; 12] = [
         index_limit,
         data_limit,
         last_number,
@@ -32,6 +34,10 @@ pub fn limits() -> Result<usize, Differs> {
         longest_run_slides,
         longest_run_moved,
         great_growth,
+        longest_run_packed,
+        longest_run_wide,
+        no_run_wide,
+        largest_packed,
     ];
     for format in &FORMATS {
         for case in cases {
@@ -46,7 +52,8 @@ pub fn limits() -> Result<usize, Differs> {
 fn run(case: Limit, format: &Format) -> Result<(), Differs> {
     let mut random = Random::of(1, 1);
     let header = empty_header(format, any_identifier(&mut random));
-    let sketch = plain(header, case.runs);
+    let mut sketch = plain(header, case.runs);
+    sketch.extra_index = case.extra_index;
     let image = lay_out(&mut random, &sketch);
     let mut slice = render(&mut random, image, sketch.ground).bytes;
     let mut len = slice.len();
@@ -144,6 +151,7 @@ fn index_limit() -> Limit {
     Limit {
         name: "the index at 32,767 blocks",
         runs,
+        extra_index: 0,
         room: BLOCK * 40,
         calls: vec![
             (insert(&word(RUNS), 768), 0, |told| {
@@ -175,6 +183,7 @@ fn data_limit() -> Limit {
     Limit {
         name: "65,536 data blocks",
         runs: vec![run_of(b"a", 1), run_of(b"x", 32_767), run_of(b"y", 32_764)],
+        extra_index: 0,
         room: BLOCK * 20,
         calls: vec![
             (insert(b"b", 1_014), 0, |told| {
@@ -201,6 +210,7 @@ fn last_number() -> Limit {
     Limit {
         name: "a run in block 65,535",
         runs: vec![first, run_of(b"x", 32_767), run_of(b"y", 32_764)],
+        extra_index: 0,
         room: BLOCK,
         calls: vec![
             (insert(b"b", 0), 0, |told| {
@@ -222,6 +232,7 @@ fn moving(name: &'static str, last: usize, calls: Vec<Call>) -> Limit {
             two_c(),
             run_of(b"d", last),
         ],
+        extra_index: 0,
         room: BLOCK * 20,
         calls,
     }
@@ -253,6 +264,7 @@ fn longest_run_slides() -> Limit {
     Limit {
         name: "a run of 32,767 blocks moved by one",
         runs: vec![run_of(b"A", 32_767), two_c()],
+        extra_index: 0,
         room: BLOCK * 8,
         calls: vec![(delete(b"c"), 0, moved)],
     }
@@ -264,6 +276,7 @@ fn longest_run_moved() -> Limit {
     Limit {
         name: "a run of 32,767 blocks moved to the end",
         runs: vec![run_of(b"A", 32_767), run_of(b"b", 1), two_c()],
+        extra_index: 0,
         room: BLOCK * 32_768,
         calls: vec![(delete(b"c"), 0, moved)],
     }
@@ -289,6 +302,7 @@ fn great_growth() -> Limit {
     Limit {
         name: "the index grows by 1,900 blocks",
         runs,
+        extra_index: 0,
         room: BLOCK * 9_000,
         calls: vec![
             (insert(b"i", 0), 0, |told| {
@@ -297,5 +311,57 @@ fn great_growth() -> Limit {
             (delete(b"i"), 0, |_| true),
             (Change::Optimise, 0, |_| true),
         ],
+    }
+}
+
+/// A run of 32,767 blocks, and index blocks of which one is needed, fill their slice to the last
+/// byte.
+fn longest_run(name: &'static str, index_blocks: usize, calls: Vec<Call>) -> Limit {
+    Limit {
+        name,
+        runs: vec![run_of(b"a", 32_767)],
+        extra_index: index_blocks - 1,
+        room: 0,
+        calls,
+    }
+}
+
+/// There is nothing to give up, and no room. "15 is never given by optimise".
+fn longest_run_packed() -> Limit {
+    let packed = |told: &Told| told.filled && told.data_blocks == 32_767;
+    let calls: Vec<Call> = vec![(Change::Optimise, 0, packed)];
+    longest_run("a run of 32,767 blocks fills its slice", 1, calls)
+}
+
+/// The index gives up all blocks but one.
+fn longest_run_wide() -> Limit {
+    let packed = |told: &Told| told.full_before && told.given_up == MOST_BLOCKS - 1;
+    let calls: Vec<Call> = vec![(Change::Optimise, 0, packed)];
+    longest_run("one run and the largest index", MOST_BLOCKS, calls)
+}
+
+/// With no run it gives up all, and so do the data blocks.
+fn no_run_wide() -> Limit {
+    let emptied = |told: &Told| told.filled && told.free_blocks == 32_767;
+    let packed = |told: &Told| told.full_before && told.given_up == MOST_BLOCKS + 32_767;
+    let calls: Vec<Call> = vec![(delete(b"a"), 0, emptied), (Change::Optimise, 0, packed)];
+    longest_run("no run and the largest index", MOST_BLOCKS, calls)
+}
+
+/// 33,553 elements of 250 bytes need 32,767 index blocks, and their runs have all of 65,536 data
+/// blocks: the largest image, in a slice that it fills.
+fn largest_packed() -> Limit {
+    const RUNS: usize = 33_553;
+    let mut runs: Vec<Wanted> = (0..RUNS).map(|i| run_of(&numbered(i, 247), 1)).collect();
+    runs[0].spare = (MOST_DATA - RUNS) as isize;
+    let packed = |told: &Told| {
+        told.filled && told.index_blocks == MOST_BLOCKS && told.data_blocks == MOST_DATA
+    };
+    Limit {
+        name: "the largest image",
+        runs,
+        extra_index: 0,
+        room: 0,
+        calls: vec![(Change::Optimise, 0, packed)],
     }
 }

@@ -37,8 +37,8 @@ fn version_place(version: u8) -> usize {
     format(version).map_or(FORMATS.len(), Format::place)
 }
 
-/// Each call with the answers that must be seen, of versions 4 and 5 each and of another: 0
-/// done, 100 absent, else the refusal.
+/// Each call with the answers that must be seen, and no others, of versions 4 and 5 each and of
+/// another: 0 done, 100 absent, else the refusal. "15 is never given by optimise".
 const CALLS: [(&str, &[u32], &[u32]); 7] = [
     ("create", &[0, 1], &[1, 3]),
     ("check", &[0], &[]),
@@ -57,8 +57,8 @@ const CALLS: [(&str, &[u32], &[u32]); 7] = [
     ("optimise", &[0, 1, 2, 3, 4, 5, 6, 7, 8, 9, 10, 11], &[3]),
 ];
 
-/// The answers that a call must be seen to give at a place of VERSIONS.
-fn must_be_seen(call: usize, version: usize) -> &'static [u32] {
+/// The answers listed for a call at a place of VERSIONS.
+fn listed(call: usize, version: usize) -> &'static [u32] {
     let (_, known, other) = CALLS[call];
     match version < FORMATS.len() {
         true => known,
@@ -90,6 +90,10 @@ impl Seen<'_> {
 
     fn placed(&self) -> bool {
         self.done(Call::Insert) || self.done(Call::Delete)
+    }
+
+    fn index_shrank(&self) -> bool {
+        self.done(Call::Optimise) && self.told.index_blocks < self.told.index_before
     }
 }
 
@@ -170,6 +174,24 @@ const WANTED: &[Wanted] = &[
     ("optimised without an entry", 10, |s| {
         s.done(Call::Optimise) && s.told.index_blocks == 0
     }),
+    ("optimised, index larger than needed", 140, |s| {
+        s.index_shrank()
+    }),
+    ("optimised, index blocks but no run", 35, |s| {
+        s.index_shrank() && s.told.index_blocks == 0
+    }),
+    ("full slice optimised", 190, |s| {
+        s.done(Call::Optimise) && s.told.full_before
+    }),
+    ("full slice optimised, index larger than needed", 28, |s| {
+        s.index_shrank() && s.told.full_before
+    }),
+    ("full slice optimised, no run", 18, |s| {
+        s.done(Call::Optimise) && s.told.full_before && s.told.index_blocks == 0
+    }),
+    ("full slice optimised, nothing to give up", 48, |s| {
+        s.done(Call::Optimise) && s.told.filled
+    }),
     ("update count goes to 0", 30, |s| s.told.wrapped),
 ];
 
@@ -241,31 +263,47 @@ impl Tally {
         }
     }
 
+    /// Each answer that is listed and was not seen, or was seen and is not listed.
+    pub fn other_answers(&self) -> Vec<String> {
+        let mut other = Vec::new();
+        for (version, calls) in self.answers.iter().enumerate() {
+            for (call, answers) in calls.iter().enumerate() {
+                for number in (0..ANSWERS as u32 - 1).chain([ABSENT]) {
+                    let is_seen = answers[answer_place(number)] > 0;
+                    let what = match (listed(call, version).contains(&number), is_seen) {
+                        (true, false) => "NOT SEEN",
+                        (false, true) => "NOT TO BE SEEN",
+                        _ => continue,
+                    };
+                    let (name, version) = (CALLS[call].0, VERSIONS[version]);
+                    other.push(format!(
+                        "{what}: {name} answers {number}, version {version}"
+                    ));
+                }
+            }
+        }
+        other
+    }
+
     /// How often a happening must be seen in each version.
     fn least(&self, of_thousand: u64) -> ByVersion {
         self.histories
             .map(|count| (of_thousand * count / 1_000).max(1))
     }
 
-    /// Prints what was not seen, or too seldom for so many histories.
-    pub fn missing(&self) -> bool {
-        let mut missing = false;
+    /// Prints what was not seen, or too seldom for so many histories, and answers that are not
+    /// listed.
+    pub fn amiss(&self) -> bool {
+        let mut amiss = false;
+        for line in self.other_answers() {
+            println!("{}", line);
+            amiss = true;
+        }
         for (format, count) in FORMATS.iter().zip(&self.histories) {
             // Half of them are of each version.
             if count * 5 < self.all_histories() * 2 {
                 println!("TOO SELDOM: histories of version {}", format.version);
-                missing = true;
-            }
-        }
-        for (version, calls) in self.answers.iter().enumerate() {
-            for (call, answers) in calls.iter().enumerate() {
-                for number in must_be_seen(call, version) {
-                    if answers[answer_place(*number)] == 0 {
-                        let (name, version) = (CALLS[call].0, VERSIONS[version]);
-                        println!("NOT SEEN: {} answers {}, version {}", name, number, version);
-                        missing = true;
-                    }
-                }
+                amiss = true;
             }
         }
         for ((name, least, _), counts) in WANTED.iter().zip(&self.wanted) {
@@ -275,7 +313,7 @@ impl Tally {
                         "TOO SELDOM: {}, version {}: {} times, not {}",
                         name, format.version, count, least
                     );
-                    missing = true;
+                    amiss = true;
                 }
             }
         }
@@ -283,11 +321,11 @@ impl Tally {
             for (format, count) in FORMATS.iter().zip(counts) {
                 if *count == 0 {
                     println!("NOT SEEN: start {}, version {}", name, format.version);
-                    missing = true;
+                    amiss = true;
                 }
             }
         }
-        missing
+        amiss
     }
 
     pub fn print(&self) {
@@ -299,7 +337,7 @@ impl Tally {
         println!("{:>8}", "absent");
         for call in 0..CALLS.len() {
             for (version, calls) in self.answers.iter().enumerate() {
-                if must_be_seen(call, version).is_empty() {
+                if listed(call, version).is_empty() {
                     continue;
                 }
                 print!("{:>10}{:>9}", CALLS[call].0, VERSIONS[version]);

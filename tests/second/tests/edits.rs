@@ -230,6 +230,77 @@ fn p8_p9_a_deletion_can_need_space_of(file: &File) {
     assert_eq!(book.image().chain, []);
 }
 
+/// "15 is never given by optimise": each image here fills its slice to the last byte.
+#[test]
+fn optimise_in_full_slices() {
+    for file in &FILES {
+        created_optimised(file);
+        p2_optimised(file);
+        p6_p7_optimised(file);
+        p9_optimised(file);
+    }
+}
+
+/// No run, no index block: only the update count changes.
+fn created_optimised(file: &File) {
+    let mut book = Book::new(file, 256);
+    assert_eq!((book.optimise(), book.len), (0, 256));
+    let mut bytes = empty(file);
+    bytes[208] = 1;
+    assert_eq!(book.bytes(), bytes);
+}
+
+/// One run, then none: index and run are given up.
+fn p2_optimised(file: &File) {
+    let mut book = Book::new(file, 768);
+    assert_eq!(book.insert(b"ABC", b"one"), 0);
+    let mut bytes = book.bytes().to_vec();
+    assert_eq!((book.optimise(), book.len), (0, 768));
+    bytes[208] = 2;
+    assert_eq!(book.bytes(), bytes);
+    assert_eq!((book.delete(b"ABC"), book.len), (0, 768));
+    assert_eq!((book.image().index_blocks, book.image().runs.len()), (1, 0));
+    assert_eq!((book.optimise(), book.len), (0, 256));
+    let mut bytes = empty(file);
+    bytes[208] = 4;
+    assert_eq!(book.bytes(), bytes);
+    assert_eq!(book.both.ours.contents()[256..], [0; 512]);
+}
+
+/// Nothing to give up, then blocks 0 and 1.
+fn p6_p7_optimised(file: &File) {
+    let mut book = Book::new(file, 1_792);
+    assert_eq!(book.insert(b"a", &t(500)), 0);
+    assert_eq!(book.insert(b"b", &t(509)), 0);
+    assert_eq!((book.optimise(), book.len), (0, 1_792));
+    assert_eq!(book.places(), [(0, 2), (2, 3)]);
+    assert_eq!((book.delete(b"a"), book.len), (0, 1_792));
+    assert_eq!((book.optimise(), book.len), (0, 1_280));
+    assert_eq!(book.places(), [(0, 3)]);
+    assert_eq!(book.both.ours.contents()[1_280..], [0; 512]);
+}
+
+/// After P9 the index needs both its blocks; a inserted again is the first headword, and one is
+/// enough. No data block is free.
+fn p9_optimised(file: &File) {
+    let mut book = Book::new(file, 2_304);
+    assert_eq!(book.insert(b"a", b""), 0);
+    assert_eq!(book.insert(&[b'a'; 248], b""), 0);
+    assert_eq!(book.insert(b"b", &t(762)), 0);
+    assert_eq!((book.delete(b"a"), book.len), (0, 2_304));
+    assert_eq!((book.optimise(), book.len), (0, 2_304));
+    assert_eq!((book.insert(b"a", b""), book.len), (0, 2_304));
+    assert_eq!(book.image().index_blocks, 2);
+    assert_eq!(book.image().chain, []);
+    let runs = book.bytes()[768..].to_vec();
+    assert_eq!((book.optimise(), book.len), (0, 2_048));
+    assert_eq!(book.image().index_blocks, 1);
+    let mut index = vec![0; 256];
+    put(&mut index, 0, b"\x00\x00a\x00\x02\x00b\x00");
+    assert_eq!(book.bytes()[256..], [index, runs].concat());
+    assert_eq!(book.both.ours.contents()[2_048..], [0; 256]);
+}
+
 #[test]
 fn p10_longest() {
     FILES.iter().for_each(p10_longest_of);

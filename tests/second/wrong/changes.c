@@ -175,6 +175,17 @@ static void counts_at_4(call *c) {
     memcpy(c->image + 186, counts, 12);
 }
 
+/* Whether an optimising that was done is taken back and answered with 15. */
+static int optimise_full(call *c) {
+    uint8_t *found = c->image_before, *first = element(found, 0);
+    return (is("optimise-15-none-free") && four(empty_block2(found)) == CHAIN_END) ||
+           (is("optimise-15-full-slice") && c->len == c->image_size) ||
+           (is("optimise-15-full-packed") && *c->new_len == c->image_size) ||
+           (is("optimise-15-no-run") && first == NULL) ||
+           (is("optimise-15-index-shrinks") && index_blocks(c->image) < index_blocks(found)) ||
+           (is("optimise-15-longest-run") && first && two(block(found, two(first))) == 32767);
+}
+
 /* What is spoiled after a call that was done on a file of version 5. */
 static void done_wrong_5(call *c) {
     if (is("counts-at-version-4")) counts_at_4(c);
@@ -247,7 +258,7 @@ static uint32_t done_wrong(call *c) {
     if (is("empty_block-written")) put_two(image + 154, 0xFFFF);
     if (is("work-kept-past-L")) memcpy(c->work + c->len, c->work_before + c->len, c->work_size - c->len);
     if ((is("15-at-index-32767") && index_blocks(image) == 32767) ||
-        (is("15-at-data-65536") && data == 65536)) {
+        (is("15-at-data-65536") && data == 65536) || (c->kind == OPTIMISE && optimise_full(c))) {
         take_back(c);
         return 15;
     }

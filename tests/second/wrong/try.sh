@@ -49,7 +49,9 @@ try compare 20000 absent-always text-length-one-more 14-for-absent zero-behind-t
 try histories 500 15-without-placing image-untouched first-call-only same-entry-ignored replaced-counted \
     L-one-block-more behind-end-marks touch-behind-new-L byte-past-image highest-of-equals full-slice-refused \
     old-headword-in-index front-shorter chain-not-renumbered moved-run-trimmed chain-descending \
-    free-block-wiped optimise-zeroes-too-far optimise-keeps-old-bytes optimise-not-counted count-not-wrapped \
+    free-block-wiped optimise-zeroes-too-far optimise-keeps-old-bytes optimise-not-counted \
+    optimise-15-none-free optimise-15-full-slice optimise-15-full-packed optimise-15-no-run \
+    optimise-15-index-shrinks optimise-15-longest-run count-not-wrapped \
     empty_block-written work-kept-past-L 15-at-index-32767 15-at-data-65536 L-on-refusal L-on-absent \
     absent-counted work-zeroed-on-2 work-kept-on-12 work-kept-on-15 half-done-on-15 12-before-11 \
     absent-as-12 crash-on-15 create-in-255 create-clears-all text-first text-16-bits \

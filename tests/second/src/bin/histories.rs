@@ -5,7 +5,8 @@
 //! Runs the histories FIRST (0) to FIRST + HISTORIES (2,500) under SEED (1), for SECONDS
 //! (600) at most; each depends on the seed and its number alone. Then the cases at the limits
 //! are run (not where FIRST is given). Ends with status 1 at a difference, if a happening was
-//! seen too seldom in one of the versions, or if histories were left over.
+//! seen too seldom in one of the versions, if a call gave an answer that is not listed for it, or
+//! if histories were left over.
 
 use second::drive::{drive, print_slice, Found, Plan, Tally as _};
 use second::history::history;
@@ -57,7 +58,7 @@ fn main() {
         wrong = true;
     }
     if plan.whole && differences == 0 {
-        wrong |= total.missing();
+        wrong |= total.amiss();
         let start = Instant::now();
         match limits() {
             Ok(cases) => println!(
