@@ -118,6 +118,7 @@ static int missing(int version) {
     some |= none(t->index_grown, version, "an index that grew");
     some |= none(t->run_moved, version, "an index that grew beside other runs");
     some |= none(t->run_split, version, "a run more") | none(t->run_gone, version, "a run less");
+    some |= none(t->full_packed, version, "an image that was optimised and filled its slice");
     return some | none(accepted_changed[version] >= LEAST_ACCEPTED, version, "enough changed images that were accepted");
 }
 
@@ -128,8 +129,9 @@ static void report_version(int version) {
         if (returned(t, number) > 0) printf(" %u:%" PRIu64, number, returned(t, number));
     printf("; done");
     for (int kind = 0; kind < KINDS; kind++) printf(" %s %" PRIu64 ",", call_names[kind], t->returned[kind][0]);
-    printf(" index grown %" PRIu64 " (%" PRIu64 " with runs), more runs %" PRIu64 ", fewer runs %" PRIu64 "\n",
-           t->index_grown, t->run_moved, t->run_split, t->run_gone);
+    printf(" index grown %" PRIu64 " (%" PRIu64 " with runs), more runs %" PRIu64 ", fewer runs %" PRIu64
+           ", optimised in a full slice %" PRIu64 "\n",
+           t->index_grown, t->run_moved, t->run_split, t->run_gone, t->full_packed);
 }
 
 static void report(void) {

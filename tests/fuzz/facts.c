@@ -60,9 +60,15 @@ int may_return(int kind, uint32_t number) {
     return number < 16 && may[kind] >> number & 1;
 }
 
+/* A number that the call may return: of optimise 0 to 11, and "15 is never given by optimise". */
+void hold_may_return(const call *c, uint32_t number) {
+    hold(c->kind != OPTIMISE || number != 15, c, number, "15 is never given by optimise");
+    hold(may_return(c->kind, number), c, number, "the call may not return this number");
+}
+
 /* A number that the call may return, and the one foretold. */
 void hold_number(const state *s, const call *c, uint32_t number) {
-    hold(may_return(c->kind, number), c, number, "the call may not return this number");
+    hold_may_return(c, number);
     uint32_t wanted = foretold(s, c);
     int may_be_15 = number == 15 && (c->kind == INSERT || c->kind == DELETE) && (wanted == 0 || wanted == UNKNOWN);
     hold(number == wanted || may_be_15 || (wanted == UNKNOWN && (number == 0 || number >= 14)), c, number,
@@ -118,6 +124,14 @@ static int is_empty_image(const uint8_t *image, const call *c) {
     return memcmp(wanted, image, 256) == 0;
 }
 
+/* "An accepted image never needs a longer index or more data blocks when packed." What is given up is zero. */
+static void hold_packed(const state *s, const uint8_t *image, size_t len, const call *c) {
+    size_t index = two(image + AT_INDEX_BLOCK), index_before = two(s->slice + AT_INDEX_BLOCK);
+    hold(index <= index_before, c, 0, "optimising made the index longer");
+    hold(len / 256 - index <= c->len / 256 - index_before, c, 0, "optimising made more data blocks");
+    hold(all_bytes(image + len, c->len - len, 0), c, 0, "what was given up is not zero");
+}
+
 /* The slice after a change that was done. */
 static void hold_slice(const state *s, const lent *l, const call *c) {
     size_t len = number_at(l, NUMBER_A), old = c->kind == CREATE ? 256 : c->len, past = len > old ? len : old;
@@ -130,7 +144,7 @@ static void hold_slice(const state *s, const lent *l, const call *c) {
     }
     hold(header_kept(s->slice, image), c, 0, "a header byte changed that must not, or update_count did not rise by one");
     hold(c->kind == OPTIMISE ? len <= old : len >= old, c, 0, "L shrank, or grew by optimising");
-    if (c->kind == OPTIMISE) hold(all_bytes(image + len, old - len, 0), c, 0, "what was given up is not zero");
+    if (c->kind == OPTIMISE) hold_packed(s, image, len, c);
 }
 
 static void hold_work(const lent *l, const call *c, uint32_t number) {

@@ -129,6 +129,7 @@ uint32_t moved(const uint8_t *image, int field);
 void hold(int fact, const call *c, uint32_t number, const char *what);
 uint32_t foretold(const state *s, const call *c);
 int may_return(int kind, uint32_t number);
+void hold_may_return(const call *c, uint32_t number);
 void hold_number(const state *s, const call *c, uint32_t number);
 void hold_bytes(const state *s, const lent *l, const call *c, uint32_t number);
 void hold_answer(const state *s, const lent *l, const call *c);
@@ -140,7 +141,7 @@ enum { UNKNOWN = 0xFFFF }; /* foretold: the list is not known */
 int LLVMFuzzerTestOneInput(const uint8_t *data, size_t size);
 typedef struct {
     uint64_t accepted, returned[KINDS][PDIC_ABSENT + 1];
-    uint64_t index_grown, run_moved, run_split, run_gone; /* changes in which this happened */
+    uint64_t index_grown, run_moved, run_split, run_gone, full_packed; /* changes in which this happened */
 } tally;
 extern tally seen[VERSIONS]; /* by the image's version; for create by the one that it is given */
 

@@ -128,16 +128,18 @@ static void hold_optimised(const uint8_t *image, size_t len) {
     asked.len = len;
     prepare(&second, &asked, image);
     uint32_t number = perform(&second, &asked);
+    hold_may_return(&asked, number);
     put_four(second.image.at + AT_UPDATE_COUNT, four(image + AT_UPDATE_COUNT));
     hold(number == 0 && number_at(&second, NUMBER_A) == len && memcmp(second.image.at, image, now.size) == 0, &made, 0,
          "optimising again changes the image");
 }
 
-/* What a change did to index and runs. */
+/* What a change did to index and runs, and whether optimise had no room in the slice. */
 static void count_change(const uint8_t *image) {
     tally *t = &seen[is_5(image)];
     uint32_t grown = two(image + AT_INDEX_BLOCK) - two(now.slice + AT_INDEX_BLOCK);
     uint32_t runs = moved(image, NINDEX2), runs_before = moved(now.slice, NINDEX2);
+    t->full_packed += made.kind == OPTIMISE && made.len == made.image_size;
     if (made.kind != INSERT && made.kind != DELETE) return;
     t->index_grown += grown > 0;
     t->run_moved += grown > 0 && runs > 1;

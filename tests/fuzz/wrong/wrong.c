@@ -146,22 +146,25 @@ static void change_text(uint8_t *image, size_t len) {
     if (at + 3 < len) image[at] = 'u';
 }
 
+/* The image slice before an insertion or an optimising. */
+static uint8_t before[SEED_SLICE];
+
 /* Empty_block2, nindex2 and nblock2 of a version 5 image stand where version 4 has them. */
-static void counts_at_4(uint8_t *image, const uint8_t *before) {
+static void counts_at_4(uint8_t *image) {
     uint8_t counts[12];
     memcpy(counts, image + 188, sizeof counts);
     memcpy(image + 186, before + 186, 14);
     memcpy(image + 186, counts, sizeof counts);
 }
 
-/* What is spoiled after an insertion: the image before it is known. */
-static uint32_t spoil_inserted(uint8_t *image, const uint8_t *before, size_t image_size, size_t len, uint32_t number) {
+/* What is spoiled after an insertion. */
+static uint32_t spoil_inserted(uint8_t *image, size_t image_size, size_t len, uint32_t number) {
     if (number == 0 && is("15-without-placing")) {
         memcpy(image, before, image_size);
         return 15;
     }
     if (number == 0 && is("nword-kept")) memcpy(image + 160, before + 160, 4);
-    if (number == 0 && is("counts-at-4") && is_5(image)) counts_at_4(image, before);
+    if (number == 0 && is("counts-at-4") && is_5(image)) counts_at_4(image);
     if (number == 0 && is("other-text-changed")) change_text(image, len);
     if (number == 13 && is("refused-image-touched")) image[0] ^= 1;
     return number == 12 && is("returns-16") ? 16 : number;
@@ -170,7 +173,6 @@ static uint32_t spoil_inserted(uint8_t *image, const uint8_t *before, size_t ima
 uint32_t pdic_insert(uint8_t *image, size_t image_size, size_t len, uint8_t *work, size_t work_size,
                      const uint8_t *headword, size_t headword_size, uint8_t attribute, const uint8_t *text,
                      size_t text_size, size_t *new_len) {
-    static uint8_t before[SEED_SLICE];
     uint8_t first = work_size > 0 ? work[0] : 0;
     size_t old = *new_len, less_text = text_size > 0 && is("inserted-text-cut");
     if (image_size < SEED_SLICE) memcpy(before, image, image_size);
@@ -178,7 +180,7 @@ uint32_t pdic_insert(uint8_t *image, size_t image_size, size_t len, uint8_t *wor
                                         text, text_size - less_text, new_len);
     if (image_size >= SEED_SLICE) return number;
     if (number == 0) spoil_done(image, image_size, new_len, work, work_size, first);
-    uint32_t spoiled = spoil_inserted(image, before, image_size, *new_len, number);
+    uint32_t spoiled = spoil_inserted(image, image_size, *new_len, number);
     if (number == 0 && spoiled != 0) *new_len = old;
     return spoiled;
 }
@@ -201,9 +203,47 @@ static void drop_first(uint8_t *image, size_t image_size, uint8_t *work, size_t 
     memcpy(image + 208, count, 4);
 }
 
+/* A field that version 5 has two bytes later than version 4. */
+static uint8_t *moved(uint8_t *image, size_t at) { return image + at + (is_5(image) ? 2 : 0); }
+
+/* An index block more, where a block was given up. */
+static void longer_index(uint8_t *image, size_t len, size_t *new_len) {
+    uint8_t *data = image + 256 * (1 + (size_t)image[148]);
+    if (*new_len == len) return;
+    memmove(data + 256, data, (size_t)(image + *new_len - data));
+    memset(data, 0, 256);
+    image[148]++;
+    *new_len += 256;
+}
+
+/* The last run takes the blocks that were given up. */
+static void longer_run(uint8_t *image, size_t len, size_t *new_len) {
+    uint8_t *element = image + 256, *data = element + 256 * (size_t)image[148];
+    if (image[148] == 0) return;
+    for (int i = 1; i < *moved(image, 190); i++) element += 2 + strlen((char *)element + 2) + 1;
+    for (; *new_len < len; *new_len += 256) {
+        add_one(data + 256 * (size_t)*element);
+        add_one(moved(image, 194));
+    }
+}
+
+/* Where no block was free, 15. */
+static uint32_t refuse_packed(uint8_t *image, size_t image_size, size_t *new_len, size_t old) {
+    static const uint8_t none[4] = {0xFF, 0xFF, 0xFF, 0xFF};
+    if (memcmp(moved(before, 186), none, sizeof none) != 0) return 0;
+    memcpy(image, before, image_size);
+    *new_len = old;
+    return 15;
+}
+
 uint32_t pdic_optimise(uint8_t *image, size_t image_size, size_t len, uint8_t *work, size_t work_size, size_t *new_len) {
+    size_t old = *new_len;
+    if (image_size < SEED_SLICE) memcpy(before, image, image_size);
     uint32_t number = right_pdic_optimise(image, image_size, len, work, work_size, new_len);
-    if (number == 0 && is("optimise-keeps-bytes") && *new_len < len) image[len - 1] = 7;
-    if (number == 0 && is("optimise-drops-first")) drop_first(image, image_size, work, work_size, new_len);
-    return number;
+    if (number != 0 || image_size >= SEED_SLICE) return number;
+    if (is("optimise-keeps-bytes") && *new_len < len) image[len - 1] = 7;
+    if (is("optimise-drops-first")) drop_first(image, image_size, work, work_size, new_len);
+    if (is("optimise-index-longer")) longer_index(image, len, new_len);
+    if (is("optimise-run-longer")) longer_run(image, len, new_len);
+    return is("optimise-15-none-free") ? refuse_packed(image, image_size, new_len, old) : 0;
 }
