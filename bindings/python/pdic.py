@@ -229,19 +229,21 @@ class Dictionary:
             start, above = headword.raw[:headword_len.value], True
             yield Entry(start, attribute.value, text.raw[:text_len.value])
 
-    def _change(self, call, *arguments) -> bool:
-        """Makes a changing call, again in more memory where it is refused for want of room."""
-        while True:
-            size = len(self._image)
-            if self._work is None:
-                self._work = ctypes.create_string_buffer(size)
-            length = ctypes.c_size_t()
-            number = call(*self._slice(), self._work, size, *arguments, length)
-            if number != FULL or size >= self._most:
-                break
-            self._lend(min(2 * size, self._most), bytes(self))
+    def _call(self, call, *arguments) -> int:
+        """Makes a changing call in the memory that there is; gives its number."""
+        size = len(self._image)
+        if self._work is None:
+            self._work = ctypes.create_string_buffer(size)
+        length = ctypes.c_size_t()
+        number = call(*self._slice(), self._work, size, *arguments, length)
         if number == DONE:
             self._len = length.value
+        return number
+
+    def _change(self, call, *arguments) -> bool:
+        """Makes a changing call, again in more memory where it is refused for want of room."""
+        while (number := self._call(call, *arguments)) == FULL and len(self._image) < self._most:
+            self._lend(min(2 * len(self._image), self._most), bytes(self))
         return _done(number)
 
     def insert(self, headword: bytes, text: bytes, attribute: int = PLAIN) -> None:
@@ -255,5 +257,5 @@ class Dictionary:
         return self._change(_library.pdic_delete, *_given(headword))
 
     def optimise(self) -> None:
-        """Puts the entries in headword order without a free block."""
-        self._change(_library.pdic_optimise)
+        """Puts the entries in headword order without a free block. This takes no more memory and is never refused with 15."""
+        _done(self._call(_library.pdic_optimise))

@@ -61,6 +61,15 @@ class Examples(Case):
             else:
                 dictionary.insert(b'b', letters(509))
 
+    def test_optimise_full(self):
+        """An image that fills its memory to the last byte: no more is taken."""
+        for size in 256, 768:
+            dictionary = pdic.Dictionary.from_bytes(bytes(self.dictionary))
+            self.assertEqual(len(bytes(dictionary)), size)
+            dictionary.optimise()
+            self.assertEqual((len(bytes(dictionary)), len(dictionary._image)), (size, size))
+            self.dictionary.insert(b'ABC', b'one')
+
     def test_p10(self):
         self.dictionary.insert(letters(248), letters(3000))
         self.refused(pdic.BAD_HEADWORD, self.dictionary, self.dictionary.insert, letters(249), b'')

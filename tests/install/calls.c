@@ -64,6 +64,7 @@ int main(void)
     say("delete ABDEF", pdic_delete(image, sizeof image, len, work, sizeof work, bytes("ABDEF"), 5, &len));
     say("optimise with a short working slice", pdic_optimise(image, sizeof image, len, work, 100, &len));
     say("optimise", pdic_optimise(image, sizeof image, len, work, sizeof work, &len));
+    say("optimise in 256 bytes", pdic_optimise(image, 256, len, work, 256, &len));
     say("insert into 256 bytes", pdic_insert(image, 256, len, work, 256, bytes("a"), 1, PDIC_PLAIN, bytes(""), 0, &len));
     image[140] = 16;
     say("insert into version 0x0410", insert("a", PDIC_PLAIN, ""));

@@ -40,6 +40,7 @@ run glossary delete changed.dic 'wear plate'
 run glossary delete changed.dic 'wear plate'
 run glossary check changed.dic
 run glossary optimise changed.dic
+run glossary optimise changed.dic
 printf 'coolant\tantigel\r\n\r\nadaptor\tadaptateur\n\nclutch\tembrayage\nflat\tplat' >more.tsv
 cp changed.dic before.dic
 run glossary merge --dry-run changed.dic more.tsv
