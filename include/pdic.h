@@ -71,8 +71,8 @@ enum {
     PDIC_BAD_TEXT = 13,     /* the text is over 3,000 bytes long or has a zero byte, or the attribute has 0x80 clear or
                                0x10 set */
     PDIC_SHORT_OUTPUT = 14, /* an output slice is too short for the answer; then none of the outputs is written */
-    PDIC_FULL = 15          /* the changed image would be longer than its slice, or have over 65,536 data blocks or over
-                               32,767 index blocks */
+    PDIC_FULL = 15          /* insert and delete: the changed image would be longer than its slice, or have over 65,536 data
+                               blocks or over 32,767 index blocks */
 };
 
 /* The versions that a dictionary can have: the high byte of the version in its header. (PDIC_VERSION is the
@@ -163,8 +163,9 @@ uint32_t pdic_delete(uint8_t *image, size_t image_size, size_t len, uint8_t *wor
 
 /* Puts the runs in headword order without a free block, and the index at the size it needs.
  *
- * Returns PDIC_DONE or 1 to 11. With PDIC_DONE the image's length is *new_len, and the bytes from there
- * to `len` are zero. Any other number leaves image and *new_len as they were. */
+ * Returns PDIC_DONE or 1 to 11, and never PDIC_FULL: packed, an image needs no longer index and no more data
+ * blocks. With PDIC_DONE the image's length is *new_len, which is at most `len`, and the bytes from there to
+ * `len` are zero. Any other number leaves image and *new_len as they were. */
 uint32_t pdic_optimise(uint8_t *image, size_t image_size, size_t len, uint8_t *work, size_t work_size,
                        size_t *new_len);
 
