@@ -2,20 +2,22 @@
 use Prim.Native.Nat.{ℕ, zero, suc, _+_, _-_, _*_, _<_, _≤_}
 use mathlib.Core.Path.{_≡_, refl, sym, ap, ap₂, _∙_}
 use mathlib.Core.Bool.{Bool, true, false}
-use mathlib.Core.List.{List, [], _∷_, map}
+use mathlib.Core.List.{List, [], _∷_, _++_, map}
 use native.Mathlib.Omega.{arith}
 use native.Mathlib.Nat.{add-zero}
 use native.Mathlib.Decide.{decLt}
-use lib.ListN.{length, getD, set, take, drop, length-drop, drop-of-length-le}
-use lib.Seq.{length-take-le, drop-cons, drop-drop}
+use lib.ListN.{length, getD, take, drop, length-drop, drop-of-length-le, take-append-drop}
+use lib.Seq.{take-at, drop-at, length-take-le, drop-cons, drop-drop}
 use borrow.Author.Needs.{needs}
 use borrow.Author.Tests.{lt-ltb, le-ltb}
 use Rattle.spec.specs.Lists.{filter, range-from}
 use Rattle.spec.specs.Bytes.{to-little-endian, write}
+use Rattle.spec.specs.Header.{block-position}
 use Rattle.spec.specs.Blocks.{free-list-end, free-list-start, link-bytes, free-list-written}
 use Rattle.spec.proofs.ListsLaws.{filter-yes, filter-no}
 use Rattle.spec.proofs.WriteLaws.{length-write, write-swap, write-behind}
 use Rattle.spec.proofs.FreeListLaws.{Ascending, ascending-lower, length-link}
+use Rattle.header.proofs.PositionLaws.{write-block}
 use Rattle.marks.specs.Marks.{marks, gap, next}
 use Rattle.marks.proofs.Laws.{length-marks, drop-take}
 use Rattle.chain.specs.Numbers.{numbers, link-to}
@@ -112,11 +114,6 @@ unfolding link-bytes to-little-endian
 link-put d d₁ d₂ at v e₁ e₂ h = e₂ ∙ rw e₁ (write-behind d (0 ∷ 0 ∷ []) (to-little-endian 4 v) at (omega arith))
 
 -- ---- the free list as it is written
--- no block
-written-nil : (area : List ℕ) → free-list-written [] area ≡ area
-unfolding free-list-written
-written-nil area = refl
-
 -- a block and those behind it
 written-cons : (b : ℕ) (bs area : List ℕ) → free-list-written (b ∷ bs) area ≡ write (256 * b) (link-bytes (free-list-start bs)) (free-list-written bs area)
 unfolding free-list-written
@@ -151,13 +148,9 @@ whole ws g d first e =
 marks-few : (ws : List ℕ) (d : ℕ) → d ≤ 64 * length ws → length (take d (marks ws)) ≡ d
 marks-few ws d h = length-take-le d (marks ws) (omega (arith, length-marks ws))
 
--- the list as it is written from block b on
-abbrev pub rest-written : List ℕ → ℕ → ℕ → ℕ → List ℕ → List ℕ
-rest-written ws g d b area = free-list-written (numbers (b - g) (drop b (take d (marks ws)))) area
-
--- at first all is left
-pub chain-start : (ws area : List ℕ) (g d first : ℕ) → first ≡ next true (take d (marks ws)) g → rest-written ws g d first area ≡ free-list-written (numbers 0 (take (d - g) (drop g (marks ws)))) area
-chain-start ws area g d first e = ap (λ (l : List ℕ). free-list-written l area) (sym (whole ws g d first e))
+-- the numbers of the list from block b on
+abbrev pub numbers-left : List ℕ → ℕ → ℕ → ℕ → List ℕ
+numbers-left ws g d b = numbers (b - g) (drop b (take d (marks ws)))
 
 -- the first number of the list
 pub chain-first : (ws : List ℕ) (g d first v : ℕ) → first ≡ next true (take d (marks ws)) g → v ≡ link-to first g d → d ≤ 64 * length ws → g ≤ first
@@ -165,30 +158,57 @@ pub chain-first : (ws : List ℕ) (g d first v : ℕ) → first ≡ next true (t
 chain-first ws g d first v e f h k =
     f ∙ sym (ap free-list-start (whole ws g d first e) ∙ start-at (take d (marks ws)) g first d (marks-few ws d h) k (gap-next (take d (marks ws)) g first e))
 
--- the link of block b is written, and what is left starts at the next mark
-pub chain-turn : (ws area area₁ area₂ r : List ℕ) (g d b b′ v : ℕ) → rest-written ws g d b area ≡ r → gap true (drop b (take d (marks ws))) ≡ 0
-    → b′ ≡ next true (take d (marks ws)) (b + 1) → v ≡ link-to b′ g d
-    → area₁ ≡ write (256 * (b - g)) (to-little-endian 2 0) area → area₂ ≡ write (256 * (b - g) + 2) (to-little-endian 4 v) area₁
+-- the link of block b is written in the data area, and what is left starts at the next mark
+link-turn : (ws area : List ℕ) (g d b b′ v : ℕ) → gap true (drop b (take d (marks ws))) ≡ 0 → b′ ≡ next true (take d (marks ws)) (b + 1) → v ≡ link-to b′ g d
     → d ≤ 64 * length ws → 256 * (d - g) ≤ length area → g ≤ b → b < d → b + 1 ≤ b′
-    → rest-written ws g d b′ area₂ ≡ r
-chain-turn ws area area₁ area₂ r g d b b′ v inv set n ev e₁ e₂ few room low high up =
+    → free-list-written (numbers-left ws g d b′) (write (256 * (b - g)) (link-bytes v) area) ≡ free-list-written (numbers-left ws g d b) area
+link-turn ws area g d b b′ v set n ev few room low high up =
     let fl : List Bool = take d (marks ws) in
     let rest : List ℕ = numbers (b + 1 - g) (drop (b + 1) fl) in
     let l : length fl ≡ d = marks-few ws d few in
-    let same : rest ≡ numbers (b′ - g) (drop b′ fl) = rw n (numbers-next fl g (b + 1) (omega arith)) in
+    let same : rest ≡ numbers-left ws g d b′ = rw n (numbers-next fl g (b + 1) (omega arith)) in
     let f : free-list-start rest ≡ v = ap free-list-start same ∙ start-at fl g b′ d l (omega arith) (gap-next fl (b + 1) b′ n) ∙ sym ev in
-    let a : area₂ ≡ write (256 * (b - g)) (link-bytes v) area = link-put area area₁ area₂ (256 * (b - g)) v e₁ e₂ (omega arith) in
     let asc : Ascending (b + 1 - g) (d - g) rest = numbers-ascending (d - g) (b + 1 - g) (drop (b + 1) fl) (omega (arith, length-drop (b + 1) fl)) in
-    rw (← same, a)
+    rw (← same)
     (sym (written-swap (d - g) (b + 1 - g) (b - g) v rest area asc (omega arith) room)
     ∙ sym (ap (λ (l : List ℕ). free-list-written l area) (numbers-at fl g b low (omega arith) set) ∙ written-cons (b - g) rest area
-    ∙ ap (λ (k : ℕ). write (256 * (b - g)) (link-bytes k) (free-list-written rest area)) f)
-    ∙ inv)
+    ∙ ap (λ (k : ℕ). write (256 * (b - g)) (link-bytes k) (free-list-written rest area)) f))
 
--- at the end nothing is left
-pub chain-end : (ws area r : List ℕ) (g d b : ℕ) → rest-written ws g d b area ≡ r → d ≤ 64 * length ws → d ≤ b → area ≡ r
-chain-end ws area r g d b inv few h =
-    sym (written-nil area) ∙ ap (λ (l : List ℕ). free-list-written l area) (sym (numbers-none (take d (marks ws)) (b - g) b (omega (arith, marks-few ws d few)))) ∙ inv
+module _ (extended index : ℕ) where
+  -- where the data area of the image starts
+  abbrev start : ℕ
+  start = block-position extended index 0
+
+  -- a list written into the data area of the image
+  abbrev pub image-written : List ℕ → List ℕ → List ℕ
+  image-written bs image = take start image ++ free-list-written bs (drop start image)
+
+  -- at first all is left
+  pub chain-start : (ws image : List ℕ) (g d first : ℕ) → first ≡ next true (take d (marks ws)) g
+      → image-written (numbers-left ws g d first) image ≡ image-written (numbers 0 (take (d - g) (drop g (marks ws)))) image
+  chain-start ws image g d first e = ap (λ (l : List ℕ). image-written l image) (sym (whole ws g d first e))
+
+  -- the link of block b is written at its position, and what is left starts at the next mark
+  pub chain-turn : (ws image image₁ image₂ r : List ℕ) (g d b b′ at v : ℕ) → image-written (numbers-left ws g d b) image ≡ r
+      → gap true (drop b (take d (marks ws))) ≡ 0 → b′ ≡ next true (take d (marks ws)) (b + 1) → at ≡ block-position extended index (b - g) → v ≡ link-to b′ g d
+      → image₁ ≡ write at (to-little-endian 2 0) image → image₂ ≡ write (at + 2) (to-little-endian 4 v) image₁
+      → d ≤ 64 * length ws → block-position extended index (d - g) ≤ length image → g ≤ b → b < d → b + 1 ≤ b′
+      → image-written (numbers-left ws g d b′) image₂ ≡ r
+  chain-turn ws image image₁ image₂ r g d b b′ at v inv set n p ev e₁ e₂ few room low high up =
+      let area : List ℕ = drop start image in
+      let area₂ : List ℕ = write (256 * (b - g)) (link-bytes v) area in
+      let l : length (take start image) ≡ start = length-take-le start image (omega arith) in
+      let w : image₂ ≡ take start image ++ area₂
+      = link-put image image₁ image₂ at v e₁ e₂ (omega arith) ∙ write-block extended index (link-bytes v) image (b - g) at p (omega arith) in
+      let turn : free-list-written (numbers-left ws g d b′) area₂ ≡ free-list-written (numbers-left ws g d b) area
+      = link-turn ws area g d b b′ v set n ev few (omega (arith, length-drop start image)) low high up in
+      rw (w, take-at (take start image) area₂ start l, drop-at (take start image) area₂ start l, turn) inv
+
+  -- at the end nothing is left
+  pub chain-end : (ws image r : List ℕ) (g d b : ℕ) → image-written (numbers-left ws g d b) image ≡ r → d ≤ 64 * length ws → d ≤ b → image ≡ r
+  unfolding free-list-written
+  chain-end ws image r g d b inv few h =
+      sym (take-append-drop start image) ∙ rw (numbers-none (take d (marks ws)) (b - g) b (omega (arith, marks-few ws d few))) at inv
 
 -- every need of link
 pub ruleset link-laws = (link-below, link-end, needs)

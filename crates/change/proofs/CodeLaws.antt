@@ -17,8 +17,7 @@ use Rattle.index.specs.Elements.{elements-at}
 use Rattle.placing.specs.Spread.{spread, Within}
 use Rattle.moves.specs.Moved.{noted, starts, size-at, freed, tabled}
 use Rattle.target.specs.declared.Target.{Target}
-use Rattle.newruns.proofs.Laws.{lent-rest}
-use Rattle.change.specs.Ready.{growth, most-with, Displaced, Sealed}
+use Rattle.change.specs.Ready.{growth, most-with, Displaced, new-start, Sealed}
 use Rattle.change.specs.declared.Outline.{Outline}
 
 -- ---- growth
@@ -64,20 +63,17 @@ marks-end dst src i e h l =
     ∙ ap₂ (λ (x y : List ℕ). x ++ y) (sym (take-all i dst (omega arith))) (sym (drop-of-length-le src {i = i} h))
     ∙ e
 
--- ---- write_rest: the free list in the lent rest, then the header, which still names its layout
-pub rest-sealed : (s s′ x bs : List ℕ) (front : ℕ) (v : Outline) (first : ℕ) → 256 ≤ front → front ≤ length s
-    → x ≡ free-list-written bs (take (length s - front) (drop front s)) → first ≡ free-list-start bs
-    → s′ ≡ changed-header (layout-named (take front s ++ (x ++ drop (length s - front) (drop front s))))
-    (record { index-blocks = v .old .n + v .g; entries = v .words; first-free = first; elements = v .elements; run-blocks = v .blocks })
-    (take front s ++ (x ++ drop (length s - front) (drop front s)))
-    → Sealed s s′ front v bs
-rest-sealed s s′ x bs front v first least room ex ef e =
+-- ---- write_rest: the free list, then the header, which still names its layout
+pub rest-sealed : (s s₆ s′ bs : List ℕ) (v : Outline) (first : ℕ) → new-start v ≤ length s
+    → s₆ ≡ take (new-start v) s ++ free-list-written bs (drop (new-start v) s) → first ≡ free-list-start bs
+    → s′ ≡ changed-header (layout-named s₆)
+    (record { index-blocks = v .old .n + v .g; entries = v .words; first-free = first; elements = v .elements; run-blocks = v .blocks }) s₆
+    → Sealed s s′ v bs
+rest-sealed s s₆ s′ bs v first room e₆ ef e =
     let counts : ℕ → Counts = λ k. record { index-blocks = v .old .n + v .g; entries = v .words; first-free = k; elements = v .elements; run-blocks = v .blocks } in
-    let rest : List ℕ = x ++ drop (length s - front) (drop front s) in
-    let same : take 256 (take front s ++ rest) ≡ take 256 s
-    = take-append-le 256 (take front s) rest (omega (arith, length-take-le front s room)) ∙ take-take 256 front s least in
-    let written : rest ≡ free-list-written bs (drop front s)
-    = ap (λ (y : List ℕ). y ++ drop (length s - front) (drop front s)) ex ∙ lent-rest front s (free-list-written bs) in
+    let rest : List ℕ = free-list-written bs (drop (new-start v) s) in
+    let same : take 256 s₆ ≡ take 256 s
+    = ap (take 256) e₆ ∙ take-append-le 256 (take (new-start v) s) rest (omega (arith, length-take-le (new-start v) s room)) ∙ take-take 256 (new-start v) s (omega arith) in
     e
-    ∙ ap (λ (o : Layout). changed-header o (counts first) (take front s ++ rest)) (layout-kept (take front s ++ rest) s same)
-    ∙ ap₂ (λ (k : ℕ) (y : List ℕ). changed-header (layout-named s) (counts k) (take front s ++ y)) ef written
+    ∙ ap (λ (o : Layout). changed-header o (counts first) s₆) (layout-kept s₆ s same)
+    ∙ ap₂ (λ (k : ℕ) (y : List ℕ). changed-header (layout-named s) (counts k) y) ef e₆

@@ -10,7 +10,7 @@ use lib.Dec.{eqb}
 use Rattle.spec.specs.Order.{HeadwordOrder, below-of}
 use Rattle.spec.specs.Outcome.{ok}
 use Rattle.spec.specs.Bytes.{blocks-for}
-use Rattle.spec.specs.Header.{get}
+use Rattle.spec.specs.Header.{block-position, get}
 use Rattle.spec.specs.Entry.{headword-ok}
 use Rattle.spec.specs.Run.{Run}
 use Rattle.spec.specs.Blocks.{free-marks}
@@ -25,8 +25,8 @@ use Rattle.marks.specs.Marks.{marks, with-range}
 use Rattle.marks.proofs.Laws.{length-marks, length-range}
 use Rattle.freelist.proofs.Laws.{length-free-marks}
 use Rattle.header.specs.declared.Form.{Form}
-use Rattle.header.specs.Form.{layout-named, most-of, GoodForm, index-start, area-start, index-part, data-part}
-use Rattle.index.specs.Elements.{elements-at, elements-end}
+use Rattle.header.specs.Form.{layout-named, most-of, GoodForm, index-start, area-start, index-cut, data-cut, index-part, data-part}
+use Rattle.index.specs.Elements.{elements-at, elements-end, Inside}
 use Rattle.index.proofs.Laws.{ends-inside}
 use Rattle.inspect.specs.declared.Overview.{Overview}
 use Rattle.inspect.specs.Overview.{AcceptedImage, FreeMarked}
@@ -53,18 +53,31 @@ use Rattle.change.proofs.ReadyLaws.{blocks-counted, still, grows, grows
 
 -- ---- plan_end
 -- the end by the copied marks is that by the marks
-pub end-planned : (o : List ℕ) (v : Outline) (ws ws₁ : List ℕ) (h body : List ℕ) (from r : ℕ) (ms : List Bool) → ws₁ ≡ ws → from ≡ entries-start (v .target .block) (v .target .size)
+pub end-planned : (o : List ℕ) (v : Outline) (ws ws₁ : List ℕ) (h body : List ℕ) (start from r : ℕ) (ms : List Bool) → start ≡ area-start (v .old .form) (v .old .n)
+    → ws₁ ≡ ws → from ≡ entries-start (v .target .block) (v .target .size)
     → Within (most-with (v .old) (v .g)) (laid (v .old .form .limit) (v .g) (v .end) (marks ws₁) (changed-entries (v .old .form .order)
-    (take (256 * (v .target .block + v .target .size) - from) (drop from (data-part (v .old .form) o (v .old .n)))) h body (v .fresh))) r ms
+    (take (256 * (v .target .block + v .target .size) - from) (drop from (data-cut o start))) h body (v .fresh))) r ms
     → PlannedEnd o v (marks ws) h body r
-end-planned o v ws ws₁ h body from r ms e f w =
+end-planned o v ws ws₁ h body start from r ms here e f w =
     let t : Target = v .target in
     let area : List ℕ = data-part (v .old .form) o (v .old .n) in
     let k : take (256 * (t .block + t .size) - from) (drop from area) ≡ entries-part area (t .block) (t .size) = run-cut area (t .block) (t .size) from f in
     let w₁ = subst
-    (λ (x : List ℕ). Within (most-with (v .old) (v .g)) (laid (v .old .form .limit) (v .g) (v .end) (marks ws₁) (changed-entries (v .old .form .order) x h body (v .fresh))) r ms) k w in
+    (λ (x : List ℕ). Within (most-with (v .old) (v .g)) (laid (v .old .form .limit) (v .g) (v .end) (marks ws₁) (changed-entries (v .old .form .order) x h body (v .fresh))) r ms) k (rw here at w) in
     let w₂ = subst (λ (x : List ℕ). Within (most-with (v .old) (v .g)) (laid-parts o v (marks x) h body) r ms) e w₁ in
     (λ p. w₂ .0 p .0, w₂ .1)
+
+-- the image at the front of a slice, by the number of its bytes as code works it out: it is as long
+pub front-long : (s : List ℕ) (x : Overview) (len : ℕ) → len ≡ old-length x → old-length x ≤ length s → old-length x ≡ length (take len s)
+front-long s x len there inside = rw there (sym (length-take-le (old-length x) s inside))
+
+-- its end is planned, and a change of it is ready
+module _ (s : List ℕ) (v : Outline) (ms : List Bool) (h body : List ℕ) (len : ℕ) (there : len ≡ old-length (v .old)) where
+  pub front-planned : (r : ℕ) → PlannedEnd (take len s) v ms h body r → PlannedEnd (take (old-length (v .old)) s) v ms h body r
+  front-planned r = subst (λ (k : ℕ). PlannedEnd (take k s) v ms h body r) there
+
+  pub front-ready : (T : List ℕ) → Ready (take len s) v T ms h body → Ready (take (old-length (v .old)) s) v T ms h body
+  front-ready T = subst (λ (k : ℕ). Ready (take k s) v T ms h body) there
 
 -- ---- finish
 -- the marks of 2,560 words
@@ -91,8 +104,9 @@ module _ (s : List ℕ) (L : ℕ) (v : Outline) (T : List ℕ) (ms : List Bool) 
   abbrev fresh : Bool
   fresh = v .fresh
 
-  abbrev start : ℕ
-  start = area-start (v .old .form) (v .old .n)
+  -- where an image ends that has so many blocks, counted with the g that become the index's
+  abbrev end-of : ℕ → ℕ
+  end-of last = block-position (v .old .form .extended) (v .old .n) last
 
   abbrev image : Image
   image = r .accepted .image
@@ -115,10 +129,10 @@ module _ (s : List ℕ) (L : ℕ) (v : Outline) (T : List ℕ) (ms : List Bool) 
       last-is = at .0 few
 
       -- the slice is too short
-      pub finish-length : length s < start + 256 * last → Changed s L h body fresh Ending.Full s
+      pub finish-length : length s < end-of last → Changed s L h body fresh Ending.Full s
       finish-length p = full (length-full o v T ms h body r s long (omega (arith, last-is)) (omega (arith, last-is)))
 
-      module _ (room : start + 256 * last ≤ length s) (inside : L ≤ length s) (o′ : List ℕ) (copied : o′ ≡ o) where
+      module _ (room : end-of last ≤ length s) (inside : L ≤ length s) (o′ : List ℕ) (copied : o′ ≡ o) where
         -- from the copy of the old image the change is ready
         pub copy-ready : Ready o′ v T ms h body
         copy-ready = subst (λ (x : List ℕ). Ready x v T ms h body) (sym copied) r
@@ -135,9 +149,9 @@ module _ (s : List ℕ) (L : ℕ) (v : Outline) (T : List ℕ) (ms : List Bool) 
         copy-last = last-is ∙ ap (λ (x : List ℕ). laid-parts x v ms h body .end) (sym copied)
 
         -- the change is written
-        pub finish-done : (s′ : List ℕ) → Written s s′ o′ h body fresh → Changed s L h body fresh (Ending.Done (start + 256 * last)) s′
-        finish-done s′ w i e =
-            let z : start + 256 * last ≡ start + 256 * laid-parts o v ms h body .end = omega (arith, last-is) in (
+        pub finish-done : (s′ : List ℕ) → Written s s′ o′ h body fresh → (new : ℕ) → new ≡ end-of last → Changed s L h body fresh (Ending.Done new) s′
+        finish-done s′ w new en i e =
+            let z : new ≡ end-of (laid-parts o v ms h body .end) = omega (arith, en, last-is) in (
               ap (plan-full s) (same-plan i e) ∙ not-full o v T ms h body r s long (omega (arith, last-is)) (omega (arith, last-is)),
               z ∙ new-length o v T ms h body r s long (omega (arith, last-is)) ∙ ap plan-length (sym (same-plan i e)),
               w i (ap image-from copied ∙ e),
@@ -153,7 +167,7 @@ index-short o x a =
       a .end-is,
       accepted-few o x a,
       length-take (area-start (x .form) (x .n) - index-start (x .form)) (drop (index-start (x .form)) o),
-      ends-inside (x .form .width) (index-part (x .form) o (x .n)) 0 k (accepted-inside o x a k refl),
+      ends-inside (x .form .width) (index-part (x .form) o (x .n)) 0 k (accepted-inside o x a (area-start (x .form) (x .n)) refl k refl),
     )
 
 -- an index does not grow by more than these bytes
@@ -165,7 +179,7 @@ growth-few n k b = go (eqb k 0)
     go true = omega arith
     go false = omega arith
 
-module _ (o : List ℕ) (x : Overview) (a : AcceptedImage o x) (e : ℕ) (number : e ≡ get (layout-named o .nindex2) o) where
+module _ (o : List ℕ) (x : Overview) (a : AcceptedImage o x) (start : ℕ) (here : start ≡ area-start (x .form) (x .n)) (e : ℕ) (number : e ≡ get (layout-named o .nindex2) o) where
   abbrev order : ℕ
   order = x .form .order
 
@@ -175,10 +189,14 @@ module _ (o : List ℕ) (x : Overview) (a : AcceptedImage o x) (e : ℕ) (number
   abbrev there-area : List ℕ
   there-area = data-part (x .form) o (x .n)
 
-  module _ (h : List ℕ) (t : Target) (found : (rs : List Run) → runs-from (below-of order) (x .d) there-area (elements-at (x .form .width) there-index 0 e) ≡ ok rs
-      → TargetTold (x .form .width) order there-index there-area e h rs t) where
+  -- the run concerned, as code finds it in the index and the data area that it cuts out
+  abbrev Finds : List ℕ → Target → ℕ → Type 0
+  Finds h t k = (rs : List Run) → runs-from (below-of order) (x .d) (data-cut o k) (elements-at (x .form .width) (index-cut (x .form) o k) 0 e) ≡ ok rs
+      → TargetTold (x .form .width) order (index-cut (x .form) o k) (data-cut o k) e h rs t
+
+  module _ (h : List ℕ) (t : Target) (found : Finds h t start) where
     told : TargetTold (x .form .width) order there-index there-area e h (a .image .runs) t
-    told = found (a .image .runs) (accepted-runs o x a e number)
+    told = subst (Finds h t) here found (a .image .runs) (accepted-runs o x a (area-start (x .form) (x .n)) refl e number)
 
     -- the run concerned has its element among all
     pub element-short : t .end - t .at ≤ x .end
@@ -190,9 +208,10 @@ module _ (o : List ℕ) (x : Overview) (a : AcceptedImage o x) (e : ℕ) (number
 
     -- so the change is measured
     pub drafted : (body : List ℕ) (fresh there : Bool) (from b g parts bytes blocks : ℕ) → t .block + t .size ≤ x .d → from ≡ entries-start (t .block) (t .size)
-        → Measured (x .form .width) (map new-run (cut (x .form .limit) (changed-entries order (take (256 * (t .block + t .size) - from) (drop from there-area)) h body fresh))) parts bytes blocks
+        → Measured (x .form .width) (map new-run (cut (x .form .limit) (changed-entries order (take (256 * (t .block + t .size) - from) (drop from (data-cut o start))) h body fresh)))
+        parts bytes blocks
         → b ≡ get (layout-named o .nblock2) o → g ≡ growth (x .n) (t .before + t .after + parts) (x .end - (t .end - t .at) + bytes)
-        → bytes ≤ 2_122_318_077 → there ≡ is-there (lookup h (entries-left (below-of order) [] (take (256 * (t .block + t .size) - from) (drop from there-area))))
+        → bytes ≤ 2_122_318_077 → there ≡ is-there (lookup h (entries-left (below-of order) [] (take (256 * (t .block + t .size) - from) (drop from (data-cut o start)))))
         → Drafted o h body (record { old = x; target = t; fresh = fresh; found = there; g = g; elements = t .before + t .after + parts; blocks = b - t .size + blocks })
     drafted body fresh there from b g parts bytes blocks p ef m eb eg lb ft =
         record {
@@ -201,12 +220,13 @@ module _ (o : List ℕ) (x : Overview) (a : AcceptedImage o x) (e : ℕ) (number
               (same-value (a .image) i (sym (a .is) ∙ is)) (subst (λ (y : ℕ). TargetTold (x .form .width) order there-index there-area y h (a .image .runs) t) number told);
           inside = p;
           found-is =
-              λ i is. ft ∙ ap (λ (y : List ℕ). is-there (lookup h (entries-left (below-of order) [] y))) (run-cut there-area (t .block) (t .size) from ef) ∙ whole-found o x a e h t told i is;
+              λ i is. (rw here at ft) ∙ ap (λ (y : List ℕ). is-there (lookup h (entries-left (below-of order) [] y))) (run-cut there-area (t .block) (t .size) from ef)
+              ∙ whole-found o x a e h t told i is;
           parts = parts;
           bytes = bytes;
           run-blocks = blocks;
           measured = subst (λ (y : List ℕ). Measured (x .form .width) (map new-run (cut (x .form .limit) (changed-entries order y h body fresh))) parts bytes blocks)
-              (run-cut there-area (t .block) (t .size) from ef) m;
+              (run-cut there-area (t .block) (t .size) from ef) (rw here at m);
           growth-is = eg;
           growth-few = omega (arith, eg, index-short o x a, lb, growth-few (x .n) (t .before + t .after + parts) (x .end - (t .end - t .at) + bytes));
           elements-are = refl;
@@ -246,6 +266,11 @@ begins s h body words p free free′ inside k marked sound e long few headword s
       sound = sound (a .image) (a .is) .0;
       words-are = sound (a .image) (a .is) .1;
     }
+
+-- the same of the image at the front of a slice, by the number of its bytes as code works it out
+pub begun-front : (s : List ℕ) (p : Draft) (ms : List Bool) (h body : List ℕ) (words len : ℕ) → len ≡ old-length (p .old)
+    → Begun (take (old-length (p .old)) s) p ms h body words → Begun (take len s) p ms h body words
+begun-front s p ms h body words len there = subst (λ (k : ℕ). Begun (take k s) p ms h body words) (sym there)
 
 module _ (o : List ℕ) (p : Draft) (ms : List Bool) (h body : List ℕ) (words : ℕ) (b : Begun o p ms h body words) (long : length ms ≡ 163_840) where
   abbrev x : Overview
@@ -293,8 +318,13 @@ module _ (o : List ℕ) (p : Draft) (ms : List Bool) (h body : List ℕ) (words 
   pub few : x .d ≤ most-of w
   few = accepted-blocks o x a
 
-  pub area-long : 256 * x .d ≡ length area
-  area-long = data-long o fm (x .n) (x .d) (b .whole)
+  -- the index and the data area as code cuts them out
+  module _ (start : ℕ) (here : start ≡ area-start fm (x .n)) where
+    pub cut-long : 256 * x .d ≡ length (data-cut o start)
+    cut-long = data-long o fm (x .n) (x .d) (b .whole) start here
+
+    pub cut-inside : Inside w (index-cut fm o start) 0 (t .before) × Inside w (index-cut fm o start) (t .end) (t .after)
+    cut-inside = rw here (told-here .before-inside, told-here .after-inside)
 
   free-long : length free ≡ 163_840
   free-long =
@@ -330,7 +360,11 @@ module _ (o : List ℕ) (p : Draft) (ms : List Bool) (h body : List ℕ) (words 
       (k .inside) (sym z ∙ k .growth-is) (omega (arith, b .few-index)) (omega arith) (omega (arith, few))
       (subst (λ (y : ℕ). Growing area (x .d) 0 (c .before) (c .after) y T (x .d) ms) (sym long) growing) (b .sound) (b .words-are))
 
-  module _ (one : 1 ≤ p .g) (end : ℕ) (T : List ℕ) (ms′ : List Bool) (moved : Displaced x index area (p .g) t (replicate 32_768 0) ms end T ms′) where
+  module _ (one : 1 ≤ p .g) (end : ℕ) (T : List ℕ) (ms′ : List Bool) (start : ℕ) (here : start ≡ area-start fm (x .n))
+      (displaced : Displaced x (index-cut fm o start) (data-cut o start) (p .g) t (replicate 32_768 0) ms end T ms′) where
+    moved : Displaced x index area (p .g) t (replicate 32_768 0) ms end T ms′
+    moved = subst (λ (k : ℕ). Displaced x (index-cut fm o k) (data-cut o k) (p .g) t (replicate 32_768 0) ms end T ms′) here displaced
+
     abbrev g : ℕ
     g = p .g
 

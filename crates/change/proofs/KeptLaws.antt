@@ -5,15 +5,15 @@ use mathlib.Core.Logic.{_⊎_, inl, inr}
 use mathlib.Core.Bool.{Bool, true}
 use mathlib.Core.List.{List, [], _∷_, _++_, map, append-assoc}
 use native.Mathlib.Omega.{arith}
-use lib.ListN.{length, take, drop, getD, take-append-drop, replicate-append-replicate}
-use lib.Seq.{take-all, take-at, drop-at, take-take, take-append-le, take-append-add, drop-drop}
+use lib.ListN.{length, take, drop, getD, length-drop, take-append-drop, replicate-append-replicate}
+use lib.Seq.{length-take-le, take-all, take-at, drop-at, take-take, take-append-le, take-append-add, drop-drop}
 use Rattle.marks.specs.Marks.{marks}
 use Rattle.marks.proofs.Laws.{drop-take}
 use Rattle.spec.specs.Bytes.{bytes-at, write, zeros}
 use Rattle.spec.specs.Outcome.{ok}
 use Rattle.spec.specs.Order.{HeadwordOrder, below-of}
 use Rattle.spec.specs.Check.{Frame, index-area}
-use Rattle.spec.specs.Header.{get}
+use Rattle.spec.specs.Header.{block-position, get}
 use Rattle.spec.specs.Entry.{Entry, headword-ok}
 use Rattle.spec.specs.Run.{run-size}
 use Rattle.spec.specs.Index.{Element, elements-bytes, index-from}
@@ -29,14 +29,13 @@ use Rattle.elements.specs.Renewed.{renewed}
 use Rattle.elements.proofs.Laws.{elements-length, elements-stand, renewed-none-all}
 use Rattle.byteops.specs.Width.{Width}
 use Rattle.header.specs.declared.Form.{Form}
-use Rattle.header.specs.Form.{layout-named, index-start, area-start, index-part, data-part}
+use Rattle.header.specs.Form.{layout-named, index-start, area-start, index-part, data-cut, data-part}
 use Rattle.inspect.specs.declared.Overview.{Overview}
 use Rattle.inspect.specs.Overview.{AcceptedImage}
 use Rattle.inspect.proofs.Laws.{index-told}
 use Rattle.inspect.proofs.Accepted.{accepted-told, accepted-n, accepted-inside}
 use Rattle.header.proofs.Laws.{index-slice}
 use Rattle.spec.proofs.OrderLaws.{order-of}
-use Rattle.chain.specs.Numbers.{numbers}
 use Rattle.placing.specs.Spread.{Spread, spread}
 use Rattle.moves.specs.Moved.{starts, moved-written}
 use Rattle.target.specs.declared.Target.{Target}
@@ -46,13 +45,12 @@ use Rattle.encoder.specs.Limits.{longest-body, longest-run}
 use Rattle.parts.specs.Room.{largest-limit}
 use Rattle.parts.specs.Merge.{changed-entries}
 use Rattle.plan.specs.Written.{part-runs, parts-written}
-use Rattle.newruns.proofs.Laws.{lent-rest}
 use Rattle.change.specs.declared.Outline.{Outline}
-use Rattle.change.specs.Ready.{parts-of, laid-parts, old-length, most-with, Ready, Roomy, Areas, Sealed, Written}
+use Rattle.change.specs.Ready.{parts-of, laid-parts, old-length, most-with, Ready, Roomy, new-start, Areas}
 use Rattle.change.specs.Drafted.{PlannedEnd}
 use Rattle.change.specs.Kept.{fitted, Saved}
 use Rattle.change.proofs.Laws.{run-cut, areas-done}
-use Rattle.change.proofs.AreasLaws.{parts-asks, index-end, rest-asks, all-written}
+use Rattle.change.proofs.AreasLaws.{parts-asks, index-end}
 use Rattle.change.proofs.FinishLaws.{marks-long, copy-roomy, copy-last}
 
 -- ---- bytes cut or filled
@@ -98,23 +96,24 @@ put-filled d d₁ d₂ l at room n e₁ e₂ k h q =
 
 -- ---- save_old
 -- both copies stand in the working slice
-pub saved : (s w w₁ w₂ : List ℕ) (v : Outline) (from size : ℕ) → let t : Target = v .target in
-    from ≡ entries-start (t .block) (t .size) → size ≡ 256 * (t .block + t .size) - from
-    → w₁ ≡ write 0 (bytes-at (area-start (v .old .form) (v .old .n) + from) size s) w
+pub saved : (s w w₁ w₂ : List ℕ) (v : Outline) (start from size : ℕ) → let t : Target = v .target in
+    start ≡ area-start (v .old .form) (v .old .n) → from ≡ entries-start (t .block) (t .size) → size ≡ 256 * (t .block + t .size) - from
+    → w₁ ≡ write 0 (bytes-at from size (data-cut s start)) w
     → w₂ ≡ write size (bytes-at (index-start (v .old .form) + t .end) (256 * v .old .n - t .end) s) w₁
-    → area-start (v .old .form) (v .old .n) + from + size ≤ length s → t .end ≤ 256 * v .old .n → size + (256 * v .old .n - t .end) ≤ length w → Saved s v size w₂
-saved s w w₁ w₂ v from size ef es e₁ e₂ fits inside room =
+    → start + from + size ≤ length s → t .end ≤ 256 * v .old .n → size + (256 * v .old .n - t .end) ≤ length w → Saved s v size w₂
+saved s w w₁ w₂ v start from size here ef es e₁ e₂ fits inside room =
     let t : Target = v .target in
-    let x : List ℕ = bytes-at (area-start (v .old .form) (v .old .n) + from) size s in
+    let x : List ℕ = bytes-at from size (data-cut s start) in
+    let la : length (data-cut s start) ≡ length s - start = length-take-le (length s - start) (drop start s) (omega (arith, length-drop start s)) in
     let y : List ℕ = bytes-at (index-start (v .old .form) + t .end) (256 * v .old .n - t .end) s in
-    let lx : length x ≡ size = length-bytes-at s (area-start (v .old .form) (v .old .n) + from) size fits in
+    let lx : length x ≡ size = length-bytes-at (data-cut s start) from size (omega arith) in
     let ly : length y ≡ 256 * v .old .n - t .end = length-bytes-at s (index-start (v .old .form) + t .end) (256 * v .old .n - t .end) (omega arith) in
     let l₁ : length w₁ ≡ length w = ap length e₁ ∙ length-write 0 x w (omega (arith, lx)) in
     let k : size + length y ≤ length w₁ = omega (arith, ly, l₁) in
     let a : take size w₂ ≡ x = ap (take size) e₂ ∙ take-write size y w₁ k size (omega arith) ∙ ap (take size) e₁ ∙ written-front x w size lx in
     let b : bytes-at size (256 * v .old .n - t .end) w₂ ≡ y
     = ap (bytes-at size (256 * v .old .n - t .end)) e₂ ∙ ap (λ (q : ℕ). bytes-at size q (write size y w₁)) (sym ly) ∙ bytes-at-write size y w₁ k in
-    (es ∙ ap (λ (q : ℕ). 256 * (t .block + t .size) - q) ef, a ∙ ap (λ (q : ℕ). bytes-at (area-start (v .old .form) (v .old .n) + q) size s) ef, b)
+    (es ∙ ap (λ (q : ℕ). 256 * (t .block + t .size) - q) ef, a ∙ ap₂ (λ (q u : ℕ). bytes-at q size (data-cut s u)) ef here, b)
 
 -- ---- the index
 -- a byte of a list of bytes
@@ -132,16 +131,17 @@ zeros-behind index x y at m e l b =
 
 -- the bytes of entries of a run in a slice of which an image is the front
 run-inside : (o s : List ℕ) (start from size : ℕ) → take (length o) s ≡ o → start + from + size ≤ length o
-    → bytes-at (start + from) size s ≡ take size (drop from (take (length o - start) (drop start o)))
+    → bytes-at from size (data-cut s start) ≡ take size (drop from (data-cut o start))
 unfolding bytes-at
 run-inside o s start from size copy fits =
     let a : drop start o ≡ take (length o - start) (drop start s) = ap (drop start) (sym copy) ∙ drop-take start (length o) s in
     let b : take (length o - start) (drop start o) ≡ take (length o - start) (drop start s)
     = ap (take (length o - start)) a ∙ take-take (length o - start) (length o - start) (drop start s) (omega arith) in
-    sym (ap (λ (x : List ℕ). take size (drop from x)) b
+    let c : data-cut s start ≡ drop start s = take-all (length s - start) (drop start s) (omega (arith, length-drop start s)) in
+    ap (λ (x : List ℕ). take size (drop from x)) c
+    ∙ sym (ap (λ (x : List ℕ). take size (drop from x)) b
     ∙ ap (take size) (drop-take from (length o - start) (drop start s))
-    ∙ take-take size (length o - start - from) (drop from (drop start s)) (omega arith)
-    ∙ ap (take size) (drop-drop from start s))
+    ∙ take-take size (length o - start - from) (drop from (drop start s)) (omega arith))
 
 -- the elements of an accepted image's index
 accepted-elements : (o : List ℕ) (x : Overview) → AcceptedImage o x → let e : ℕ = get (layout-named o .nindex2) o in
@@ -221,9 +221,9 @@ module _ (o : List ℕ) (v : Outline) (T : List ℕ) (ws : List ℕ) (h body : L
   at-inside = omega (arith, r .told .at-is, elements-length w index 0 (t .before) (r .told .before-inside), ends-inside w index 0 (t .before) (r .told .before-inside), index-long)
 
   -- nothing is moved
-  nothing-moved : s ≡ take start s ++ (moved-written area (v .old .d) T (starts 0 (v .g) T) (take (length s - start) (drop start s)) ++ drop (length s - start) (drop start s))
+  nothing-moved : s ≡ take start s ++ moved-written area (v .old .d) T (starts 0 (v .g) T) (drop start s)
   unfolding starts moved-written
-  nothing-moved = rw still (sym (ap (λ (x : List ℕ). take start s ++ x) (lent-rest start s (λ x. x)) ∙ take-append-drop start s))
+  nothing-moved = rw still (sym (take-append-drop start s))
 
   -- no number is renewed
   as-they-are : (es : List Element) → map (renewed T (v .g)) es ≡ es
@@ -254,7 +254,7 @@ module _ (o : List ℕ) (v : Outline) (T : List ℕ) (ws : List ℕ) (h body : L
   rest-told = go stored
     where
       all-inside : Inside w index 0 count
-      all-inside = accepted-inside o (v .old) (r .accepted) count refl
+      all-inside = accepted-inside o (v .old) (r .accepted) start refl count refl
 
       total : length (elements-bytes w (elements-at w index 0 count)) ≡ t .end + length A
       total = omega (arith, elements-length w index 0 count all-inside, r .told .end-is)
@@ -285,7 +285,7 @@ module _ (o : List ℕ) (v : Outline) (T : List ℕ) (ws : List ℕ) (h body : L
 
   -- and they written over a slice
   abbrev written : List (List Entry) → List ℕ → List ℕ
-  written cs = parts-written w start (v .g) (front + t .at) (placed cs .places) cs
+  written cs = parts-written w (fm .extended) (v .old .n) (v .g) (front + t .at) (placed cs .places) cs
 
   module _ (size : ℕ) (kept : List ℕ) (sv : Saved s v size kept) where
     -- the entries as they were saved
@@ -311,7 +311,7 @@ module _ (o : List ℕ) (v : Outline) (T : List ℕ) (ws : List ℕ) (h body : L
     pub kept-asks : (l : ℕ) → l ≡ length s
         → ((headword-ok h ≡ true) × (length body ≤ longest-body) × (length (take size kept) ≤ 8388608))
         × ((Width w × (fm .limit ≤ largest-limit) × (v .g ≤ v .end))
-        × (((placed cs .end + longest-run ≤ 64 * length ws) × (start + 256 * placed cs .end ≤ l))
+        × (((placed cs .end + longest-run ≤ 64 * length ws) × (block-position (fm .extended) (v .old .n) (placed cs .end) ≤ l))
         × (front + t .at + room cs ≤ l)))
     kept-asks l e =
         subst
@@ -319,9 +319,9 @@ module _ (o : List ℕ) (v : Outline) (T : List ℕ) (ws : List ℕ) (h body : L
         ((headword-ok h ≡ true) × (length body ≤ longest-body) × (length x ≤ 8388608))
         × ((Width w × (fm .limit ≤ largest-limit) × (v .g ≤ v .end))
         × (((placed (cut (fm .limit) (changed-entries (fm .order) x h body (v .fresh))) .end + longest-run ≤ 64 * length ws)
-        × (start + 256 * placed (cut (fm .limit) (changed-entries (fm .order) x h body (v .fresh))) .end ≤ l))
+        × (block-position (fm .extended) (v .old .n) (placed (cut (fm .limit) (changed-entries (fm .order) x h body (v .fresh))) .end) ≤ l))
         × (front + t .at + room (cut (fm .limit) (changed-entries (fm .order) x h body (v .fresh))) ≤ l))))
-        (sym run-saved) (parts-asks o v T ws h body r s q l (entries-start (t .block) (t .size)) (front + t .at) e refl at-there)
+        (sym run-saved) (parts-asks o v T ws h body r s q start refl l (entries-start (t .block) (t .size)) (front + t .at) e refl at-there)
 
     -- the marks then
     pub kept-marks : (ms : List Bool) → ms ≡ placed cs .free → ms ≡ placed ps .free
@@ -333,17 +333,17 @@ module _ (o : List ℕ) (v : Outline) (T : List ℕ) (ws : List ℕ) (h body : L
       new-end = subst (λ (x : List (List Entry)). b ≡ front + t .at + room x) parts-same eb
 
       -- with those after they end inside the index
-      all-end : (b + length A ≤ start + 256 * v .g) × (start + 256 * v .g ≤ length s)
-      all-end = index-end o v T ws h body r s q (front + t .at) b (b + length A) at-there new-end refl
+      all-end : (b + length A ≤ new-start v) × (new-start v ≤ length s)
+      all-end = index-end o v T ws h body r s q start refl (front + t .at) b (b + length A) at-there new-end refl
 
       -- so the new ones do
       pub new-inside : (b ≤ start) × (start ≤ length s)
       new-inside = (omega (arith, all-end .0, still), omega (arith, all-end .1))
 
       -- THE LAW of the writing where the index does not grow
-      pub kept-areas : (s₃ s₅ : List ℕ) → s₃ ≡ written cs s
-          → length s₃ ≡ length s → s₅ ≡ write b (fitted (start - b) (take (size + (256 * v .old .n - t .end) - size) (drop size kept))) s₃ → Areas s s₅ o v h body
-      kept-areas s₃ s₅ e₃ l₃ e₅ =
+      pub kept-areas : (s₃ s₅ : List ℕ) (end : ℕ) → end ≡ start → s₃ ≡ written cs s
+          → length s₃ ≡ length s → s₅ ≡ write b (fitted (end - b) (take (size + (256 * v .old .n - t .end) - size) (drop size kept))) s₃ → Areas s s₅ o v h body
+      kept-areas s₃ s₅ end here e₃ l₃ e₅ =
           let z : ℕ = rest-told .0 in
           let n : ℕ = 256 * v .old .n - t .end in
           let rest : List ℕ = take (size + n - size) (drop size kept) in
@@ -351,9 +351,9 @@ module _ (o : List ℕ) (v : Outline) (T : List ℕ) (ws : List ℕ) (h body : L
           = rest-cut size n kept ∙ sv .2 ∙ sym (bytes-at-within front (256 * v .old .n) (t .end) n s (omega (arith, end-inside)))
           ∙ ap (bytes-at (t .end) n) (sym index-there) ∙ rest-at index (t .end) n (omega (arith, index-long)) ∙ rest-told .1 in
           let f : fitted (start - b) rest ≡ A ++ zeros (start - b - length A) = ap (fitted (start - b)) d ∙ fitted-zeros (start - b) A z (omega (arith, all-end .0, still)) in
-          let k : start - b - length A ≡ start + 256 * v .g - (b + length A) = omega (arith, still) in
-          let g : s₅ ≡ write (b + length A) (zeros (start + 256 * v .g - (b + length A))) (write b A s₃)
-          = e₅ ∙ ap (λ (x : List ℕ). write b x s₃) f ∙ sym (write-behind s₃ A (zeros (start - b - length A)) b (omega (arith, all-end, l₃)))
+          let k : start - b - length A ≡ new-start v - (b + length A) = omega (arith, still) in
+          let g : s₅ ≡ write (b + length A) (zeros (new-start v - (b + length A))) (write b A s₃)
+          = e₅ ∙ ap (λ (x : ℕ). write b (fitted (x - b) rest) s₃) here ∙ ap (λ (x : List ℕ). write b x s₃) f ∙ sym (write-behind s₃ A (zeros (start - b - length A)) b (omega (arith, all-end, l₃)))
           ∙ ap (λ (x : ℕ). write (b + length A) (zeros x) (write b A s₃)) k in
           let e₄ : write b A s₃ ≡ write b (elements-bytes w (map (renewed T (v .g)) (elements-at w index (t .end) (t .after)))) s₃
           = ap (λ (es : List Element). write b (elements-bytes w es) s₃) (sym (as-they-are (elements-at w index (t .end) (t .after)))) in
@@ -361,27 +361,10 @@ module _ (o : List ℕ) (v : Outline) (T : List ℕ) (ws : List ℕ) (h body : L
           areas-done o v T (marks ws) h body r s q s s s₃ (write b A s₃) s₅ (front + t .at) b (b + length A) nothing-moved before-there at-there p new-end e₄ refl g
 
 -- ---- keep
-module _ (o : List ℕ) (v : Outline) (T : List ℕ) (ws : List ℕ) (h body : List ℕ) (r : Ready o v T (marks ws) h body)
-    (s : List ℕ) (q : Roomy s o v (marks ws) h body) (still : v .g ≡ 0) (last : ℕ) (el : last ≡ laid-parts o v (marks ws) h body .end) where
-  -- what writing the free list and the header asks
-  pub kept-rest : (l k : ℕ) → l ≡ length s → k ≡ length ws
-      → (256 ≤ area-start (v .old .form) (v .old .n)) × (area-start (v .old .form) (v .old .n) ≤ l) × (v .g ≤ last) × (last ≤ 64 * k)
-      × (256 * (last - v .g) ≤ l - area-start (v .old .form) (v .old .n)) × (v .old .n + v .g ≤ 32_767)
-  kept-rest l k e ek =
-      let a = rest-asks o v T ws h body r s q l last e el k ek in
-      (omega arith, omega (arith, a .1), a .2, a .3, omega (arith, a .4, still), a .5)
-
-  -- after both
-  pub kept-written : (s₅ s₇ : List ℕ) (ms : List Bool) → Areas s s₅ o v h body → ms ≡ laid-parts o v (marks ws) h body .free
-      → Sealed s₅ s₇ (area-start (v .old .form) (v .old .n)) v (numbers 0 (take (last - v .g) (drop (v .g) ms))) → Written s s₇ o h body (v .fresh)
-  kept-written s₅ s₇ ms e₅ em e =
-      let f : area-start (v .old .form) (v .old .n) ≡ area-start (v .old .form) (v .old .n) + 256 * v .g = omega (arith, still) in
-      all-written o v T ws h body r s q s₅ s₇ ms last e₅ em el (subst (λ (x : ℕ). Sealed s₅ s₇ x v (numbers 0 (take (last - v .g) (drop (v .g) ms)))) f e)
-
 -- where there is room, the change is ready, and its new runs are placed
 pub kept-ready : (s : List ℕ) (v : Outline) (T ws : List ℕ) (h body : List ℕ) → let o : List ℕ = take (old-length (v .old)) s in
     Ready o v T (marks ws) h body → (last : ℕ) → PlannedEnd o v (marks ws) h body last → length ws ≡ 2560 → last ≤ most-with (v .old) (v .g)
-    → area-start (v .old .form) (v .old .n) + 256 * last ≤ length s → old-length (v .old) ≤ length s
+    → block-position (v .old .form .extended) (v .old .n) last ≤ length s → old-length (v .old) ≤ length s
     → Roomy s o v (marks ws) h body × (last ≡ laid-parts o v (marks ws) h body .end)
 kept-ready s v T ws h body r last at long few room inside =
     let L : ℕ = old-length (v .old) in

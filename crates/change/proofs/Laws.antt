@@ -10,7 +10,7 @@ use lib.Seq.{take-add, take-take, take-append-le, length-take-le, drop-drop}
 use Rattle.spec.specs.Outcome.{ok}
 use Rattle.spec.specs.Bytes.{write, zeros, blocks-for}
 use Rattle.spec.specs.Order.{HeadwordOrder, below-of}
-use Rattle.spec.specs.Header.{Layout, Format, Lawful, format-of, Counts, changed-header}
+use Rattle.spec.specs.Header.{Layout, Format, Lawful, format-of, block-position, Counts, changed-header}
 use Rattle.spec.specs.Entry.{Entry, headword-ok}
 use Rattle.spec.specs.Run.{Run, run-size, read-entry}
 use Rattle.spec.specs.Check as Check
@@ -51,11 +51,10 @@ use Rattle.parts.specs.Merge.{entries-until, entries-left, changed-entries}
 use Rattle.parts.proofs.MergeLaws.{entries-left-read, left-ok, merge-all}
 use Rattle.parts.proofs.PartLaws.{Short, cut-none, cut-parts, past-all, past-fewer, part-short, part-size}
 use Rattle.plan.specs.Written.{part-runs, parts-written}
-use Rattle.newruns.proofs.Laws.{lent-rest}
 use Rattle.plan.proofs.Whole.{elements-sum, sides, sealed}
 use Rattle.plan.proofs.Finish.{plan-parts, full-blocks, full-length, full-not, length-is, parts-over, written-is, parts-runs, parts-end, parts-free}
 use Rattle.change.specs.declared.Outline.{Outline}
-use Rattle.change.specs.Ready.{edited, planned, new-entries, parts-of, most-with, Ready, Roomy, Areas, Written}
+use Rattle.change.specs.Ready.{edited, planned, new-entries, parts-of, most-with, Ready, Roomy, new-start, Areas, Written}
 
 -- ---- the parts
 module _ (limit : ℕ) (small : limit ≤ largest-limit) where
@@ -237,17 +236,17 @@ module _ (o : List ℕ) (v : Outline) (T : List ℕ) (ms : List Bool) (h body : 
     at-end = parts-end m (v .g) ps ms (v .end) (r .under .end-is) (r .under .marked) longest-run small (omega (arith, r .few-index))
 
     -- row 15: the new image is longer than the slice
-    pub length-full : length s < area-start fm (v .old .n) + 256 * sp .end → plan-full s (planned i h body fresh) ≡ true
+    pub length-full : length s < block-position (fm .extended) (v .old .n) (sp .end) → plan-full s (planned i h body fresh) ≡ true
     length-full h = ap (plan-full s) plan-known ∙ full-length F s (v .old .n + v .g) (p .data-blocks) all (omega (arith, at-end))
 
     -- there is room
-    pub not-full : area-start fm (v .old .n) + 256 * sp .end ≤ length s → plan-full s (planned i h body fresh) ≡ false
+    pub not-full : block-position (fm .extended) (v .old .n) (sp .end) ≤ length s → plan-full s (planned i h body fresh) ≡ false
     not-full h = ap (plan-full s) plan-known ∙ full-not F s (v .old .n + v .g) (p .data-blocks) all (omega (arith, at-end)) (omega (arith, at-end)) (r .few-index)
 
     -- the new length
-    pub new-length : area-start fm (v .old .n) + 256 * sp .end ≡ plan-length (planned i h body fresh)
+    pub new-length : block-position (fm .extended) (v .old .n) (sp .end) ≡ plan-length (planned i h body fresh)
     new-length =
-        let e : area-start fm (v .old .n) + 256 * sp .end ≡ index-start fm + 256 * (v .old .n + v .g) + 256 * p .data-blocks = omega (arith, at-end) in
+        let e : block-position (fm .extended) (v .old .n) (sp .end) ≡ block-position (fm .extended) (v .old .n + v .g) (p .data-blocks) = omega (arith, at-end) in
         e ∙ sym (length-is F (v .old .n + v .g) (p .data-blocks) all) ∙ ap plan-length (sym plan-known)
 
   module _ (s : List ℕ) (q : Roomy s o v ms h body) where
@@ -270,8 +269,9 @@ module _ (o : List ℕ) (v : Outline) (T : List ℕ) (ms : List Bool) (h body : 
     abbrev start : ℕ
     start = area-start fm (v .old .n)
 
+    -- where the new data blocks begin, by the old numbers
     abbrev front : ℕ
-    front = start + 256 * v .g
+    front = block-position (fm .extended) (v .old .n) (v .g)
 
     end-room : 256 * v .end ≤ length (drop start s)
     end-room = omega (arith, length-drop start s, q .room, spread-grows (v .g) (v .end) ms (map run-size ps))
@@ -285,14 +285,15 @@ module _ (o : List ℕ) (v : Outline) (T : List ℕ) (ms : List Bool) (h body : 
 
     -- the slice after the displaced runs are copied
     pub moved-first : (s₁ : List ℕ)
-        → s₁ ≡ take start s ++ (moved-written (data-part fm o (v .old .n)) (v .old .d) T (starts 0 (v .g) T) (take (length s - start) (drop start s)) ++ drop (length s - start) (drop start s))
+        → s₁ ≡ take start s ++ moved-written (data-part fm o (v .old .n)) (v .old .d) T (starts 0 (v .g) T) (drop start s)
         → s₁ ≡ take front s ++ runs-written (m .before ++ m .after) (drop front s)
     moved-first s₁ e =
+        let sum : start + 256 * v .g ≡ front = omega arith in
         e
-        ∙ ap (λ (x : List ℕ). take start s ++ x)
-        (lent-rest start s (moved-written (data-part fm o (v .old .n)) (v .old .d) T (starts 0 (v .g) T)) ∙ r .under .moved-is (drop start s) area-there end-room)
+        ∙ ap (λ (x : List ℕ). take start s ++ x) (r .under .moved-is (drop start s) area-there end-room)
         ∙ sym (append-assoc (take start s) (take (256 * v .g) (drop start s)) (runs-written (m .before ++ m .after) (drop (256 * v .g) (drop start s))))
         ∙ ap₂ (λ (x y : List ℕ). x ++ runs-written (m .before ++ m .after) y) (sym (take-add start (256 * v .g) s)) (drop-drop (256 * v .g) start s)
+        ∙ ap (λ (k : ℕ). take k s ++ runs-written (m .before ++ m .after) (drop k s)) sum
 
     abbrev index : List ℕ
     index = index-part fm o (v .old .n)
@@ -330,16 +331,20 @@ module _ (o : List ℕ) (v : Outline) (T : List ℕ) (ms : List Bool) (h body : 
     Same : (j : Image) → image-from o ≡ ok j → planned j h body fresh ≡ plan-of F (v .old .n + v .g) (p .data-blocks) all
     Same j e = ap (λ (x : Image). planned x h body fresh) (same-value j i (sym e ∙ r .accepted .is)) ∙ plan-known
 
+    -- by the new numbers
+    front-new : front ≡ new-start v
+    front-new = omega arith
+
     -- THE LAW of the writing: index and blocks
     pub areas-done : (s₁ s₂ s₃ s₄ s₅ : List ℕ) (a b e : ℕ)
-        → s₁ ≡ take start s ++ (moved-written (data-part fm o (v .old .n)) (v .old .d) T (starts 0 (v .g) T) (take (length s - start) (drop start s)) ++ drop (length s - start) (drop start s))
+        → s₁ ≡ take start s ++ moved-written (data-part fm o (v .old .n)) (v .old .d) T (starts 0 (v .g) T) (drop start s)
         → s₂ ≡ write (index-start fm) (elements-bytes w (map (renewed T (v .g)) (elements-at w index 0 (t .before)))) s₁
         → a ≡ index-start fm + length (elements-bytes w (elements-at w index 0 (t .before)))
-        → s₃ ≡ parts-written w start (v .g) a (sp .places) ps s₂
+        → s₃ ≡ parts-written w (fm .extended) (v .old .n) (v .g) a (sp .places) ps s₂
         → b ≡ a + length (elements-bytes w (map element-of Q))
         → s₄ ≡ write b (elements-bytes w (map (renewed T (v .g)) (elements-at w index (t .end) (t .after)))) s₃
         → e ≡ b + length (elements-bytes w (elements-at w index (t .end) (t .after)))
-        → s₅ ≡ write e (zeros (front - e)) s₄
+        → s₅ ≡ write e (zeros (new-start v - e)) s₄
         → Areas s s₅ o v h body
     areas-done s₁ s₂ s₃ s₄ s₅ a b e e₁ e₂ ea e₃ eb e₄ ee e₅ j is =
         let B : List ℕ = elements-bytes w (map element-of (m .before)) in
@@ -349,15 +354,16 @@ module _ (o : List ℕ) (v : Outline) (T : List ℕ) (ms : List Bool) (h body : 
         let nb : b ≡ index-start fm + length B + length P = omega (arith, eb) in
         let ne : e ≡ index-start fm + length B + length P + length A = omega (arith, ee, after-length) in
         let d₂ : s₂ ≡ write (index-start fm) B s₁ = e₂ ∙ ap (λ (es : List Element). write (index-start fm) (elements-bytes w es) s₁) before-are in
-        let d₃ : s₃ ≡ parts-written w start (v .g) (index-start fm + length B) (sp .places) ps s₂ = e₃ ∙ ap (λ (k : ℕ). parts-written w start (v .g) k (sp .places) ps s₂) na in
+        let d₃ : s₃ ≡ parts-written w (fm .extended) (v .old .n) (v .g) (index-start fm + length B) (sp .places) ps s₂
+        = e₃ ∙ ap (λ (k : ℕ). parts-written w (fm .extended) (v .old .n) (v .g) k (sp .places) ps s₂) na in
         let d₄ : s₄ ≡ write (index-start fm + length B + length P) A s₃ = e₄ ∙ ap₂ (λ (k : ℕ) (es : List Element). write k (elements-bytes w es) s₃) nb after-are in
         let d₅ : s₅ ≡ write (index-start fm + length B + length P + length A) (zeros (front - (index-start fm + length B + length P + length A))) s₄
-        = e₅ ∙ ap (λ (k : ℕ). write k (zeros (front - k)) s₄) ne in
+        = e₅ ∙ ap₂ (λ (k l : ℕ). write k (zeros (l - k)) s₄) ne (sym front-new) in
         let laid : Laid (p .data-blocks) (m .before ++ Q ++ m .after) = subst (λ (x : List Run). Laid (p .data-blocks) (m .before ++ x ++ m .after)) (sym runs-are) all-laid in
         sides F s (v .old .n) (v .g) (p .data-blocks) (m .before) (m .after) (sp .places) ps room-is laid places-above index-room s₁ s₂ s₃ s₄ s₅ (moved-first s₁ e₁) d₂ d₃ d₄ d₅
         ∙ ap (λ (x : List Run). take (index-start fm) s ++ index-bytes w (v .old .n + v .g) (map element-of (m .before ++ x ++ m .after)) ++ runs-written (m .before ++ x ++ m .after) (drop front s))
         runs-are
-        ∙ ap (λ (x : Plan). take (index-start fm) s ++ index-bytes w (v .old .n + v .g) (map element-of (x .runs)) ++ runs-written (x .runs) (drop front s)) (sym (Same j is))
+        ∙ ap₂ (λ (x : Plan) (k : ℕ). take (index-start fm) s ++ index-bytes w (v .old .n + v .g) (map element-of (x .runs)) ++ runs-written (x .runs) (drop k s)) (sym (Same j is)) front-new
 
     -- the header of the image on its way is the old one's
     header-same : (s₅ x : List ℕ) → s₅ ≡ take (index-start fm) s ++ x → take 256 s₅ ≡ take 256 o
@@ -370,7 +376,7 @@ module _ (o : List ℕ) (v : Outline) (T : List ℕ) (ms : List Bool) (h body : 
 
     -- and the free list and the header
     pub sealed-done : (s₅ s₆ s₇ : List ℕ) (last first : ℕ) → Areas s s₅ o v h body → last ≡ sp .end
-        → s₆ ≡ take front s₅ ++ free-list-written (numbers 0 (take (last - v .g) (drop (v .g) (sp .free)))) (drop front s₅)
+        → s₆ ≡ take (new-start v) s₅ ++ free-list-written (numbers 0 (take (last - v .g) (drop (v .g) (sp .free)))) (drop (new-start v) s₅)
         → first ≡ free-list-start (numbers 0 (take (last - v .g) (drop (v .g) (sp .free))))
         → s₇ ≡ changed-header (layout-named s₅) (record { index-blocks = v .old .n + v .g; entries = v .words; first-free = first; elements = v .elements; run-blocks = v .blocks }) s₆
         → Written s s₇ o h body fresh
@@ -380,14 +386,14 @@ module _ (o : List ℕ) (v : Outline) (T : List ℕ) (ms : List Bool) (h body : 
         let f : numbers 0 (take (last - v .g) (drop (v .g) (sp .free))) ≡ free-blocks all D = ap (λ (x : ℕ). numbers 0 (take (x - v .g) (drop (v .g) (sp .free)))) el ∙ free-are in
         let I : List ℕ = index-bytes w (v .old .n + v .g) (map element-of all) in
         let l : length I ≡ 256 * (v .old .n + v .g) = index-bytes-length w (map element-of all) (v .old .n + v .g) all-need in
-        let z : front ≡ index-start fm + 256 * (v .old .n + v .g) = omega arith in
-        let d₅ : s₅ ≡ take (index-start fm) s ++ I ++ runs-written all (drop front s)
-        = e₅ j is ∙ ap (λ (x : Plan). take (index-start fm) s ++ index-bytes w (v .old .n + v .g) (map element-of (x .runs)) ++ runs-written (x .runs) (drop front s)) (Same j is) in
+        let d₅ : s₅ ≡ take (index-start fm) s ++ I ++ runs-written all (drop (new-start v) s)
+        = e₅ j is ∙ ap (λ (x : Plan). take (index-start fm) s ++ index-bytes w (v .old .n + v .g) (map element-of (x .runs)) ++ runs-written (x .runs) (drop (new-start v) s)) (Same j is) in
         let e₈ : s₇ ≡ changed-header (layout-named o) counts s₆ = e₇ ∙ ap (λ (x : Layout). changed-header x counts s₆)
-        (layout-kept s₅ o (header-same s₅ (I ++ runs-written all (drop front s)) (d₅ ∙ append-assoc (take (index-start fm) s) I (runs-written all (drop front s))))) in
-        let d₆ : s₆ ≡ take front s₅ ++ free-list-written (free-blocks all D) (drop front s₅) = e₆ ∙ ap (λ (x : List ℕ). take front s₅ ++ free-list-written x (drop front s₅)) f in
-        sealed F lawful s s₅ s₆ s₇ I (runs-written all (drop front s)) (free-blocks all D) front counts (omega (arith, room-is)) (omega arith) d₅ d₆ e₈
-        ∙ ap₂ (λ (x : Counts) (k : ℕ). changed-header (layout-named o) x (take (index-start fm) s) ++ I ++ free-list-written (free-blocks all D) (runs-written all (drop k s)))
-        (all-counts first (ef ∙ ap free-list-start f)) z
+        (layout-kept s₅ o (header-same s₅ (I ++ runs-written all (drop (new-start v) s)) (d₅ ∙ append-assoc (take (index-start fm) s) I (runs-written all (drop (new-start v) s))))) in
+        let d₆ : s₆ ≡ take (new-start v) s₅ ++ free-list-written (free-blocks all D) (drop (new-start v) s₅)
+        = e₆ ∙ ap (λ (x : List ℕ). take (new-start v) s₅ ++ free-list-written x (drop (new-start v) s₅)) f in
+        sealed F lawful s s₅ s₆ s₇ I (runs-written all (drop (new-start v) s)) (free-blocks all D) (new-start v) counts (omega (arith, room-is)) (omega arith) d₅ d₆ e₈
+        ∙ ap (λ (x : Counts). changed-header (layout-named o) x (take (index-start fm) s) ++ I ++ free-list-written (free-blocks all D) (runs-written all (drop (new-start v) s)))
+        (all-counts first (ef ∙ ap free-list-start f))
         ∙ sym (written-is F s (v .old .n + v .g) D all)
         ∙ ap (λ (x : Plan). plan-written x s) (sym (Same j is))

@@ -30,7 +30,7 @@ use Rattle.spec.proofs.FreeListLaws.{Stands}
 use Rattle.spec.proofs.ReadLaws.{ImageTold, run-told}
 use Rattle.spec.proofs.ChangeLaws.{Sound, image-sound}
 use Rattle.header.specs.declared.Form.{Form}
-use Rattle.header.specs.Form.{layout-named, most-of, format-by, index-part, data-part}
+use Rattle.header.specs.Form.{layout-named, most-of, format-by, index-part, data-part, area-start}
 use Rattle.index.specs.Elements.{elements-at}
 use Rattle.runs.proofs.SizeLaws.{size-of-run}
 use Rattle.marks.specs.Marks.{with-range}
@@ -133,7 +133,7 @@ module _ (o : List ℕ) (x : Overview) (a : AcceptedImage o x) where
   sized = all-map _ _ (λ r h. (h .some-blocks, h .whole)) (i .runs) (sound .holds)
 
   pub runs-read : runs-from below d area (elements-at w index 0 elements) ≡ ok (i .runs)
-  runs-read = accepted-runs o x a elements refl
+  runs-read = accepted-runs o x a (area-start (x .form) (x .n)) refl elements refl
 
   known : All (Known below d area) (i .runs)
   known = runs-known below d area (elements-at w index 0 elements) (i .runs) runs-read

@@ -4,7 +4,7 @@ use mathlib.Core.Path.{_≡_}
 use mathlib.Core.List.{List, _++_}
 use lib.ListN.{take}
 use Rattle.spec.specs.Bytes.{bytes-at, zeros}
-use Rattle.header.specs.Form.{index-start, area-start}
+use Rattle.header.specs.Form.{index-start, data-part}
 use Rattle.target.specs.declared.Target.{Target}
 use Rattle.target.specs.Told.{entries-start}
 use Rattle.change.specs.declared.Outline.{Outline}
@@ -19,7 +19,7 @@ Saved s v r w =
     let t : Target = v .target in
     let rest : ℕ = 256 * v .old .n - t .end in
     (r ≡ 256 * (t .block + t .size) - entries-start (t .block) (t .size))
-    × (take r w ≡ bytes-at (area-start (v .old .form) (v .old .n) + entries-start (t .block) (t .size)) r s)
+    × (take r w ≡ bytes-at (entries-start (t .block) (t .size)) r (data-part (v .old .form) s (v .old .n)))
     × (bytes-at r rest w ≡ bytes-at (index-start (v .old .form) + t .end) rest s)
 
 -- names all definitions of this module: who unfolds it unfolds them

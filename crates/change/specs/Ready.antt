@@ -1,5 +1,5 @@
 -- A change on its way: what is known when its growth is planned, and what it leaves.
-use Prim.Native.Nat.{ℕ, _+_, _-_, _*_, _≤_, max}
+use Prim.Native.Nat.{ℕ, _+_, _-_, _≤_, max}
 use mathlib.Core.Path.{_≡_}
 use mathlib.Core.Bool.{Bool, true, false}
 use mathlib.Core.List.{List, _++_, map}
@@ -8,7 +8,7 @@ use lib.Dec.{eqb}
 use Rattle.spec.specs.Outcome.{ok}
 use Rattle.spec.specs.Bytes.{blocks-for}
 use Rattle.spec.specs.Order.{HeadwordOrder, below-of}
-use Rattle.spec.specs.Header.{get, changed-header}
+use Rattle.spec.specs.Header.{block-position, get, changed-header}
 use Rattle.spec.specs.Entry.{Entry, headword-ok}
 use Rattle.spec.specs.Index.{index-need, index-bytes}
 use Rattle.spec.specs.Blocks.{run-blocks, free-list-start, free-list-written}
@@ -57,7 +57,7 @@ laid-parts o v ms h body = laid (v .old .form .limit) (v .g) (v .end) ms (new-en
 
 -- the bytes of the old image
 abbrev pub old-length : Overview → ℕ
-old-length w = area-start (w .form) (w .n) + 256 * w .d
+old-length w = block-position (w .form .extended) (w .n) (w .d)
 
 -- the most blocks of a new image, counted with the g that become the index's
 abbrev pub most-with : Overview → ℕ → ℕ
@@ -98,8 +98,12 @@ pub record Roomy (s o : List ℕ) (v : Outline) (ms : List Bool) (h body : List 
   pub copy : take (length o) s ≡ o
   pub shorter : length o ≤ length s
   pub end-few : laid-parts o v ms h body .end ≤ most-with (v .old) (v .g)
-  pub room : area-start (v .old .form) (v .old .n) + 256 * laid-parts o v ms h body .end ≤ length s
+  pub room : block-position (v .old .form .extended) (v .old .n) (laid-parts o v ms h body .end) ≤ length s
   pub long : length ms ≡ 163_840
+
+-- the position of the first data block in the new image
+abbrev pub new-start : Outline → ℕ
+new-start v = area-start (v .old .form) (v .old .n + v .g)
 
 -- index and blocks of the plan are written over the slice s
 abbrev pub Areas : List ℕ → List ℕ → List ℕ → Outline → List ℕ → List ℕ → Type 0
@@ -107,14 +111,14 @@ Areas s s′ o v h body =
     (i : Image) → image-from o ≡ ok i
     → s′ ≡ take (index-start (v .old .form)) s
     ++ index-bytes (v .old .form .width) (v .old .n + v .g) (map element-of (planned i h body (v .fresh) .runs))
-    ++ runs-written (planned i h body (v .fresh) .runs) (drop (area-start (v .old .form) (v .old .n) + 256 * v .g) s)
+    ++ runs-written (planned i h body (v .fresh) .runs) (drop (new-start v) s)
 
--- the free list bs and the header are written over the slice s, whose index ends at `front`
-abbrev pub Sealed : List ℕ → List ℕ → ℕ → Outline → List ℕ → Type 0
-Sealed s s′ front v bs =
+-- the free list bs and the header are written over the slice s
+abbrev pub Sealed : List ℕ → List ℕ → Outline → List ℕ → Type 0
+Sealed s s′ v bs =
     s′ ≡ changed-header (layout-named s)
     (record { index-blocks = v .old .n + v .g; entries = v .words; first-free = free-list-start bs; elements = v .elements; run-blocks = v .blocks })
-    (take front s ++ free-list-written bs (drop front s))
+    (take (new-start v) s ++ free-list-written bs (drop (new-start v) s))
 
 -- the slice s′ is the plan written over the slice s, which holds the image o
 abbrev pub Written : List ℕ → List ℕ → List ℕ → List ℕ → List ℕ → Bool → Type 0

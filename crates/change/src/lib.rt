@@ -5,12 +5,13 @@ ghost use mathlib.Core.List.{[]};
 ghost use Prim.Native.Nat.{_+_, _-_, _*_, _%_, _≤_};
 ghost use lib.ListN.{length, take, drop};
 ghost use Rattle.spec.specs.Bytes.{write};
+ghost use Rattle.spec.specs.Header.{block-position};
 ghost use Rattle.spec.specs.Entry.{headword-ok};
 ghost use Rattle.marks.specs.Marks.{marks};
 ghost use Rattle.index.specs.Elements.{Inside};
 ghost use Rattle.chain.specs.Numbers.{numbers};
 ghost use Rattle.encoder.specs.Limits.{longest-body};
-ghost use Rattle.header.specs.Form.{most-of, area-start, GoodForm};
+ghost use Rattle.header.specs.Form.{most-of, GoodForm};
 ghost use Rattle.inspect.specs.Overview.{AcceptedImage, FreeMarked};
 ghost use Rattle.change.specs.Ready.{growth, laid-parts, old-length, most-with, Displaced, Ready, Roomy, Areas, Sealed, Changed};
 ghost use Rattle.change.specs.Drafted.{PlannedEnd, Drafted, PlanCounted, Begun};
@@ -95,12 +96,13 @@ fn write_areas(
     let form = v.old.form;
     let t = v.target;
     let width = form.width;
+    let n = v.old.n;
     let front = HEADER + form.extended;
-    let start = front + 256 * v.old.n;
-    let end = start + 256 * v.g;
+    let start = header::position(form.extended, n, 0);
+    let end = header::position(form.extended, n + v.g, 0);
     let index = &old[front..start];
     let area = &old[start..];
-    moves::copy_moved(&mut image[start..], area, v.old.d, numbers, v.g);
+    moves::copy_moved(image, form.extended, n, area, v.old.d, numbers, v.g);
     let from = target::entries_start(t.block, t.size);
     let run = &area[from..256 * (t.block + t.size)];
     let a = elements::copy_elements(
@@ -123,7 +125,7 @@ fn write_areas(
         },
         image,
         Site {
-            start: start,
+            index: n,
             at: a,
             room: room,
         },
@@ -151,17 +153,17 @@ fn write_areas(
 // concerned, then the index behind its element. Answers how many bytes the entries take.
 fn save_old(work: &mut [u8], image: &[u8], v: Outline) -> usize
     requires { ⌜ GoodForm (v .old .form) × (v .old .n ≤ 32767) × (v .old .d ≤ 16777215) ⌝ }
-    requires { ⌜ (area-start (v .old .form) (v .old .n) + 256 * v .old .d ≤ length (now image)) × (length (now image) ≤ length (now work)) ⌝ }
+    requires { ⌜ (old-length (v .old) ≤ length (now image)) × (length (now image) ≤ length (now work)) ⌝ }
     requires { ⌜ (v .target .block + v .target .size ≤ v .old .d) × (v .target .end ≤ 256 * v .old .n) ⌝ }
     ensures { λ r. ⌜ Saved (now (image .entry)) v r (now (work .exit)) ⌝ }
     ensures { λ r. ⌜ (r + (256 * v .old .n - v .target .end) ≤ length (now (work .entry))) × (length (now (work .exit)) ≡ length (now (work .entry))) ⌝ }
 {
     let t = v.target;
     let front = HEADER + v.old.form.extended;
-    let start = front + 256 * v.old.n;
+    let start = header::position(v.old.form.extended, v.old.n, 0);
     let from = target::entries_start(t.block, t.size);
     let size = 256 * (t.block + t.size) - from;
-    byteops::copy(work, 0, image, start + from, size);
+    byteops::copy(work, 0, &image[start..], from, size);
     byteops::copy(work, size, image, front + t.end, 256 * v.old.n - t.end);
     size
 }
@@ -201,9 +203,10 @@ fn write_kept(
 {
     let form = v.old.form;
     let t = v.target;
+    let n = v.old.n;
     let front = HEADER + form.extended;
-    let start = front + 256 * v.old.n;
-    let rest = 256 * v.old.n - t.end;
+    let start = header::position(form.extended, n, 0);
+    let rest = 256 * n - t.end;
     let size = save_old(work, image, v);
     let room = Room { g: v.g, end: v.end };
     let b = newruns::write_parts(
@@ -213,7 +216,7 @@ fn write_kept(
         },
         image,
         Site {
-            start: start,
+            index: n,
             at: front + t.at,
             room: room,
         },
@@ -225,15 +228,15 @@ fn write_kept(
     put_rest(image, b, start, &work[size..size + rest]);
 }
 
-// Writes the free list behind the first `front` bytes, and the header; the blocks end at `last`.
-fn write_rest(image: &mut [u8], front: usize, free: &[u64], v: Outline, last: usize)
-    requires { ⌜ (256 ≤ front) × (front ≤ length (now image)) × (v .g ≤ last) × (last ≤ 64 * length (now free))
-        × (256 * (last - v .g) ≤ length (now image) - front) × (v .old .n + v .g ≤ 32767) ⌝ }
-    ensures { λ _. ⌜ Sealed (now (image .entry)) (now (image .exit)) front v (numbers 0 (take (last - v .g) (drop (v .g) (marks (now (free .entry)))))) ⌝ }
+// Writes the free list and the header; the blocks end at `last`, counted with the g that become the index's.
+fn write_rest(image: &mut [u8], free: &[u64], v: Outline, last: usize)
+    requires { ⌜ (v .g ≤ last) × (last ≤ 64 * length (now free)) × (block-position (v .old .form .extended) (v .old .n + v .g) (last - v .g) ≤ length (now image)) × (v .old .n + v .g ≤ 32767) ⌝ }
+    ensures { λ _. ⌜ Sealed (now (image .entry)) (now (image .exit)) v (numbers 0 (take (last - v .g) (drop (v .g) (marks (now (free .entry)))))) ⌝ }
     ensures { λ _. ⌜ length (now (image .exit)) ≡ length (now (image .entry)) ⌝ }
 {
-    let first = chain::write_free_list(&mut image[front..], free, v.g, last);
-    header::write_counts(image, v.old.n + v.g, v.words, first, v.elements, v.blocks);
+    let n = v.old.n + v.g;
+    let first = chain::write_free_list(image, v.old.form.extended, n, free, v.g, last);
+    header::write_counts(image, n, v.words, first, v.elements, v.blocks);
 }
 
 // Copies marks.
@@ -261,7 +264,8 @@ fn plan_end(old: &[u8], v: Outline, free: &[u64], h: &[u8], body: &[u8]) -> usiz
     copy_marks(&mut trial, free);
     let form = v.old.form;
     let t = v.target;
-    let area = &old[HEADER + form.extended + 256 * v.old.n..];
+    let start = header::position(form.extended, v.old.n, 0);
+    let area = &old[start..];
     let from = target::entries_start(t.block, t.size);
     newruns::plan_parts(
         Edit {
@@ -292,19 +296,18 @@ fn finish(
     ensures { λ r. ⌜ Changed (now (image .entry)) (old-length (v .old)) (now (h .entry)) (now (body .entry)) (v .fresh) r (now (image .exit)) ⌝ }
     ensures { λ r. ⌜ (length (now (image .exit)) ≡ length (now (image .entry))) × (length (now (work .exit)) ≡ length (now (work .entry))) ⌝ }
 {
-    let start = HEADER + v.old.form.extended + 256 * v.old.n;
-    let len = start + 256 * v.old.d;
+    let len = header::position(v.old.form.extended, v.old.n, v.old.d);
     let last = plan_end(&image[..len], v, free, h, body);
     if MOST_BLOCKS + v.g < last {
         return Ending::Full;
     }
-    let size = start + 256 * last;
+    let size = header::position(v.old.form.extended, v.old.n, last);
     if image.len() < size {
         return Ending::Full;
     }
     byteops::copy(work, 0, image, 0, len);
     write_areas(image, &work[..len], v, numbers, free, h, body);
-    write_rest(image, start + 256 * v.g, free, v, last);
+    write_rest(image, free, v, last);
     Ending::Done(size)
 }
 
@@ -322,18 +325,17 @@ fn keep(
     ensures { λ r. ⌜ Changed (now (image .entry)) (old-length (v .old)) (now (h .entry)) (now (body .entry)) (v .fresh) r (now (image .exit)) ⌝ }
     ensures { λ r. ⌜ (length (now (image .exit)) ≡ length (now (image .entry))) × (length (now (work .exit)) ≡ length (now (work .entry))) ⌝ }
 {
-    let start = HEADER + v.old.form.extended + 256 * v.old.n;
-    let len = start + 256 * v.old.d;
+    let len = header::position(v.old.form.extended, v.old.n, v.old.d);
     let last = plan_end(&image[..len], v, free, h, body);
     if MOST_BLOCKS + v.g < last {
         return Ending::Full;
     }
-    let new_len = start + 256 * last;
+    let new_len = header::position(v.old.form.extended, v.old.n, last);
     if image.len() < new_len {
         return Ending::Full;
     }
     write_kept(image, work, v, free, h, body);
-    write_rest(image, start, free, v, last);
+    write_rest(image, free, v, last);
     Ending::Done(new_len)
 }
 
@@ -396,7 +398,7 @@ pub fn measure_change(image: &[u8], old: Overview, h: &[u8], body: &[u8], fresh:
 {
     let form = old.form;
     let front = HEADER + form.extended;
-    let start = front + 256 * old.n;
+    let start = header::position(form.extended, old.n, 0);
     let index = &image[front..start];
     let area = &image[start..];
     let elements = header::nindex2(image);
@@ -444,8 +446,9 @@ fn grow(
     let old = p.old;
     let t = p.target;
     let front = HEADER + old.form.extended;
-    let start = front + 256 * old.n;
-    let before = &image[..start + 256 * old.d];
+    let start = header::position(old.form.extended, old.n, 0);
+    let len = header::position(old.form.extended, old.n, old.d);
+    let before = &image[..len];
     let mut numbers = [0u32; NUMBERS];
     let end = displace(
         old,

@@ -165,6 +165,11 @@ module _ (s : List ℕ) (i : Image) (got : image-from s ≡ ok i) where
 abbrev pub DraftOf : List ℕ → Overview → List ℕ → List ℕ → Bool → Draft → Type 0
 DraftOf s v h body fresh p = (p .old ≡ v) × (p .fresh ≡ fresh) × Drafted (take (old-length v) s) h body p
 
+-- by the number of its bytes as code works it out
+pub draft-front : (s : List ℕ) (v : Overview) (h body : List ℕ) (fresh : Bool) (p : Draft) (len : ℕ) → len ≡ old-length v
+    → (p .old ≡ v) × (p .fresh ≡ fresh) × Drafted (take len s) h body p → DraftOf s v h body fresh p
+draft-front s v h body fresh p len there (a, b, d) = (a, b, subst (λ (k : ℕ). Drafted (take k s) h body p) there d)
+
 -- what the change asks is what it asks by its draft
 module _ (s : List ℕ) (v : Overview) (h body : List ℕ) (fresh : Bool) (p : Draft) (drafted : DraftOf s v h body fresh p) where
   -- what is measured is measured of the image that the draft names

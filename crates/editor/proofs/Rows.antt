@@ -106,6 +106,10 @@ front-layout s L p = layout-kept (take L s) s (take-take 256 L s p)
 pub front-whole : (s : List ℕ) (L : ℕ) → L ≤ length s → L % 256 ≡ 0 → (v : Overview) → AcceptedImage (take L s) v → old-length v ≡ L
 front-whole s L p q v a = accepted-whole (take L s) v a (front-blocks s L p q) ∙ length-take-le L s p
 
+-- it is accepted, by the number of its bytes as code works it out
+pub front-accepted : (s : List ℕ) (v : Overview) (len : ℕ) → len ≡ old-length v → AcceptedImage (take (old-length v) s) v → AcceptedImage (take len s) v
+front-accepted s v len there = subst (λ (k : ℕ). AcceptedImage (take k s) v) (sym there)
+
 -- an accepted image is of whole blocks
 pub whole-blocks : (s : List ℕ) (v : Overview) → AcceptedImage s v → old-length v % 256 ≡ 0
 whole-blocks s v a = omega (arith, a .good .3)

@@ -66,7 +66,7 @@ fn insert_in(
     ensures { λ r. ⌜ now (image .exit) ≡ insert (now (image .entry)) (old-length v) (now (work .entry)) (now (headword .entry)) attribute (now (text .entry)) .image ⌝ }
     ensures { λ r. ⌜ length (now (work .exit)) ≡ length (now (work .entry)) ⌝ }
 {
-    let len = HEADER + v.form.extended + 256 * v.n + 256 * v.d;
+    let len = header::position(v.form.extended, v.n, v.d);
     if !header::writable(image) {
         return LengthAnswer::Refused(11);
     }
@@ -152,7 +152,7 @@ fn delete_in(
     ensures { λ r. ⌜ now (image .exit) ≡ delete (now (image .entry)) (old-length v) (now (work .entry)) (now (headword .entry)) .image ⌝ }
     ensures { λ r. ⌜ length (now (work .exit)) ≡ length (now (work .entry)) ⌝ }
 {
-    let len = HEADER + v.form.extended + 256 * v.n + 256 * v.d;
+    let len = header::position(v.form.extended, v.n, v.d);
     if !header::writable(image) {
         return DeleteAnswer::Refused(11);
     }

@@ -36,6 +36,7 @@ use Rattle.spec.specs.Header.{
   empty-image,
   new-image,
   open-header,
+  block-position,
 }
 use Rattle.spec.specs.Check.{Frame, slice-ok, kind-ok, options-ok, frame-from, data-start, index-area, data-area, image-by, image-from}
 use Rattle.spec.specs.Rows.{SliceRule}
@@ -277,20 +278,20 @@ module _ (s : List ℕ) (k : Bool) (ke : k ≡ kind-ok (layout-named s) s) where
       unfolding framed frame-from format-of format-with
       frame-index h = rw (← ke, kt, ← oe, ot, got, lt-ltb 32767 n h)
 
-      module _ (nt : n ≤ 32767) where
-        pub frame-past : length s < 256 + 256 * n → framed (layout-named s) (Framed.Refused 5) ≡ frame-from (format-of s) s
+      module _ (nt : n ≤ 32767) (start : ℕ) (at : start ≡ block-position 0 n 0) where
+        pub frame-past : length s < start → framed (layout-named s) (Framed.Refused 5) ≡ frame-from (format-of s) s
         unfolding framed frame-from format-of format-with
-        frame-past h = rw (← ke, kt, ← oe, ot, got, le-ltb 32767 n nt, lt-ltb (length s) (256 + 256 * n) h)
+        frame-past h = rw (← ke, kt, ← oe, ot, got, le-ltb 32767 n nt, ← at, lt-ltb (length s) start h)
 
-        module _ (lt : 256 + 256 * n ≤ length s) where
-          pub frame-data : 65536 < (length s - (256 + 256 * n)) / 256 → framed (layout-named s) (Framed.Refused 5) ≡ frame-from (format-of s) s
+        module _ (lt : start ≤ length s) where
+          pub frame-data : 65536 < (length s - start) / 256 → framed (layout-named s) (Framed.Refused 5) ≡ frame-from (format-of s) s
           unfolding framed frame-from format-of format-with
-          frame-data h = rw (← ke, kt, ← oe, ot, got, le-ltb 32767 n nt, le-ltb (length s) (256 + 256 * n) lt, lt-ltb 65536 ((length s - (256 + 256 * n)) / 256) h)
+          frame-data h = rw (← ke, kt, ← oe, ot, got, le-ltb 32767 n nt, ← at, le-ltb (length s) start lt, lt-ltb 65536 ((length s - start) / 256) h)
 
-          pub frame-whole : (length s - (256 + 256 * n)) / 256 ≤ 65536
-              → framed (layout-named s) (Framed.Blocks (record { extended = 0; width = 2; order = 0; limit = 1_024 }) n ((length s - (256 + 256 * n)) / 256)) ≡ frame-from (format-of s) s
+          pub frame-whole : (length s - start) / 256 ≤ 65536
+              → framed (layout-named s) (Framed.Blocks (record { extended = 0; width = 2; order = 0; limit = 1_024 }) n ((length s - start) / 256)) ≡ frame-from (format-of s) s
           unfolding framed frame-from format-of format-with
-          frame-whole h = rw (← ke, kt, ← oe, ot, got, le-ltb 32767 n nt, le-ltb (length s) (256 + 256 * n) lt, le-ltb 65536 ((length s - (256 + 256 * n)) / 256) h)
+          frame-whole h = rw (← ke, kt, ← oe, ot, got, le-ltb 32767 n nt, ← at, le-ltb (length s) start lt, le-ltb 65536 ((length s - start) / 256) h)
 
 -- a refusal tells no form, and the one form of document 01 is one that the code takes
 pub no-form : (k : ℕ) → FormTold (Framed.Refused k)
@@ -539,16 +540,16 @@ module _ (s : List ℕ) (f : Form) (n d : ℕ) (read : frame-from (format-of s) 
 
   -- which lie in the image,
   pub frame-index-inside : area-start f n ≤ length s
-  frame-index-inside = subst (λ (F : Format). F .header-bytes + 256 * n ≤ length s) frame-format (fits .index-inside)
+  frame-index-inside = subst (λ (F : Format). block-position (F .extended) n 0 ≤ length s) frame-format (fits .index-inside)
 
   -- no more data blocks than row 5 allows,
   pub frame-data-few : d ≤ most-of (f .width)
   frame-data-few = subst (λ (F : Format). d ≤ F .most-blocks) frame-format (fits .data-few)
 
   -- and these are all that follows
-  pub frame-length-is : length s % 256 ≡ 0 → f .extended % 256 ≡ 0 → area-start f n + 256 * d ≡ length s
+  pub frame-length-is : length s % 256 ≡ 0 → f .extended % 256 ≡ 0 → block-position (f .extended) n d ≡ length s
   frame-length-is w x =
-      let k : d ≡ (length s - area-start f n) / 256 = subst (λ (F : Format). d ≡ (length s - (F .header-bytes + 256 * n)) / 256) frame-format (fits .data-are) in
+      let k : d ≡ (length s - area-start f n) / 256 = subst (λ (F : Format). d ≡ (length s - block-position (F .extended) n 0) / 256) frame-format (fits .data-are) in
       omega (arith, frame-index-inside)
 
 -- the index area as code takes it

@@ -1,10 +1,10 @@
 -- What a file fixes, as the code carries it.
-use Prim.Native.Nat.{ℕ, _+_, _-_, _*_, _%_, _≤_, _<_}
+use Prim.Native.Nat.{ℕ, _+_, _-_, _%_, _≤_, _<_}
 use mathlib.Core.Path.{_≡_}
 use mathlib.Core.List.{List}
 use lib.ListN.{length, take, drop}
 use Rattle.spec.specs.Order.{below-of}
-use Rattle.spec.specs.Header.{Layout, Format, format-of}
+use Rattle.spec.specs.Header.{Layout, Format, format-of, block-position}
 use Rattle.spec.specs.Check.{Frame}
 use Rattle.byteops.specs.Width.{Width}
 use Rattle.header.specs.declared.Form.{Form}
@@ -22,7 +22,7 @@ abbrev pub format-by : Layout → Form → Format
 format-by o f =
     record {
       layout = o;
-      header-bytes = 256 + f .extended;
+      extended = f .extended;
       number-width = f .width;
       most-blocks = most-of (f .width);
       below = below-of (f .order);
@@ -37,16 +37,24 @@ frame-by o f n d = record { format = format-by o f; index-blocks = n; data-block
 abbrev pub GoodForm : Form → Type 0
 GoodForm f = Width (f .width) × (f .limit ≤ 1_024) × (f .extended < 4_294_967_296) × (f .extended % 256 ≡ 0)
 
--- bytes in front of the index, and in front of the data blocks behind n index blocks
+-- bytes in front of the index
 abbrev pub index-start : Form → ℕ
 index-start f = 256 + f .extended
 
+-- the position of the first data block, behind n index blocks
 abbrev pub area-start : Form → ℕ → ℕ
-area-start f n = 256 + f .extended + 256 * n
+area-start f n = block-position (f .extended) n 0
 
--- the index and the data area of an image, as the code cuts them out
+-- the index and the data area of an image whose data blocks begin at `start`, as the code cuts them out
+abbrev pub index-cut : Form → List ℕ → ℕ → List ℕ
+index-cut f s start = take (start - index-start f) (drop (index-start f) s)
+
+abbrev pub data-cut : List ℕ → ℕ → List ℕ
+data-cut s start = take (length s - start) (drop start s)
+
+-- those of an image with n index blocks
 abbrev pub index-part : Form → List ℕ → ℕ → List ℕ
-index-part f s n = take (area-start f n - index-start f) (drop (index-start f) s)
+index-part f s n = index-cut f s (area-start f n)
 
 abbrev pub data-part : Form → List ℕ → ℕ → List ℕ
-data-part f s n = take (length s - area-start f n) (drop (area-start f n) s)
+data-part f s n = data-cut s (area-start f n)

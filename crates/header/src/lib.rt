@@ -5,7 +5,7 @@ ghost use Prim.Native.Nat.{_+_, _≤_, _<_, _%_};
 ghost use lib.ListN.{length};
 ghost use Rattle.spec.specs.Outcome.{accepted};
 ghost use Rattle.spec.specs.Bytes.{write};
-ghost use Rattle.spec.specs.Header.{layout4, layout-of, known-version, format-of, high-version-of, get, put, put-all, writable, changed-header, new-image};
+ghost use Rattle.spec.specs.Header.{layout4, layout-of, block-position, known-version, format-of, high-version-of, get, put, put-all, writable, changed-header, new-image};
 ghost use Rattle.spec.specs.Check.{slice-ok, kind-ok, options-ok, frame-from};
 ghost use Rattle.header.specs.Form.{layout-named};
 ghost use Rattle.header.specs.Framed.{framed, FormTold};
@@ -91,6 +91,18 @@ pub enum Framed {
         data: usize,
     },
     Refused(u32),
+}
+
+// The position in the file of data block b, behind an extended header of so many bytes and so many index blocks. The page of the
+// format's description (source document 000, page 26, section 4.5.3: the position on disk of a physical block number) adds
+//     header_size + extheader + index_block × block_size + block_size × number
+// with a block_size of 256. This is the only place that adds them: block 0 is where the data area starts, and block D, the first that
+// is not there, where the image ends.
+pub fn position(extended: usize, index: usize, b: usize) -> usize
+    requires { ⌜ block-position extended index b ≤ 0xFFFFFFFFFFFFFFFF ⌝ }
+    ensures { λ r. ⌜ r ≡ block-position extended index b ⌝ }
+{
+    HEADER + extended + index * 256 + 256 * b
 }
 
 // Whether the first `len` bytes of a slice can be an image: row 1.
@@ -252,8 +264,14 @@ pub fn frame(s: &[u8]) -> Framed
     if !options_ok(s) {
         return Framed::Refused(4);
     }
+    let form = Form {
+        extended: 0,
+        width: 2,
+        order: 0,
+        limit: RUN_LIMIT,
+    };
     let index = read_u16(s, INDEX_BLOCK);
-    let start = HEADER + 256 * index;
+    let start = position(form.extended, index, 0);
     if MOST_INDEX_BLOCKS < index {
         return Framed::Refused(5);
     }
@@ -265,12 +283,7 @@ pub fn frame(s: &[u8]) -> Framed
         return Framed::Refused(5);
     }
     Framed::Blocks {
-        form: Form {
-            extended: 0,
-            width: 2,
-            order: 0,
-            limit: RUN_LIMIT,
-        },
+        form: form,
         index: index,
         data: data,
     }

@@ -1,5 +1,5 @@
 -- What an accepted image tells of its parts, as the code cuts them out.
-use Prim.Native.Nat.{ℕ, _+_, _*_, _%_, _≤_}
+use Prim.Native.Nat.{ℕ, _*_, _%_, _≤_}
 use mathlib.Core.Path.{_≡_, sym, ap, _∙_}
 use mathlib.Core.Bool.{Bool, false}
 use mathlib.Core.List.{List, []}
@@ -9,7 +9,7 @@ use lib.ListN.{length, take}
 use lib.Seq.{length-take-le}
 use Rattle.spec.specs.Outcome.{ok}
 use Rattle.spec.specs.Order.{HeadwordOrder, below-of}
-use Rattle.spec.specs.Header.{format-of, get}
+use Rattle.spec.specs.Header.{format-of, block-position, get}
 use Rattle.spec.specs.Entry.{Entry}
 use Rattle.spec.specs.Run.{Run}
 use Rattle.spec.specs.Index.{index-from}
@@ -22,7 +22,7 @@ use Rattle.spec.proofs.ReadLaws.{ImageTold, image-told, runs-ascend}
 use Rattle.spec.proofs.SearchLaws.{exactly, entries-ascend, lookup-by-successor}
 use Rattle.index.specs.Elements.{elements-at, Inside}
 use Rattle.byteops.specs.Width.{Width}
-use Rattle.header.specs.Form.{layout-named, most-of, format-by, frame-by, area-start, index-part, data-part}
+use Rattle.header.specs.Form.{layout-named, most-of, format-by, frame-by, area-start, index-cut, data-cut}
 use Rattle.header.proofs.Laws.{frame-format, image-by-form, frame-index-few, frame-index-inside, frame-data-few, frame-length-is, index-slice, data-slice}
 use Rattle.inspect.specs.Overview.{AcceptedImage}
 use Rattle.inspect.specs.declared.Overview.{Overview}
@@ -62,45 +62,48 @@ module _ (s : List ℕ) (v : Overview) (a : AcceptedImage s v) where
   pub accepted-blocks : v .d ≤ most-of (v .form .width)
   accepted-blocks = frame-data-few s (v .form) (v .n) (v .d) read
 
-  -- the data area behind the index is the rest
-  pub accepted-whole : length s % 256 ≡ 0 → area-start (v .form) (v .n) + 256 * v .d ≡ length s
+  -- it ends at the position of block d
+  pub accepted-whole : length s % 256 ≡ 0 → block-position (v .form .extended) (v .n) (v .d) ≡ length s
   accepted-whole m = frame-length-is s (v .form) (v .n) (v .d) read m (a .good .3)
-
-  pub accepted-area : length s % 256 ≡ 0 → 256 * v .d ≡ length (data-part (v .form) s (v .n))
-  accepted-area m = data-long s (v .form) (v .n) (v .d) (accepted-whole m)
-
-  -- which four bytes can count
-  pub accepted-short : length s % 256 ≡ 0 → length (data-part (v .form) s (v .n)) ≤ 4_294_967_040
-  accepted-short m = omega (arith, accepted-area m, accepted-blocks)
 
   -- its block numbers have two or four bytes
   pub accepted-width : Width (v .form .width)
   accepted-width = a .good .0
 
+-- an accepted image whose data blocks begin at `start`
+module _ (s : List ℕ) (v : Overview) (a : AcceptedImage s v) (start : ℕ) (here : start ≡ area-start (v .form) (v .n)) where
+  -- its data area is the rest
+  pub accepted-area : length s % 256 ≡ 0 → 256 * v .d ≡ length (data-cut s start)
+  accepted-area m = data-long s (v .form) (v .n) (v .d) (accepted-whole s v a m) start here
+
+  -- which four bytes can count
+  pub accepted-short : length s % 256 ≡ 0 → length (data-cut s start) ≤ 4_294_967_040
+  accepted-short m = omega (arith, accepted-area m, accepted-blocks s v a)
+
   module _ (e : ℕ) (number : e ≡ get (layout-named s .nindex2) s) where
-    stands : (accepted-told .elements ≡ elements-at (v .form .width) (index-part (v .form) s (v .n)) 0 e) × Inside (v .form .width) (index-part (v .form) s (v .n)) 0 e
+    stands : (accepted-told s v a .elements ≡ elements-at (v .form .width) (index-cut (v .form) s start) 0 e) × Inside (v .form .width) (index-cut (v .form) s start) 0 e
     stands =
-        let x : index-area (a .image .frame) s ≡ index-part (v .form) s (v .n)
-        = ap (λ (g : Frame). index-area g s) (a .frame-is) ∙ index-slice (layout-named s) (v .form) s (v .n) (v .d) in
+        let x : index-area (a .image .frame) s ≡ index-cut (v .form) s start
+        = ap (λ (g : Frame). index-area g s) (a .frame-is) ∙ index-slice (layout-named s) (v .form) s (v .n) (v .d) ∙ sym (ap (index-cut (v .form) s) here) in
         let wide : 1 ≤ v .form .width = omega (arith, a .good .0 .0) in
-        index-told (v .form .width) wide (below-of (v .form .order)) (index-part (v .form) s (v .n)) (a .image .frame .index-blocks) e (accepted-told .elements)
-        (rw number (ap (index-from (v .form .width) (below-of (v .form .order)) (a .image .frame .index-blocks) (get (layout-named s .nindex2) s)) (sym x) ∙ accepted-told .index))
+        index-told (v .form .width) wide (below-of (v .form .order)) (index-cut (v .form) s start) (a .image .frame .index-blocks) e (accepted-told s v a .elements)
+        (rw number (ap (index-from (v .form .width) (below-of (v .form .order)) (a .image .frame .index-blocks) (get (layout-named s .nindex2) s)) (sym x) ∙ accepted-told s v a .index))
 
     -- its elements stand inside the index
-    pub accepted-inside : Inside (v .form .width) (index-part (v .form) s (v .n)) 0 e
+    pub accepted-inside : Inside (v .form .width) (index-cut (v .form) s start) 0 e
     accepted-inside = stands .1
 
     -- and their runs are the image's
-    pub accepted-runs : runs-from (below-of (v .form .order)) (v .d) (data-part (v .form) s (v .n)) (elements-at (v .form .width) (index-part (v .form) s (v .n)) 0 e) ≡ ok (a .image .runs)
+    pub accepted-runs : runs-from (below-of (v .form .order)) (v .d) (data-cut s start) (elements-at (v .form .width) (index-cut (v .form) s start) 0 e) ≡ ok (a .image .runs)
     accepted-runs =
         let p : a .image .frame .data-blocks ≡ v .d = ap (λ (g : Frame). g .data-blocks) (a .frame-is) in
-        let q : data-area (a .image .frame) s ≡ data-part (v .form) s (v .n)
-        = ap (λ (g : Frame). data-area g s) (a .frame-is) ∙ data-slice (layout-named s) (v .form) s (v .n) (v .d) in
-        rw (← p, ← q, ← stands .0) (accepted-told .runs)
+        let q : data-area (a .image .frame) s ≡ data-cut s start
+        = ap (λ (g : Frame). data-area g s) (a .frame-is) ∙ data-slice (layout-named s) (v .form) s (v .n) (v .d) ∙ sym (ap (data-cut s) here) in
+        rw (← p, ← q, ← stands .0) (accepted-told s v a .runs)
 
     -- the entry sought in the runs is the one sought in any image that is read from the bytes
     pub accepted-sought : (x : Option Entry) (above : Bool) (h : List ℕ)
-        → ((rs : List Run) → runs-from (below-of (v .form .order)) (v .d) (data-part (v .form) s (v .n)) (elements-at (v .form .width) (index-part (v .form) s (v .n)) 0 e) ≡ ok rs
+        → ((rs : List Run) → runs-from (below-of (v .form .order)) (v .d) (data-cut s start) (elements-at (v .form .width) (index-cut (v .form) s start) 0 e) ≡ ok rs
         → x ≡ successor (below-of (v .form .order)) above h (all-entries rs))
         → (i : Image) → image-from s ≡ ok i → x ≡ successor (i .frame .format .below) above h (entries-of i)
     unfolding CheckSpec.entries-of
@@ -111,7 +114,7 @@ module _ (s : List ℕ) (v : Overview) (a : AcceptedImage s v) where
 
     -- the entry with the headword is the first not below it, if that has it
     pub accepted-lookup : (x : Option Entry) (h : List ℕ)
-        → ((rs : List Run) → runs-from (below-of (v .form .order)) (v .d) (data-part (v .form) s (v .n)) (elements-at (v .form .width) (index-part (v .form) s (v .n)) 0 e) ≡ ok rs
+        → ((rs : List Run) → runs-from (below-of (v .form .order)) (v .d) (data-cut s start) (elements-at (v .form .width) (index-cut (v .form) s start) 0 e) ≡ ok rs
         → x ≡ successor (below-of (v .form .order)) false h (all-entries rs))
         → (i : Image) → image-from s ≡ ok i → lookup h (entries-of i) ≡ exactly h x
     unfolding CheckSpec.entries-of
@@ -120,7 +123,7 @@ module _ (s : List ℕ) (v : Overview) (a : AcceptedImage s v) where
         let b : HeadwordOrder = below-of (v .form .order) in
         let rs : List Run = a .image .runs in
         let g = entries-ascend b (order-of (v .form .order)) rs
-        (runs-ascend b (v .d) (data-part (v .form) s (v .n)) (elements-at (v .form .width) (index-part (v .form) s (v .n)) 0 e) rs accepted-runs) in
+        (runs-ascend b (v .d) (data-cut s start) (elements-at (v .form .width) (index-cut (v .form) s start) 0 e) rs accepted-runs) in
         rw (← j) (lookup-by-successor b (order-of (v .form .order)) h [] (all-entries rs) g ∙ ap (exactly h) (sym (sought rs accepted-runs)))
 
 -- ---- the image at the front of a slice

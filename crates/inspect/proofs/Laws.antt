@@ -15,7 +15,7 @@ use Rattle.spec.specs.Order.{HeadwordOrder, below-of}
 use Rattle.spec.specs.Outcome.{Outcome, refused, ok, _>>=_, _>>_, refuse_when_, accepted}
 use Rattle.spec.specs.Lists as Lists
 use Rattle.spec.specs.Lists.{any, All}
-use Rattle.spec.specs.Header.{format-of, get}
+use Rattle.spec.specs.Header.{format-of, block-position, get}
 use Rattle.spec.specs.Run.{Run}
 use Rattle.spec.specs.Index as Index
 use Rattle.spec.specs.Index.{Element, elements-from, index-from}
@@ -31,7 +31,7 @@ use Rattle.spec.proofs.BlocksLaws.{covers-inside, covers-outside}
 use Rattle.spec.proofs.CountLaws.{blocks-once, once-by-cover, once-covered}
 use Rattle.marks.specs.Marks.{with-range, next}
 use Rattle.marks.proofs.Laws.{length-marks, next-is, next-before, length-range, get-range-in, get-range-below, get-range-above}
-use Rattle.header.specs.Form.{layout-named, most-of, frame-by, GoodForm, index-start, area-start, index-part, data-part}
+use Rattle.header.specs.Form.{layout-named, most-of, frame-by, GoodForm, index-start, area-start, index-cut, data-cut, data-part}
 use Rattle.header.specs.Framed.{framed, FormTold}
 use Rattle.header.specs.declared.Form.{Form}
 use Rattle.header.specs.declared.Framed.{Framed}
@@ -146,33 +146,34 @@ module _ (s : List ℕ) (v : Overview) (blocks : ℕ) (ms : List Bool) (known : 
   settle-many p = nine (λ fl e. not-once fl (λ o. let z : blocks + length fl ≡ v .d = many fl e o in omega arith))
 
   -- a free list of another length
-  pub settle-length : blocks ≤ v .d → (first : ℕ) → first ≡ get (layout-named s .empty-block2) s → (t : Bool) → t ≡ has-length (v .d - blocks) (free-list-from (v .d) (v .d) first area) → not t ≡ true
-      → image-from s ≡ refused 9
+  pub settle-length : blocks ≤ v .d → (first : ℕ) → first ≡ get (layout-named s .empty-block2) s → (start : ℕ) → start ≡ area-start (v .form) (v .n)
+      → (t : Bool) → t ≡ has-length (v .d - blocks) (free-list-from (v .d) (v .d) first (data-cut s start)) → not t ≡ true → image-from s ≡ refused 9
   unfolding list
-  settle-length p first f t h q =
+  settle-length p first f start here t h q =
       nine
       (λ fl e.
       not-once fl (λ o.
       let z : blocks + length fl ≡ v .d = many fl e o in
       let y : length fl ≡ v .d - blocks = omega arith in
-      has-length-not (v .d - blocks) fl (ap (has-length (v .d - blocks)) (sym (rw f e)) ∙ sym h ∙ not-true t q) y))
+      has-length-not (v .d - blocks) fl (ap (has-length (v .d - blocks)) (sym (rw (f, here) e)) ∙ sym h ∙ not-true t q) y))
 
-  module _ (p : blocks ≤ v .d) (first : ℕ) (f : first ≡ get (layout-named s .empty-block2) s) (t : Bool) (h : t ≡ has-length (v .d - blocks) (free-list-from (v .d) (v .d) first area))
+  module _ (p : blocks ≤ v .d) (first : ℕ) (f : first ≡ get (layout-named s .empty-block2) s) (start : ℕ) (here : start ≡ area-start (v .form) (v .n)) (t : Bool)
+      (h : t ≡ has-length (v .d - blocks) (free-list-from (v .d) (v .d) first (data-cut s start)))
       (q : not t ≡ false) where
-    got : Read (v .d - blocks) (free-list-from (v .d) (v .d) first area)
-    got = has-length-read (v .d - blocks) (free-list-from (v .d) (v .d) first area) (sym h ∙ not-false t q)
+    got : Read (v .d - blocks) (free-list-from (v .d) (v .d) first (data-cut s start))
+    got = has-length-read (v .d - blocks) (free-list-from (v .d) (v .d) first (data-cut s start)) (sym h ∙ not-false t q)
 
     found : list ≡ ok (got .numbers)
     unfolding list
-    found = rw (← f) (got .read)
+    found = rw (← f, ← here) (got .read)
 
     only : (fl : List ℕ) → list ≡ ok fl → fl ≡ got .numbers
     only fl e = same-value fl (got .numbers) (sym e ∙ found)
 
     low : All (λ a. a < v .d) (got .numbers)
-    low = free-list-below (v .d) (v .d) first area (got .numbers) (got .read)
+    low = free-list-below (v .d) (v .d) first (data-cut s start) (got .numbers) (got .read)
 
-    module _ (us : List Bool) (used : (t ≡ true → Marked (free-list-from (v .d) (v .d) first area) ms us)) (u : ℕ) (size : length ms ≡ 64 * u) (few : v .d ≤ 64 * u) where
+    module _ (us : List Bool) (used : (t ≡ true → Marked (free-list-from (v .d) (v .d) first (data-cut s start)) ms us)) (u : ℕ) (size : length ms ≡ 64 * u) (few : v .d ≤ 64 * u) where
       room : v .d ≤ length ms
       room = rw size few
 
@@ -234,7 +235,7 @@ module _ (s : List ℕ) (v : Overview) (blocks : ℕ) (ms : List Bool) (known : 
 
               -- an image that keeps all rows
               pub settle-sound : g ≡ blocks → (k : ℕ) (fs ms′ : List Bool) → fs ≡ replicate k false → v .d ≤ k
-                  → (t ≡ true → Marked (free-list-from (v .d) (v .d) first area) fs ms′) → Told s ms′ (Inspected.Sound v)
+                  → (t ≡ true → Marked (free-list-from (v .d) (v .d) first (data-cut s start)) fs ms′) → Told s ms′ (Inspected.Sound v)
               unfolding Check.counts-ok Check.entries-of
               settle-sound y k fs ms′ bare fits free =
                   let x : eqb (get (layout-named s .nblock2) s) (run-blocks (known .runs)) ≡ true = eq-eqb _ _ (sym nblocks ∙ y ∙ known .blocks-are) in
@@ -271,12 +272,12 @@ tally-read ms (ok rs) w b us h =
     )
 
 -- how long they are
-module _ (s : List ℕ) (f : Form) (n d : ℕ) (whole : area-start f n + 256 * d ≡ length s) where
-  pub index-few : n ≤ 32_767 → length (index-part f s n) ≤ 8_388_608
-  index-few p = rw (length-take, length-drop) (omega (arith, min-le-left (area-start f n - index-start f) (length s - index-start f)))
+module _ (s : List ℕ) (f : Form) (n d : ℕ) (whole : block-position (f .extended) n d ≡ length s) (start : ℕ) (here : start ≡ area-start f n) where
+  pub index-few : n ≤ 32_767 → length (index-cut f s start) ≤ 8_388_608
+  index-few p = rw (length-take, length-drop) (omega (arith, min-le-left (start - index-start f) (length s - index-start f)))
 
-  pub data-long : 256 * d ≡ length (data-part f s n)
-  data-long = sym (length-take-le (length s - area-start f n) (drop (area-start f n) s) (rw length-drop (omega arith)) ∙ omega arith)
+  pub data-long : 256 * d ≡ length (data-cut s start)
+  data-long = sym (length-take-le (length s - start) (drop start s) (rw length-drop (omega arith)) ∙ omega arith)
 
 -- the elements of an index that keeps row 6 stand inside it
 pub index-told : (w : ℕ) → 1 ≤ w → (below : HeadwordOrder) (area : List ℕ) (n e : ℕ) (es : List Element) → index-from w below n e area ≡ ok es
@@ -303,7 +304,7 @@ module _ (s : List ℕ) (r : Framed) (e : framed (layout-named s) r ≡ frame-fr
   pub areas-good : FormTold r → GoodForm f
   areas-good told = told f n d h
 
-  pub areas-whole : FormTold r → length s % 256 ≡ 0 → area-start f n + 256 * d ≡ length s
+  pub areas-whole : FormTold r → length s % 256 ≡ 0 → block-position (f .extended) n d ≡ length s
   areas-whole told w = frame-length-is s f n d (frame-read s r e f n d h) w (told f n d h .3)
 
 -- a frame that is refused
@@ -312,10 +313,10 @@ unfolding Check.image-from Check.image-by
 areas-frame s r e j h = rw (frame-refused s r e j h)
 
 module _ (s : List ℕ) (f : Form) (n d : ℕ) (frame : frame-from (format-of s) s ≡ ok (frame-by (layout-named s) f n d)) (good : GoodForm f)
-    (e : ℕ) (elements : e ≡ get (layout-named s .nindex2) s) (b : Ended)
-    (kept : b ≡ ended (accepted (index-from (f .width) (below-of (f .order)) n e (index-part f s n))) (elements-end (f .width) (index-part f s n) 0 e)) where
+    (start : ℕ) (here : start ≡ area-start f n) (e : ℕ) (elements : e ≡ get (layout-named s .nindex2) s) (b : Ended)
+    (kept : b ≡ ended (accepted (index-from (f .width) (below-of (f .order)) n e (index-cut f s start))) (elements-end (f .width) (index-cut f s start) 0 e)) where
   abbrev index : Outcome (List Element)
-  index = index-from (f .width) (below-of (f .order)) n e (index-part f s n)
+  index = index-from (f .width) (below-of (f .order)) n e (index-cut f s start)
 
   -- its blocks numbers have some bytes
   wide : 1 ≤ f .width
@@ -327,35 +328,35 @@ module _ (s : List ℕ) (f : Form) (n d : ℕ) (frame : frame-from (format-of s)
   areas-index q =
       let y : accepted index ≡ false = ended-broken _ _ b kept q in
       let x : index-from (f .width) (below-of (f .order)) n (get (layout-named s .nindex2) s) (index-area (frame-by (layout-named s) f n d) s) ≡ refused 6
-      = rw (index-slice (layout-named s) f s n d, ← elements) (index-refused (f .width) (below-of (f .order)) n e (index-part f s n) y) in
+      = rw (index-slice (layout-named s) f s n d, ← here, ← elements) (index-refused (f .width) (below-of (f .order)) n e (index-cut f s start) y) in
       image-by-form s f n d frame ∙ rw (frame-by-form s f n d frame, x)
 
   module _ (end : ℕ) (q : b ≡ Ended.At end) where
     answered : Answer index
     answered = accepted-answer index (ended-at _ _ b kept end q .0)
 
-    stands : (answered .value ≡ elements-at (f .width) (index-part f s n) 0 e) × Inside (f .width) (index-part f s n) 0 e
-    stands = index-told (f .width) wide (below-of (f .order)) (index-part f s n) n e (answered .value) (answered .is)
+    stands : (answered .value ≡ elements-at (f .width) (index-cut f s start) 0 e) × Inside (f .width) (index-cut f s start) 0 e
+    stands = index-told (f .width) wide (below-of (f .order)) (index-cut f s start) n e (answered .value) (answered .is)
 
     -- the elements stand inside the index
-    pub areas-inside : Inside (f .width) (index-part f s n) 0 e
+    pub areas-inside : Inside (f .width) (index-cut f s start) 0 e
     areas-inside = stands .1
 
     index-is : index-from (f .width) (below-of (f .order)) n (get (layout-named s .nindex2) s) (index-area (frame-by (layout-named s) f n d) s)
-        ≡ ok (elements-at (f .width) (index-part f s n) 0 e)
-    index-is = rw (index-slice (layout-named s) f s n d, ← elements) (answered .is ∙ ap ok (stands .0))
+        ≡ ok (elements-at (f .width) (index-cut f s start) 0 e)
+    index-is = rw (index-slice (layout-named s) f s n d, ← here, ← elements) (answered .is ∙ ap ok (stands .0))
 
     -- the runs that its elements name
     abbrev runs : Outcome (List Run)
-    runs = runs-from (below-of (f .order)) d (data-part f s n) (elements-at (f .width) (index-part f s n) 0 e)
+    runs = runs-from (below-of (f .order)) d (data-cut s start) (elements-at (f .width) (index-cut f s start) 0 e)
 
     module _ (r : Runs) (us ms₀ : List Bool) (m : ℕ) (tallied : runs-answer r us ≡ tally 0 0 ms₀ runs) where
       -- rows 7 and 8
       pub areas-runs : (j : ℕ) → r ≡ Runs.Refused j → image-from s ≡ refused j
       unfolding Check.image-by Tally.runs-answer
       areas-runs j h =
-          let x : runs-from (below-of (f .order)) d (data-area (frame-by (layout-named s) f n d) s) (elements-at (f .width) (index-part f s n) 0 e) ≡ refused j
-          = rw (data-slice (layout-named s) f s n d) (tally-refused ms₀ runs j (sym tallied ∙ ap (λ (y : Runs). runs-answer y us) h)) in
+          let x : runs-from (below-of (f .order)) d (data-area (frame-by (layout-named s) f n d) s) (elements-at (f .width) (index-cut f s start) 0 e) ≡ refused j
+          = rw (data-slice (layout-named s) f s n d, ← here) (tally-refused ms₀ runs j (sym tallied ∙ ap (λ (y : Runs). runs-answer y us) h)) in
           image-by-form s f n d frame ∙ rw (frame-by-form s f n d frame, index-is, x)
 
       -- all runs are read
@@ -366,15 +367,15 @@ module _ (s : List ℕ) (f : Form) (n d : ℕ) (frame : frame-from (format-of s)
           let (rs, x, y, z, w) = tally-read ms₀ runs words blocks us (sym tallied ∙ ap (λ (y : Runs). runs-answer y us) h) in
           let g : us ≡ covered rs (replicate m false) = rw (← bare) w in
           let l : length us ≡ m = ap length g ∙ covered-length rs d (replicate m false)
-          (runs-inside (below-of (f .order)) d (data-part f s n) (elements-at (f .width) (index-part f s n) 0 e) rs x) (rw length-replicate room) ∙ length-replicate m false in
+          (runs-inside (below-of (f .order)) d (data-cut s start) (elements-at (f .width) (index-cut f s start) 0 e) rs x) (rw length-replicate room) ∙ length-replicate m false in
           record {
             frame = frame;
             good = good;
-            elements = elements-at (f .width) (index-part f s n) 0 e;
+            elements = elements-at (f .width) (index-cut f s start) 0 e;
             index = index-is;
-            end-is = ended-at _ _ b kept end q .1 ∙ rw elements;
+            end-is = ended-at _ _ b kept end q .1 ∙ rw (here, elements);
             runs = rs;
-            read = x;
+            read = rw (← here) x;
             words-are = y;
             blocks-are = z;
             marked = rw l g;

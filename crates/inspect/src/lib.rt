@@ -1,14 +1,14 @@
 // An image tested whole: rows 3 to 10 of the refusals, in one pass over its bytes.
 ghost use mathlib.Core.Path.{_≡_};
 ghost use mathlib.Core.Bool.{false};
-ghost use Prim.Native.Nat.{_+_, _*_, _%_, _≤_};
+ghost use Prim.Native.Nat.{_*_, _%_, _≤_};
 ghost use lib.ListN.{length, replicate};
 ghost use Rattle.spec.specs.Order.{below-of};
 ghost use Rattle.spec.specs.Outcome.{ok, accepted};
-ghost use Rattle.spec.specs.Header.{format-of};
+ghost use Rattle.spec.specs.Header.{format-of, block-position};
 ghost use Rattle.spec.specs.Index.{index-from};
 ghost use Rattle.spec.specs.Check.{frame-from};
-ghost use Rattle.header.specs.Form.{layout-named, most-of, frame-by, GoodForm, area-start};
+ghost use Rattle.header.specs.Form.{layout-named, most-of, frame-by, GoodForm};
 ghost use Rattle.index.specs.Elements.{elements-end, ended};
 ghost use Rattle.marks.specs.Marks.{marks};
 ghost use Rattle.inspect.specs.Overview.{Told, RunsRead};
@@ -55,7 +55,7 @@ fn read_index(form: Form, index: &[u8], n: usize, elements: usize) -> Ended
 // Rows 9 and 10 of an image whose runs are read: so many blocks, which are marked.
 fn settle(s: &[u8], v: Overview, blocks: usize, used: &mut [u64], free: &mut [u64]) -> Inspected
     requires { ⌜ RunsRead (now s) v blocks (marks (now used)) ⌝ }
-    requires { ⌜ (area-start (v .form) (v .n) + 256 * v .d ≡ length (now s)) × (v .d ≤ 0xFFFFFF) × (v .d ≤ 64 * length (now used)) × (v .d ≤ 64 * length (now free)) ⌝ }
+    requires { ⌜ (block-position (v .form .extended) (v .n) (v .d) ≡ length (now s)) × (v .d ≤ 0xFFFFFF) × (v .d ≤ 64 * length (now used)) × (v .d ≤ 64 * length (now free)) ⌝ }
     requires { ⌜ marks (now free) ≡ replicate (64 * length (now free)) false ⌝ }
     ensures { λ r. ⌜ Told (now (s .entry)) (marks (now (free .exit))) r ⌝ }
 {
@@ -63,7 +63,7 @@ fn settle(s: &[u8], v: Overview, blocks: usize, used: &mut [u64], free: &mut [u6
     if d < blocks {
         return Inspected::Refused(9);
     }
-    let start = HEADER + v.form.extended + 256 * v.n;
+    let start = header::position(v.form.extended, v.n, 0);
     let first = header::empty_block2(s);
     if !freelist::read_free_list(&s[start..], d, first, d - blocks, used, free) {
         return Inspected::Refused(9);
@@ -83,12 +83,12 @@ fn settle(s: &[u8], v: Overview, blocks: usize, used: &mut [u64], free: &mut [u6
 // Rows 6 to 10 of an image of that form, of n index blocks and d data blocks.
 fn inspect_areas(s: &[u8], form: Form, n: usize, d: usize, free: &mut [u64]) -> Inspected
     requires { ⌜ (frame-from (format-of (now s)) (now s) ≡ ok (frame-by (layout-named (now s)) form n d)) × GoodForm form ⌝ }
-    requires { ⌜ (area-start form n + 256 * d ≡ length (now s)) × (n ≤ 32767) × (d ≤ most-of (form .width)) × (d ≤ 64 * length (now free)) ⌝ }
+    requires { ⌜ (block-position (form .extended) n d ≡ length (now s)) × (n ≤ 32767) × (d ≤ most-of (form .width)) × (d ≤ 64 * length (now free)) ⌝ }
     requires { ⌜ marks (now free) ≡ replicate (64 * length (now free)) false ⌝ }
     ensures { λ r. ⌜ Told (now (s .entry)) (marks (now (free .exit))) r ⌝ }
 {
     let from = HEADER + form.extended;
-    let start = from + 256 * n;
+    let start = header::position(form.extended, n, 0);
     let index = &s[from..start];
     let elements = header::nindex2(s);
     let ended = read_index(form, index, n, elements);

@@ -21,7 +21,7 @@ use Rattle.spec.proofs.CountLaws.{blocks-once}
 use Rattle.spec.proofs.ReadLaws.{ImageTold, free-list-below, runs-inside}
 use Rattle.spec.proofs.WriteLaws.{written-behind}
 use Rattle.index.specs.Elements.{elements-at}
-use Rattle.header.specs.Form.{layout-named, format-by, index-part, data-part}
+use Rattle.header.specs.Form.{layout-named, format-by, area-start, index-cut, data-cut}
 use Rattle.header.proofs.Laws.{slice-refused, slice-accepted, slice-has-header, slice-in-blocks}
 use Rattle.inspect.specs.Overview.{Told}
 use Rattle.inspect.specs.declared.Overview.{Overview}
@@ -51,19 +51,19 @@ module _ (s : List ℕ) (v : Overview) (free : ℕ) (a : Accepted s v free) wher
       let low = free-list-below _ _ _ _ (i .free-list) (told .free-list) in
       omega (arith, accepted-d s v (a .0), blocks-once (i .frame .data-blocks) (i .runs) (i .free-list) (told .once) inside low)
 
-  module _ (e : ℕ) (number : e ≡ get (layout-named s .nindex2) s) where
+  module _ (base : ℕ) (here : base ≡ area-start (v .form) (v .n)) (e : ℕ) (number : e ≡ get (layout-named s .nindex2) s) where
     -- the runs that its elements name
-    runs-read : runs-from (below-of (v .form .order)) (v .d) (data-part (v .form) s (v .n)) (elements-at (v .form .width) (index-part (v .form) s (v .n)) 0 e) ≡ ok (a .0 .image .runs)
-    runs-read = accepted-runs s v (a .0) e number
+    runs-read : runs-from (below-of (v .form .order)) (v .d) (data-cut s base) (elements-at (v .form .width) (index-cut (v .form) s base) 0 e) ≡ ok (a .0 .image .runs)
+    runs-read = accepted-runs s v (a .0) base here e number
 
     -- the lines of its runs have room
     pub listed-room : (start room : ℕ) → start ≡ 25 → length s % 256 ≡ 0 → length s ≤ 65_536 → (room′ : ℕ) → room′ ≡ room → 4_000_000 ≤ room
-        → Printable (below-of (v .form .order)) (v .d) (data-part (v .form) s (v .n)) (elements-at (v .form .width) (index-part (v .form) s (v .n)) 0 e) start room′
+        → Printable (below-of (v .form .order)) (v .d) (data-cut s base) (elements-at (v .form .width) (index-cut (v .form) s base) 0 e) start room′
     listed-room start room z m small room′ k p = (a .0 .image .runs, runs-read, omega (arith, few, accepted-whole s v (a .0) m))
 
     -- its first line and the lines of its runs are its list:
     module _ (start : ℕ) (out out₁ out₂ : List ℕ) (r : ℕ) (z : start ≡ 25) (p : out₁ ≡ write 0 (first-line (numbers (v .words) (v .n) (v .d) free)) out)
-        (q : AllPrinted (below-of (v .form .order)) (v .d) (data-part (v .form) s (v .n)) (elements-at (v .form .width) (index-part (v .form) s (v .n)) 0 e) start out₁ out₂ r) where
+        (q : AllPrinted (below-of (v .form .order)) (v .d) (data-cut s base) (elements-at (v .form .width) (index-cut (v .form) s base) 0 e) start out₁ out₂ r) where
       first : List ℕ
       first = first-line (numbers (v .words) (v .n) (v .d) free)
 

@@ -19,6 +19,7 @@ use byteops::write_u8;
 use header::Form;
 use header::HEADER;
 use header::nindex2;
+use header::position;
 use header::slice_ok;
 use index::element_end;
 use inspect::Inspected;
@@ -245,7 +246,7 @@ fn accepted_lines(out: &mut [u8], image: &[u8], v: Overview, free: usize) -> usi
 {
     let at = first_line(out, v.words, v.n, v.d, free);
     let from = HEADER + v.form.extended;
-    let start = from + 256 * v.n;
+    let start = position(v.form.extended, v.n, 0);
     let elements = nindex2(image);
     all_lines(
         v.form,

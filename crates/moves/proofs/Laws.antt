@@ -4,17 +4,19 @@ use mathlib.Core.Path.{_≡_, refl, sym, ap, _∙_}
 use mathlib.Core.Bool.{Bool, true, false}
 use mathlib.Core.List.{List, [], _∷_, _++_, map, map-append}
 use native.Mathlib.Omega.{arith}
-use lib.ListN.{length, getD, set, take, drop, length-map}
-use lib.Seq.{getD-set-other}
+use lib.ListN.{length, getD, set, take, drop, length-map, take-append-drop}
+use lib.Seq.{getD-set-other, take-at, drop-at, length-take-le}
 use lib.Dec.{eqb}
 use borrow.Author.Tests.{lt-ltb, le-ltb, eq-eqb, ne-eqb, eqb-true, eqb-false}
 use Rattle.spec.specs.Bytes.{from-little-endian, bytes-at, write}
+use Rattle.spec.specs.Header.{block-position}
 use Rattle.spec.specs.Blocks.{best-fit}
 use Rattle.spec.specs.Index.{Element}
 use Rattle.spec.specs.Lists.{All}
 use Rattle.spec.proofs.ListsLaws.{all-map, all-front, all-back}
 use Rattle.index.specs.Elements.{element-end, element-at, elements-at}
 use Rattle.index.proofs.Laws.{elements-next}
+use Rattle.header.proofs.PositionLaws.{write-block}
 use Rattle.marks.specs.Marks.{with-range}
 use Rattle.placing.specs.Spread.{Spread, placed-first, spread}
 use Rattle.placing.proofs.SpreadLaws.{spread-grows}
@@ -326,49 +328,72 @@ unfolding moved-written
 copied-append area T d [] cs dst = refl
 copied-append area T d (b ∷ bs) cs dst = copied-append area T d bs cs _
 
--- nothing is copied where no run starts
-pub copy-none : (area T : List ℕ) (d b : ℕ) (dst : List ℕ) → getD T b 0 ≡ 0 → dst ≡ moved-written area d T (starts b 1 T) dst
-unfolding moved-written
-copy-none area T d b dst e = rw (starts-none T b e)
+module _ (extended index : ℕ) where
+  -- where the data area of the image starts
+  abbrev start : ℕ
+  start = block-position extended index 0
 
--- a run is copied
-pub copy-run : (area T : List ℕ) (d b n : ℕ) (dst out : List ℕ) → (getD T b 0 ≡ 0 → ⊥) → n ≡ size-at area d b → out ≡ write (256 * getD T b 0) (bytes-at (256 * b) (256 * n) area) dst
-    → out ≡ moved-written area d T (starts b 1 T) dst
-unfolding moved-written
-copy-run area T d b n dst out e f w = rw (starts-one T b e) (w ∙ rw f)
+  -- the runs at these blocks copied into the data area of the image
+  abbrev pub copied : List ℕ → List ℕ → ℕ → List ℕ → List ℕ → List ℕ
+  copied area T d bs image = take start image ++ moved-written area d T bs (drop start image)
 
--- the runs at these blocks start among d blocks, and their new places are among l bytes
-abbrev pub Ready : List ℕ → List ℕ → ℕ → ℕ → List ℕ → Type 0
-Ready area T d l bs = All (λ a. (a < d) × (256 * (getD T a 0 + size-at area d a) ≤ l)) bs
+  -- the runs at these blocks start among d blocks, and their new places are inside an image of l bytes
+  abbrev pub Ready : List ℕ → List ℕ → ℕ → ℕ → List ℕ → Type 0
+  Ready area T d l bs = All (λ a. (a < d) × (block-position extended index (getD T a 0 + size-at area d a) ≤ l)) bs
 
--- where a run starts at b, it is ready
-pub ready-run : (area T : List ℕ) (d b l : ℕ) → (getD T b 0 ≡ 0 → ⊥) → Ready area T d l (starts b 1 T)
-    → (b < d) × (b + size-at area d b ≤ d) × (256 * (getD T b 0 + size-at area d b) ≤ l)
-ready-run area T d b l e r =
-    let h : Ready area T d l (b ∷ []) = rw (starts-one T b e) at r in
-    (h .0 .0, size-inside area d b (h .0 .0), h .0 .1)
+  -- where a run starts at b, it is ready
+  pub ready-run : (area T : List ℕ) (d b l : ℕ) → (getD T b 0 ≡ 0 → ⊥) → Ready area T d l (starts b 1 T)
+      → (b < d) × (b + size-at area d b ≤ d) × (block-position extended index (getD T b 0 + size-at area d b) ≤ l)
+  ready-run area T d b l e r =
+      let h : Ready area T d l (b ∷ []) = rw (starts-one T b e) at r in
+      (h .0 .0, size-inside area d b (h .0 .0), h .0 .1)
 
--- what is still to be copied
-abbrev pub Copying : List ℕ → List ℕ → ℕ → ℕ → List ℕ → ℕ → List ℕ → Type 0
-Copying area T d g dst₀ b dst = Ready area T d (length dst₀) (starts b (g - b) T) × (moved-written area d T (starts b (g - b) T) dst ≡ moved-written area d T (starts 0 g T) dst₀)
-
--- at the start all
-pub copy-start : (area T : List ℕ) (d g : ℕ) (dst : List ℕ) → Ready area T d (length dst) (starts 0 g T) → Copying area T d g dst 0 dst
-copy-start area T d g dst r = rw (starts-all T g) (r, refl)
-
-module _ (area T : List ℕ) (d g : ℕ) (dst₀ : List ℕ) (b : ℕ) (dst : List ℕ) (inv : Copying area T d g dst₀ b dst) where
-  -- the run at b is ready, if one starts there
-  pub copy-ready : b < g → length dst ≡ length dst₀ → Ready area T d (length dst) (starts b 1 T)
-  copy-ready h l = rw l (all-front _ (starts b 1 T) (starts (b + 1) (g - (b + 1)) T) (rw (starts-next T b g h) at (inv .0)))
-
-  -- after one block the others
-  pub copy-turn : b < g → (out : List ℕ) → out ≡ moved-written area d T (starts b 1 T) dst → Copying area T d g dst₀ (b + 1) out
-  copy-turn h out e = (
-    all-back _ (starts b 1 T) (starts (b + 1) (g - (b + 1)) T) (rw (starts-next T b g h) at (inv .0)),
-    rw e (sym (copied-append area T d (starts b 1 T) (starts (b + 1) (g - (b + 1)) T) dst) ∙ rw (starts-next T b g h) at (inv .1)),
-  )
-
-  -- at the end none
-  pub copy-end : g ≤ b → dst ≡ moved-written area d T (starts 0 g T) dst₀
+  -- nothing is copied where no run starts
+  pub copy-none : (area T : List ℕ) (d b : ℕ) (image : List ℕ) → getD T b 0 ≡ 0 → image ≡ copied area T d (starts b 1 T) image
   unfolding moved-written
-  copy-end h = rw (starts-end T b g h) at (inv .1)
+  copy-none area T d b image e = rw (starts-none T b e) (sym (take-append-drop start image))
+
+  -- a run is copied
+  pub copy-run : (area T : List ℕ) (d b n at : ℕ) (image out : List ℕ) → (getD T b 0 ≡ 0 → ⊥) → Ready area T d (length image) (starts b 1 T) → n ≡ size-at area d b
+      → at ≡ block-position extended index (getD T b 0) → out ≡ write at (bytes-at (256 * b) (256 * n) area) image → out ≡ copied area T d (starts b 1 T) image
+  unfolding moved-written
+  copy-run area T d b n at image out e r f p w =
+      let i = ready-run area T d b (length image) e r in
+      rw (starts-one T b e) (w ∙ write-block extended index (bytes-at (256 * b) (256 * n) area) image (getD T b 0) at p (omega arith) ∙ rw f)
+
+  -- the bytes in front of the data area stay, also of an image that ends in front of it and so takes no run
+  copied-parts : (area T : List ℕ) (d : ℕ) (bs image out : List ℕ) → Ready area T d (length image) bs → out ≡ copied area T d bs image
+      → (take start out ≡ take start image) × (drop start out ≡ moved-written area d T bs (drop start image))
+  unfolding moved-written
+  copied-parts area T d [] image out r e = rw (e ∙ take-append-drop start image) (refl, refl)
+  copied-parts area T d (b ∷ bs) image out (r, rs) e =
+      let l : length (take start image) ≡ start = length-take-le start image (omega arith) in
+      let y : List ℕ = moved-written area d T (b ∷ bs) (drop start image) in
+      rw e (take-at (take start image) y start l, drop-at (take start image) y start l)
+
+  -- what is still to be copied
+  abbrev pub Copying : List ℕ → List ℕ → ℕ → ℕ → List ℕ → ℕ → List ℕ → Type 0
+  Copying area T d g image₀ b image =
+      Ready area T d (length image₀) (starts b (g - b) T) × (copied area T d (starts b (g - b) T) image ≡ copied area T d (starts 0 g T) image₀)
+
+  -- at the start all
+  pub copy-start : (area T : List ℕ) (d g : ℕ) (image : List ℕ) → Ready area T d (length image) (starts 0 g T) → Copying area T d g image 0 image
+  copy-start area T d g image r = rw (starts-all T g) (r, refl)
+
+  module _ (area T : List ℕ) (d g : ℕ) (image₀ : List ℕ) (b : ℕ) (image : List ℕ) (inv : Copying area T d g image₀ b image) where
+    -- the run at b is ready, if one starts there
+    pub copy-ready : b < g → length image ≡ length image₀ → Ready area T d (length image) (starts b 1 T)
+    copy-ready h l = rw l (all-front _ (starts b 1 T) (starts (b + 1) (g - (b + 1)) T) (rw (starts-next T b g h) at (inv .0)))
+
+    -- after one block the others
+    pub copy-turn : b < g → length image ≡ length image₀ → (out : List ℕ) → out ≡ copied area T d (starts b 1 T) image → Copying area T d g image₀ (b + 1) out
+    copy-turn h l out e =
+        let (front, back) = copied-parts area T d (starts b 1 T) image out (copy-ready h l) e in (
+          all-back _ (starts b 1 T) (starts (b + 1) (g - (b + 1)) T) (rw (starts-next T b g h) at (inv .0)),
+          rw (front, back, ← copied-append area T d (starts b 1 T) (starts (b + 1) (g - (b + 1)) T) (drop start image)) (rw (starts-next T b g h) at (inv .1)),
+        )
+
+    -- at the end none
+    pub copy-end : g ≤ b → image ≡ copied area T d (starts 0 g T) image₀
+    unfolding moved-written
+    copy-end h = sym (take-append-drop start image) ∙ rw (starts-end T b g h) at (inv .1)

@@ -1,14 +1,15 @@
 // The runs that the growing index displaces: those that start among the first g blocks. A table tells for each such block
 // 0 where no run starts, else the run's new place.
 ghost use mathlib.Core.Path.{_≡_};
-ghost use mathlib.Core.List.{[], _∷_, map};
+ghost use mathlib.Core.List.{[], _∷_, _++_, map};
 ghost use Prim.Native.Nat.{_+_, _*_, _≤_, _<_, max};
-ghost use lib.ListN.{length, getD};
+ghost use lib.ListN.{length, getD, take, drop};
 ghost use Rattle.byteops.specs.Width.{Width};
 ghost use Rattle.index.specs.Elements.{elements-at, Inside};
 ghost use Rattle.marks.specs.Marks.{marks};
 ghost use Rattle.placing.specs.Spread.{Within};
 ghost use Rattle.spec.specs.Lists.{All};
+ghost use Rattle.spec.specs.Header.{block-position};
 ghost use Rattle.moves.specs.Moved.{noted, starts, size-at, freed, moved-to, tabled, moved-written};
 use byteops::read_number;
 use index::Place;
@@ -138,30 +139,51 @@ pub fn place_moved(
     last
 }
 
-// Copies the run at block b of the old data area to its new place, if one starts there.
-fn copy_one(dst: &mut [u8], area: &[u8], d: usize, numbers: &[u32], b: usize)
+// Copies the run at block b of the old data area to its new place in the image, behind an extended header of so many bytes and so many
+// index blocks, if one starts there.
+fn copy_one(
+    image: &mut [u8],
+    extended: usize,
+    index: usize,
+    area: &[u8],
+    d: usize,
+    numbers: &[u32],
+    b: usize,
+)
     requires { ⌜ (256 * d ≤ length (now area)) × (d ≤ 16777215) × (b < length (now numbers)) ⌝ }
-    requires { ⌜ All (λ a. (a < d) × (256 * (getD (now numbers) a 0 + size-at (now area) d a) ≤ length (now dst))) (starts b 1 (now numbers)) ⌝ }
-    ensures { λ _. ⌜ now (dst .exit) ≡ moved-written (now (area .entry)) d (now (numbers .entry)) (starts b 1 (now (numbers .entry))) (now (dst .entry)) ⌝ }
-    ensures { λ _. ⌜ length (now (dst .exit)) ≡ length (now (dst .entry)) ⌝ }
+    requires { ⌜ All (λ a. (a < d) × (block-position extended index (getD (now numbers) a 0 + size-at (now area) d a) ≤ length (now image))) (starts b 1 (now numbers)) ⌝ }
+    ensures { λ _. ⌜ now (image .exit) ≡ take (block-position extended index 0) (now (image .entry))
+        ++ moved-written (now (area .entry)) d (now (numbers .entry)) (starts b 1 (now (numbers .entry))) (drop (block-position extended index 0) (now (image .entry))) ⌝ }
+    ensures { λ _. ⌜ length (now (image .exit)) ≡ length (now (image .entry)) ⌝ }
 {
     if numbers[b] == 0 {
         return;
     }
     let p = numbers[b] as usize;
-    byteops::copy(dst, 256 * p, area, 256 * b, 256 * size_at(area, d, b));
+    let at = header::position(extended, index, p);
+    byteops::copy(image, at, area, 256 * b, 256 * size_at(area, d, b));
 }
 
-// Copies all displaced runs from the old data area to their new places.
-pub fn copy_moved(dst: &mut [u8], area: &[u8], d: usize, numbers: &[u32], g: usize)
+// Copies all displaced runs from the old data area to their new places in the image, behind an extended header of so many bytes and so
+// many index blocks.
+pub fn copy_moved(
+    image: &mut [u8],
+    extended: usize,
+    index: usize,
+    area: &[u8],
+    d: usize,
+    numbers: &[u32],
+    g: usize,
+)
     requires { ⌜ (256 * d ≤ length (now area)) × (d ≤ 16777215) × (g ≤ length (now numbers)) ⌝ }
-    requires { ⌜ All (λ b. (b < d) × (256 * (getD (now numbers) b 0 + size-at (now area) d b) ≤ length (now dst))) (starts 0 g (now numbers)) ⌝ }
-    ensures { λ _. ⌜ now (dst .exit) ≡ moved-written (now (area .entry)) d (now (numbers .entry)) (starts 0 g (now (numbers .entry))) (now (dst .entry)) ⌝ }
-    ensures { λ _. ⌜ length (now (dst .exit)) ≡ length (now (dst .entry)) ⌝ }
+    requires { ⌜ All (λ b. (b < d) × (block-position extended index (getD (now numbers) b 0 + size-at (now area) d b) ≤ length (now image))) (starts 0 g (now numbers)) ⌝ }
+    ensures { λ _. ⌜ now (image .exit) ≡ take (block-position extended index 0) (now (image .entry))
+        ++ moved-written (now (area .entry)) d (now (numbers .entry)) (starts 0 g (now (numbers .entry))) (drop (block-position extended index 0) (now (image .entry))) ⌝ }
+    ensures { λ _. ⌜ length (now (image .exit)) ≡ length (now (image .entry)) ⌝ }
 {
     let mut b = 0;
     while b < g {
-        copy_one(dst, area, d, numbers, b);
+        copy_one(image, extended, index, area, d, numbers, b);
         b += 1;
     }
 }

@@ -7,6 +7,7 @@ use native.Mathlib.Omega.{arith}
 use lib.ListN.{length, take, drop, length-append, length-take, length-drop, take-append-drop, drop-of-length-le}
 use lib.Seq.{length-take-le, take-all, drop-drop}
 use Rattle.spec.specs.Bytes.{write, bytes-at, no-zero, blocks-for}
+use Rattle.spec.specs.Header.{block-position}
 use Rattle.spec.specs.Entry.{Entry, entry-bytes}
 use Rattle.spec.specs.Run.{entries-bytes, run-size, run-bytes}
 use Rattle.spec.specs.Index.{element-bytes, elements-bytes}
@@ -39,17 +40,19 @@ pub planning-start : (limit g end : ℕ) (ms : List Bool) (es₀ es : List Entry
 planning-start limit g end ms es₀ es e = record { end-all = ap (λ (l : List Entry). laid limit g end ms l .end) e; free-all = ap (λ (l : List Entry). laid limit g end ms l .free) e }
 
 -- the parts written from now on make the bytes of the whole
-pub record Writing (width limit start g at end : ℕ) (ms₀ : List Bool) (es₀ : List Entry) (image₀ : List ℕ) (out last : ℕ) (ms : List Bool) (es : List Entry) (image : List ℕ) : Type 0 where
+pub record Writing (width limit extended index g at end : ℕ) (ms₀ : List Bool) (es₀ : List Entry) (image₀ : List ℕ) (out last : ℕ) (ms : List Bool) (es : List Entry) (image : List ℕ) : Type 0 where
   pub planning : Planning limit g end ms₀ es₀ last ms es
-  pub whole : parts-written width start g out (laid limit g last ms es .places) (cut limit es) image ≡ parts-written width start g at (laid limit g end ms₀ es₀ .places) (cut limit es₀) image₀
+  pub whole : parts-written width extended index g out (laid limit g last ms es .places) (cut limit es) image
+      ≡ parts-written width extended index g at (laid limit g end ms₀ es₀ .places) (cut limit es₀) image₀
   pub size : out + elements-long width limit g (laid limit g last ms es .places) es ≡ at + elements-long width limit g (laid limit g end ms₀ es₀ .places) es₀
 
 -- nothing is written at first
-pub writing-start : (width limit start g at end : ℕ) (ms : List Bool) (es₀ es : List Entry) (image : List ℕ) → es ≡ es₀ → Writing width limit start g at end ms es₀ image at end ms es image
-writing-start width limit start g at end ms es₀ es image e =
+pub writing-start : (width limit extended index g at end : ℕ) (ms : List Bool) (es₀ es : List Entry) (image : List ℕ) → es ≡ es₀
+    → Writing width limit extended index g at end ms es₀ image at end ms es image
+writing-start width limit extended index g at end ms es₀ es image e =
     record {
       planning = planning-start limit g end ms es₀ es e;
-      whole = ap (λ (l : List Entry). parts-written width start g at (laid limit g end ms l .places) (cut limit l) image) e;
+      whole = ap (λ (l : List Entry). parts-written width extended index g at (laid limit g end ms l .places) (cut limit l) image) e;
       size = ap (λ (l : List Entry). at + elements-long width limit g (laid limit g end ms l .places) l) e;
     }
 
@@ -140,21 +143,22 @@ module _ (limit : ℕ) (es : List Entry) (used : ℕ) (bytes : used ≡ length (
         ∙ length-append (element-bytes width (part-element (b - g) (part-of limit 0 [] es))) (elements-bytes width (map element-of (part-runs g (laid limit g last′ ms′ Q .places) (cut limit Q))))
 
     -- what `put_element` requires
-    pub element-fits : (width start at end : ℕ) (ms₀ : List Bool) (es₀ : List Entry) (image₀ : List ℕ) (out m : ℕ) (image head : List ℕ) → head ≡ first-headword (part-of limit 0 [] es)
-        → Writing width limit start g at end ms₀ es₀ image₀ out last ms es image → at + elements-long width limit g (laid limit g end ms₀ es₀ .places) es₀ ≤ length image₀
+    pub element-fits : (width extended index at end : ℕ) (ms₀ : List Bool) (es₀ : List Entry) (image₀ : List ℕ) (out m : ℕ) (image head : List ℕ) → head ≡ first-headword (part-of limit 0 [] es)
+        → Writing width limit extended index g at end ms₀ es₀ image₀ out last ms es image → at + elements-long width limit g (laid limit g end ms₀ es₀ .places) es₀ ≤ length image₀
         → length image ≡ length image₀ → m ≡ length image → out + width + 1 + length head ≤ m
-    element-fits width start at end ms₀ es₀ image₀ out m image head e w h l k = omega (arith, elements-next width, w .size, element-long width (b - g) (part-of limit 0 [] es) head e)
+    element-fits width extended index at end ms₀ es₀ image₀ out m image head e w h l k = omega (arith, elements-next width, w .size, element-long width (b - g) (part-of limit 0 [] es) head e)
 
     -- it is written
-    pub writing-more : (width start at end : ℕ) (ms₀ : List Bool) (es₀ : List Entry) (image₀ : List ℕ) (out out′ : ℕ) (image image′ : List ℕ)
-        → image′ ≡ write out (element-bytes width (part-element (b - g) (part-of limit 0 [] es))) (write (start + 256 * b) (run-bytes (part-of limit 0 [] es)) image)
+    pub writing-more : (width extended index at end : ℕ) (ms₀ : List Bool) (es₀ : List Entry) (image₀ : List ℕ) (out out′ start : ℕ) (image image′ : List ℕ)
+        → start ≡ block-position extended index b
+        → image′ ≡ write out (element-bytes width (part-element (b - g) (part-of limit 0 [] es))) (write start (run-bytes (part-of limit 0 [] es)) image)
         → out′ ≡ out + length (element-bytes width (part-element (b - g) (part-of limit 0 [] es)))
-        → Writing width limit start g at end ms₀ es₀ image₀ out last ms es image → Writing width limit start g at end ms₀ es₀ image₀ out′ last′ ms′ Q image′
+        → Writing width limit extended index g at end ms₀ es₀ image₀ out last ms es image → Writing width limit extended index g at end ms₀ es₀ image₀ out′ last′ ms′ Q image′
     unfolding placed-first parts-written
-    writing-more width start at end ms₀ es₀ image₀ out out′ image image′ ei eo w =
+    writing-more width extended index at end ms₀ es₀ image₀ out out′ start image image′ ep ei eo w =
         record {
           planning = planning-more end ms₀ es₀ (w .planning);
-          whole = rw (ei, eo) (sym (ap₂ (λ (s : Spread) (l : List (List Entry)). parts-written width start g out (s .places) l image) laid-next parts-next) ∙ w .whole);
+          whole = rw (ei, ep, eo) (sym (ap₂ (λ (s : Spread) (l : List (List Entry)). parts-written width extended index g out (s .places) l image) laid-next parts-next) ∙ w .whole);
           size = omega (arith, elements-next width, w .size);
         }
 
@@ -199,12 +203,12 @@ module _ (limit : ℕ) (es : List Entry) (used : ℕ) (part part′ : List ℕ) 
       e₂ ∙ ap₂ (λ (x y : List ℕ). write out (element-bytes width (record { block = number; headword = x })) y) eh w
 
 -- ---- no entry is left
-module _ (width limit start g at end : ℕ) (ms₀ : List Bool) (es₀ : List Entry) (image₀ : List ℕ) (out last : ℕ) (ms : List Bool) (es : List Entry) (image : List ℕ)
-    (writing : Writing width limit start g at end ms₀ es₀ image₀ out last ms es image) (none : es ≡ []) where
+module _ (width limit extended index g at end : ℕ) (ms₀ : List Bool) (es₀ : List Entry) (image₀ : List ℕ) (out last : ℕ) (ms : List Bool) (es : List Entry) (image : List ℕ)
+    (writing : Writing width limit extended index g at end ms₀ es₀ image₀ out last ms es image) (none : es ≡ []) where
   -- all is written
-  pub written-image : image ≡ parts-written width start g at (laid limit g end ms₀ es₀ .places) (cut limit es₀) image₀
+  pub written-image : image ≡ parts-written width extended index g at (laid limit g end ms₀ es₀ .places) (cut limit es₀) image₀
   unfolding spread cut parts-written
-  written-image = sym (ap (λ (l : List Entry). parts-written width start g out (laid limit g last ms l .places) (cut limit l) image) none) ∙ writing .whole
+  written-image = sym (ap (λ (l : List Entry). parts-written width extended index g out (laid limit g last ms l .places) (cut limit l) image) none) ∙ writing .whole
 
   -- the elements end where all of them do
   pub written-size : out ≡ at + elements-long width limit g (laid limit g end ms₀ es₀ .places) es₀

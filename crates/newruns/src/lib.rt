@@ -22,9 +22,9 @@ pub struct Room {
     pub end: usize,
 }
 
-// Where new runs are written: their places are counted from `start` on, their index elements stand from `at` on.
+// Where new runs are written: behind an index of so many blocks, by which their places are counted, and their index elements from `at` on.
 pub struct Site {
-    pub start: usize,
+    pub index: usize,
     pub at: usize,
     pub room: Room,
 }
@@ -78,16 +78,16 @@ pub fn write_parts(
 ) -> usize
     requires { ⌜ (headword-ok (now h) ≡ true) × (length (now body) ≤ longest-body) × (length (now run) ≤ 8388608) ⌝ }
     requires { ⌜ Width (edit .form .width) × (edit .form .limit ≤ largest-limit) × (to .room .g ≤ to .room .end) ⌝ }
-    requires { ⌜ PartsFit (edit .form .width) (edit .form .limit) (to .start) (to .at) (to .room .g) (to .room .end) (marks (now free))
+    requires { ⌜ PartsFit (edit .form) (to .index) (to .at) (to .room .g) (to .room .end) (marks (now free))
         (changed-entries (edit .form .order) (now run) (now h) (now body) (edit .fresh)) (64 * length (now free)) (length (now image)) ⌝ }
-    ensures { λ r. ⌜ PartsPut (edit .form .width) (edit .form .limit) (to .start) (to .at) (to .room .g) (to .room .end) (marks (now (free .entry)))
+    ensures { λ r. ⌜ PartsPut (edit .form) (to .index) (to .at) (to .room .g) (to .room .end) (marks (now (free .entry)))
         (changed-entries (edit .form .order) (now (run .entry)) (now (h .entry)) (now (body .entry)) (edit .fresh))
         (now (image .entry)) (now (image .exit)) r (marks (now (free .exit))) ⌝ }
     ensures { λ r. ⌜ (length (now (image .exit)) ≡ length (now (image .entry))) × (length (now (free .exit)) ≡ length (now (free .entry))) ⌝ }
 {
     let form: Form = edit.form;
     let fresh = edit.fresh;
-    let start = to.start;
+    let index = to.index;
     let g = to.room.g;
     let mut word = [0u8; WORD];
     let mut part = [0u8; PART];
@@ -102,7 +102,8 @@ pub fn write_parts(
         let size = encoder::run_blocks(p.used);
         let b = placing::place(free, g, last, size);
         last = placing::larger(last, b + size);
-        encoder::write_run(&mut image[start + 256 * b..], &part[..p.used]);
+        let start = header::position(form.extended, index, b);
+        encoder::write_run(&mut image[start..], &part[..p.used]);
         let end = 3 + parts::head_length(&part, p.used);
         out = elements::put_element(form.width, image, out, b - g, &part[3..end]);
         cur = p.cursor;

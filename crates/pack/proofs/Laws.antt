@@ -9,6 +9,7 @@ use Rattle.spec.specs.Order.{below-of}
 use Rattle.spec.specs.Outcome.{ok}
 use Rattle.spec.specs.Bytes as BytesSpec
 use Rattle.spec.specs.Bytes.{from-little-endian, write, bytes-at}
+use Rattle.spec.specs.Header.{block-position}
 use Rattle.spec.specs.Run.{Run}
 use Rattle.spec.specs.Index.{Element, element-bytes, elements-bytes}
 use Rattle.spec.specs.Blocks as BlocksSpec
@@ -114,13 +115,13 @@ pub ruleset need-laws = (need-none, need-some, needs)
 
 -- ---- write_runs
 -- the runs from `at` on are still to be written: their elements from `out` on, they from block b on
-pub record Underway (width order : ℕ) (index area : List ℕ) (elements d front base : ℕ) (image₀ image : List ℕ) (at out b left : ℕ) : Type 0 where
+pub record Underway (width order extended : ℕ) (index area : List ℕ) (elements d front m : ℕ) (image₀ image : List ℕ) (at out b left : ℕ) : Type 0 where
   pub runs : List Run
   pub read : runs-from (below-of order) d area (elements-at width index at left) ≡ ok runs
   pub index-room : out + length (packed-elements width b runs) ≡ front + length (elements-bytes width (elements-at width index 0 elements))
-  pub area-room : base + 256 * b + 256 * run-blocks runs ≤ length image
+  pub area-room : block-position extended m (b + run-blocks runs) ≤ length image
   pub whole : (rs : List Run) → runs-from (below-of order) d area (elements-at width index 0 elements) ≡ ok rs
-      → write out (packed-elements width b runs) (write (base + 256 * b) (runs-bytes runs) image) ≡ runs-packed width front base rs image₀
+      → write out (packed-elements width b runs) (write (block-position extended m b) (runs-bytes runs) image) ≡ runs-packed width front (block-position extended m 0) rs image₀
 
 -- the run of an element that the code reads, and those behind it
 pub record RunHere (order : ℕ) (area : List ℕ) (d : ℕ) (runs : List Run) (others : List Element) (from size : ℕ) (headword : List ℕ) : Type 0 where
@@ -165,13 +166,12 @@ module _ (order : ℕ) where
   pub runs-whole : (d : ℕ) (area : List ℕ) (es : List Element) (rs : List Run) → 256 * d ≡ length area → runs-from (below-of order) d area es ≡ ok rs → Whole rs
   runs-whole d area es rs long h = all-map (Holds (below-of order)) (λ r. length (r .bytes) ≡ 256 * r .size) (λ r k. k .whole) rs (runs-hold (below-of order) d area es rs (omega arith) h)
 
-module _ (width order : ℕ) where
+module _ (width order extended : ℕ) where
   -- at the start all are
-  pub underway-start : (index area image : List ℕ) (elements d front base : ℕ) → RunsFit width order index area elements d front base (length image)
-      → Underway width order index area elements d front base image image 0 front 0 elements
+  pub underway-start : (index area image : List ℕ) (elements d front m : ℕ) → RunsFit width order extended index area elements d front m (length image)
+      → Underway width order extended index area elements d front m image image 0 front 0 elements
   unfolding Packing.runs-packed
-  underway-start index area image elements d front base v =
-      let e : base + 256 * 0 ≡ base = omega arith in
+  underway-start index area image elements d front m v =
       record {
         runs = v .runs;
         read = v .read;
@@ -179,7 +179,7 @@ module _ (width order : ℕ) where
             ap (λ (k : ℕ). front + k) (packed-same width 0 (v .runs)
             ∙ ap (λ (es : List Element). length (elements-bytes width es)) (runs-elements (below-of order) d area (elements-at width index 0 elements) (v .runs) (v .read)));
         area-room = omega (arith, v .area-room);
-        whole = λ rs h. rw (e, same-value (v .runs) rs (sym (v .read) ∙ h));
+        whole = λ rs h. rw (same-value (v .runs) rs (sym (v .read) ∙ h));
       }
 
   module _ (area : List ℕ) (d : ℕ) (runs : List Run) (others : List Element) (from size : ℕ) (word : List ℕ) (w : RunHere order area d runs others from size word) (b : ℕ) where
@@ -203,11 +203,7 @@ module _ (width order : ℕ) where
     unfolding Packing.runs-bytes
     here-bytes = ap runs-bytes (w .runs-are) ∙ rw (w .bytes-are)
 
-  module _ (index area : List ℕ) (elements d front base : ℕ) (image₀ image : List ℕ) (at out b left : ℕ) (v : Underway width order index area elements d front base image₀ image at out b left) where
-    -- the next block lies in the slice
-    pub underway-low : base + 256 * b ≤ length image
-    underway-low = omega (arith, v .area-room)
-
+  module _ (index area : List ℕ) (elements d front m : ℕ) (image₀ image : List ℕ) (at out b left : ℕ) (v : Underway width order extended index area elements d front m image₀ image at out b left) where
     -- at the end none is: the code stands where all elements end
     pub underway-out : left ≤ 0 → out ≡ front + length (elements-bytes width (elements-at width index 0 elements))
     unfolding Elements.elements-at
@@ -217,13 +213,14 @@ module _ (width order : ℕ) where
         omega (arith, v .index-room, ap (λ (rs : List Run). length (packed-elements width b rs)) e, ap length (packed-none width b))
 
     -- and what stands there now is the whole written
-    pub underway-end : left ≤ 0 → (rs : List Run) → runs-from (below-of order) d area (elements-at width index 0 elements) ≡ ok rs → image ≡ runs-packed width front base rs image₀
+    pub underway-end : left ≤ 0 → (rs : List Run) → runs-from (below-of order) d area (elements-at width index 0 elements) ≡ ok rs
+        → image ≡ runs-packed width front (block-position extended m 0) rs image₀
     unfolding Elements.elements-at Packing.runs-bytes
     underway-end z rs h =
         let k : left ≡ 0 = omega arith in
         let e : v .runs ≡ [] = no-runs (below-of order) d area (v .runs) (rw k at (v .read)) in
-        sym (ap (λ (qs : List Run). write out (packed-elements width b qs) (write (base + 256 * b) (runs-bytes qs) image)) e
-        ∙ rw (packed-none width b) (write-none (write (base + 256 * b) [] image) out) ∙ write-none image (base + 256 * b))
+        sym (ap (λ (qs : List Run). write out (packed-elements width b qs) (write (block-position extended m b) (runs-bytes qs) image)) e
+        ∙ rw (packed-none width b) (write-none (write (block-position extended m b) [] image) out) ∙ write-none image (block-position extended m b))
         ∙ v .whole rs h
 
     module _ (more : 0 < left) (inside : Inside width index at left) (long : 256 * d ≡ length area) (end : ℕ) (ends : end ≡ element-end width index at) (from : ℕ)
@@ -255,7 +252,7 @@ module _ (width order : ℕ) where
         run-inside = here .inside
 
         -- and fits where it goes
-        pub run-fits : base + 256 * b + 256 * blocks ≤ length image
+        pub run-fits : block-position extended m b + 256 * blocks ≤ length image
         run-fits = omega (arith, v .area-room, here-blocks _ _ _ _ _ _ _ here b)
 
         -- the element fits in front of the runs
@@ -263,12 +260,13 @@ module _ (width order : ℕ) where
         element-fits = omega (arith, v .index-room, here-long _ _ _ _ _ _ _ here b)
 
         -- one run more
-        pub underway-turn : (image₁ image₂ : List ℕ) (out₁ : ℕ) → front + length (elements-bytes width (elements-at width index 0 elements)) ≤ base
-            → image₁ ≡ write (base + 256 * b) (bytes-at (256 * from) (256 * blocks) area) image
+        pub underway-turn : (to : ℕ) → to ≡ block-position extended m b → (image₁ image₂ : List ℕ) (out₁ : ℕ)
+            → front + length (elements-bytes width (elements-at width index 0 elements)) ≤ block-position extended m 0
+            → image₁ ≡ write to (bytes-at (256 * from) (256 * blocks) area) image
             → image₂ ≡ write out (element-bytes width (record { block = b; headword = word })) image₁
             → out₁ ≡ out + width + 1 + length word
-            → Underway width order index area elements d front base image₀ image₂ (end + 1) out₁ (b + blocks) (left - 1)
-        underway-turn image₁ image₂ out₁ front e₁ e₂ e₃ =
+            → Underway width order extended index area elements d front m image₀ image₂ (end + 1) out₁ (b + blocks) (left - 1)
+        underway-turn to e₀ image₁ image₂ out₁ front e₁ e₂ e₃ =
             let x : List ℕ = bytes-at (256 * from) (256 * blocks) area in
             let y : List ℕ = runs-bytes (here .rest) in
             let e : Element = record { block = b; headword = word } in
@@ -277,28 +275,29 @@ module _ (width order : ℕ) where
             let l : length x ≡ 256 * blocks = length-bytes-at area (256 * from) (256 * blocks) (omega (arith, run-inside)) in
             let k : length y ≡ 256 * run-blocks (here .rest)
             = runs-bytes-length (here .rest) (runs-whole order d area (elements-at width index (end + 1) (left - 1)) (here .rest) long (here .others-read)) in
-            let m : length g ≡ width + 1 + length word = element-size width e in
+            let n : length g ≡ width + 1 + length word = element-size width e in
             let sum : run-blocks (v .runs) ≡ blocks + run-blocks (here .rest) = here-blocks _ _ _ _ _ _ _ here b in
             let room : length (packed-elements width b (v .runs)) ≡ width + 1 + length word + length h = here-long _ _ _ _ _ _ _ here b in
-            let s : image₂ ≡ write out g (write (base + 256 * b) x image) = e₂ ∙ ap (write out g) e₁ in
-            let z₁ : length (write (base + 256 * b) x image) ≡ length image = length-write (base + 256 * b) x image (omega (arith, v .area-room)) in
-            let z : length image₂ ≡ length image = ap length s ∙ length-write out g (write (base + 256 * b) x image) (omega (arith, v .index-room, v .area-room)) ∙ z₁ in
+            let s : image₂ ≡ write out g (write (block-position extended m b) x image) = e₂ ∙ ap (write out g) (e₁ ∙ ap (λ (k : ℕ). write k x image) e₀) in
+            let z₁ : length (write (block-position extended m b) x image) ≡ length image = length-write (block-position extended m b) x image (omega (arith, v .area-room)) in
+            let z : length image₂ ≡ length image = ap length s ∙ length-write out g (write (block-position extended m b) x image) (omega (arith, v .index-room, v .area-room)) ∙ z₁ in
             record {
               runs = here .rest;
               read = here .others-read;
               index-room = omega (arith, v .index-room);
               area-room = omega (arith, v .area-room);
               whole = λ rs r.
-                  ap (λ (q : List ℕ). write out₁ h (write (base + 256 * (b + blocks)) y q)) s
-                  ∙ write-two image x y g h out (base + 256 * b) out₁ (base + 256 * (b + blocks)) (omega arith) (omega arith) (omega (arith, v .index-room)) (omega (arith, v .area-room))
-                  ∙ ap₂ (λ (a c : List ℕ). write out a (write (base + 256 * b) c image)) (sym (here-elements _ _ _ _ _ _ _ here b)) (sym (here-bytes _ _ _ _ _ _ _ here b))
+                  ap (λ (q : List ℕ). write out₁ h (write (block-position extended m (b + blocks)) y q)) s
+                  ∙ write-two image x y g h out (block-position extended m b) out₁ (block-position extended m (b + blocks)) (omega arith) (omega arith) (omega (arith, v .index-room))
+                  (omega (arith, v .area-room))
+                  ∙ ap₂ (λ (a c : List ℕ). write out a (write (block-position extended m b) c image)) (sym (here-elements _ _ _ _ _ _ _ here b)) (sym (here-bytes _ _ _ _ _ _ _ here b))
                   ∙ v .whole rs r;
             }
 
   -- the room for elements that the caller gives
-  pub fit-front : (index area : List ℕ) (elements d front base long : ℕ) → RunsFit width order index area elements d front base long
-      → front + length (elements-bytes width (elements-at width index 0 elements)) ≤ base
-  fit-front index area elements d front base long v = v .index-room
+  pub fit-front : (index area : List ℕ) (elements d front m long : ℕ) → RunsFit width order extended index area elements d front m long
+      → front + length (elements-bytes width (elements-at width index 0 elements)) ≤ block-position extended m 0
+  fit-front index area elements d front m long v = v .index-room
 
 -- the needs of write_runs that no law of Underway answers
 pub ruleset write-laws = (inside-start, here-end, fit-front, needs)

@@ -10,7 +10,7 @@ use borrow.Author.Tests.{le-ltb, eqb-true, eq-eqb}
 use Rattle.spec.specs.Order.{below-of}
 use Rattle.spec.specs.Outcome.{ok}
 use Rattle.spec.specs.Bytes.{write, zeros, blocks-for}
-use Rattle.spec.specs.Header.{Layout, Format, Lawful, Counts, get, changed-header}
+use Rattle.spec.specs.Header.{Layout, Format, Lawful, Counts, get, changed-header, header-bytes, block-position}
 use Rattle.spec.proofs.HeaderLaws.{lawful-format}
 use Rattle.spec.specs.Run.{Run}
 use Rattle.spec.specs.Index as IndexSpec
@@ -18,7 +18,7 @@ use Rattle.spec.specs.Index.{Element, elements-bytes, index-need, index-bytes}
 use Rattle.spec.specs.Blocks as BlocksSpec
 use Rattle.spec.specs.Blocks.{run-blocks, free-blocks, free-list-written}
 use Rattle.spec.specs.Check as CheckSpec
-use Rattle.spec.specs.Check.{Image, data-area, runs-from, image-from, all-entries}
+use Rattle.spec.specs.Check.{Image, runs-from, image-from, all-entries}
 use Rattle.spec.specs.Place as PlaceSpec
 use Rattle.spec.specs.Place.{Plan, element-of, packed, runs-written, plan-packed, plan-counts, plan-written}
 use Rattle.spec.specs.Calls as CallsSpec
@@ -40,7 +40,7 @@ use Rattle.index.specs.Elements as Elements
 use Rattle.index.specs.Elements.{elements-at, elements-end, Inside}
 use Rattle.index.proofs.Laws.{elements-count, ends-inside}
 use Rattle.elements.proofs.Laws.{elements-length}
-use Rattle.header.specs.Form.{layout-named, format-by, index-start, area-start, index-part, data-part}
+use Rattle.header.specs.Form.{layout-named, format-by, index-start, area-start, index-cut, data-cut}
 use Rattle.header.proofs.Laws.{header-front, layout-kept}
 use Rattle.inspect.specs.Overview.{AcceptedImage}
 use Rattle.inspect.specs.declared.Overview.{Overview}
@@ -65,17 +65,6 @@ module _ (s : List ℕ) (v : Overview) (a : AcceptedImage s v) (in-blocks : leng
   abbrev format-here : Format
   format-here = format-by (layout-named s) (v .form)
 
-  -- its index and its data area
-  abbrev old-index : List ℕ
-  old-index = index-part (v .form) s (v .n)
-
-  abbrev old-area : List ℕ
-  old-area = data-part (v .form) s (v .n)
-
-  -- its elements, when there are so many
-  abbrev old-elements : ℕ → List Element
-  old-elements e = elements-at (v .form .width) old-index 0 e
-
   -- the image is the one that is read
   pub the-image : (i : Image) → image-from s ≡ ok i → a .image ≡ i
   the-image i h = same-value (a .image) i (sym (a .is) ∙ h)
@@ -85,7 +74,7 @@ module _ (s : List ℕ) (v : Overview) (a : AcceptedImage s v) (in-blocks : leng
   format-lawful = subst Lawful (accepted-format s v a) (lawful-format s)
 
   -- all its bytes are header, index and data blocks
-  pub old-whole : area-start (v .form) (v .n) + 256 * v .d ≡ length s
+  pub old-whole : block-position (v .form .extended) (v .n) (v .d) ≡ length s
   old-whole = accepted-whole s v a in-blocks
 
   -- packed, it needs no more than there is
@@ -118,38 +107,57 @@ module _ (s : List ℕ) (v : Overview) (a : AcceptedImage s v) (in-blocks : leng
   end-short =
       let few : v .n ≤ 32_767 = omega (arith, accepted-n s v a, frame-fits format-here s (a .image .frame) (accepted-told s v a .frame) .index-few) in
       let e : ℕ = get (layout-named s .nindex2) s in
-      omega (arith, a .end-is, index-few s (v .form) (v .n) (v .d) old-whole few, ends-inside (v .form .width) old-index 0 e (accepted-inside s v a e refl))
+      let start : ℕ = area-start (v .form) (v .n) in
+      omega (
+        arith,
+        a .end-is,
+        index-few s (v .form) (v .n) (v .d) old-whole start refl few,
+        ends-inside (v .form .width) (index-cut (v .form) s start) 0 e (accepted-inside s v a start refl e refl),
+      )
 
-  module _ (e : ℕ) (number : e ≡ get (layout-named s .nindex2) s) where
-    -- the elements are those of the runs
-    elements-are : map element-of (a .image .runs) ≡ old-elements e
-    elements-are = runs-elements (below-of (v .form .order)) (v .d) old-area (old-elements e) (a .image .runs) (accepted-runs s v a e number)
+  -- its data blocks begin at `start`, and it has so many elements
+  module _ (start : ℕ) (here : start ≡ area-start (v .form) (v .n)) (e : ℕ) (number : e ≡ get (layout-named s .nindex2) s) where
+    -- its index and its data area
+    abbrev old-index : List ℕ
+    old-index = index-cut (v .form) s start
+
+    abbrev old-area : List ℕ
+    old-area = data-cut s start
+
+    -- its elements
+    abbrev old-elements : List Element
+    old-elements = elements-at (v .form .width) old-index 0 e
+
+    -- are those of the runs
+    elements-are : map element-of (a .image .runs) ≡ old-elements
+    elements-are = runs-elements (below-of (v .form .order)) (v .d) old-area old-elements (a .image .runs) (accepted-runs s v a start here e number)
 
     -- which have the bytes of their blocks
     runs-sized : Whole (a .image .runs)
-    runs-sized = runs-whole (v .form .order) (v .d) old-area (old-elements e) (a .image .runs) (accepted-area s v a in-blocks) (accepted-runs s v a e number)
+    runs-sized = runs-whole (v .form .order) (v .d) old-area old-elements (a .image .runs) (accepted-area s v a start here in-blocks) (accepted-runs s v a start here e number)
 
     module _ (m : ℕ) (needed : m ≡ blocks-needed e (v .end)) where
       -- the blocks found needed are the specification's
-      need-is : m ≡ index-need (v .form .width) (old-elements e)
-      need-is = needed-is (v .form .width) old-index e m (accepted-inside s v a e number) (needed ∙ rw (a .end-is, number))
+      need-is : m ≡ index-need (v .form .width) old-elements
+      need-is = needed-is (v .form .width) old-index e m (accepted-inside s v a start here e number) (needed ∙ rw (a .end-is, number, here))
 
       -- the new index is no longer than the old one
       pub index-fewer : ((k : ℕ) → getD s k 0 < 256) → m ≤ v .n
       unfolding ClaimSpec.optimise-placing PlaceSpec.plan-packed
       index-fewer bytes =
-          let same : index-need (a .image .frame .format .number-width) (map element-of (a .image .runs)) ≡ index-need (v .form .width) (old-elements e)
+          let same : index-need (a .image .frame .format .number-width) (map element-of (a .image .runs)) ≡ index-need (v .form .width) old-elements
           = ap₂ index-need (ap (λ (F : Format). F .number-width) (image-format s v a)) elements-are in
           omega (arith, need-is, same, accepted-n s v a, no-more bytes .no-longer-index)
 
       -- and holds the elements
-      pub index-holds : index-start (v .form) + length (elements-bytes (v .form .width) (old-elements e)) ≤ area-start (v .form) m
-      index-holds = omega (arith, need-room (v .form .width) (old-elements e) m (omega (arith, need-is)))
+      pub index-holds : index-start (v .form) + length (elements-bytes (v .form .width) old-elements) ≤ area-start (v .form) m
+      index-holds = omega (arith, need-room (v .form .width) old-elements m (omega (arith, need-is)))
 
-    -- runs fit where there is room for their elements in front of them and for their blocks
-    pub runs-fit : (base long : ℕ) → index-start (v .form) + length (elements-bytes (v .form .width) (old-elements e)) ≤ base → base + 256 * run-blocks (a .image .runs) ≤ long
-        → RunsFit (v .form .width) (v .form .order) old-index old-area e (v .d) (index-start (v .form)) base long
-    runs-fit base long p q = record { runs = a .image .runs; read = accepted-runs s v a e number; index-room = p; area-room = q }
+    -- runs fit behind an index that has room for their elements, where there is room for their blocks
+    pub runs-fit : (m long : ℕ) → index-start (v .form) + length (elements-bytes (v .form .width) old-elements) ≤ area-start (v .form) m
+        → block-position (v .form .extended) m (run-blocks (a .image .runs)) ≤ long
+        → RunsFit (v .form .width) (v .form .order) (v .form .extended) old-index old-area e (v .d) (index-start (v .form)) m long
+    runs-fit m long p q = record { runs = a .image .runs; read = accepted-runs s v a start here e number; index-room = p; area-room = q }
 
 -- ---- the slice
 -- packed runs are as many
@@ -179,16 +187,16 @@ packed-counts F rs m words elements blocks e₁ e₂ e₃ e₄ = rw (packed-as-w
 
 -- a slice, and runs that fit in it behind an index of m blocks, by a lawful format
 module _ (F : Format) (lawful : Lawful F) (rs : List Run) (m : ℕ) (need : m ≡ index-need (F .number-width) (map element-of rs)) (sized : Whole rs) (s : List ℕ)
-    (fits : F .header-bytes + 256 * m + 256 * run-blocks rs ≤ length s) where
+    (fits : block-position (F .extended) m (run-blocks rs) ≤ length s) where
   -- the width of block numbers, and where the index and the runs start
   abbrev width : ℕ
   width = F .number-width
 
   abbrev front : ℕ
-  front = F .header-bytes
+  front = header-bytes F
 
   abbrev base : ℕ
-  base = front + 256 * m
+  base = block-position (F .extended) m 0
 
   -- what stands behind them
   abbrev rest : List ℕ
@@ -266,20 +274,20 @@ module _ (F : Format) (lawful : Lawful F) (rs : List Run) (m : ℕ) (need : m �
   plan-is c e =
       let o : Layout = F .layout in
       let l : length with-index ≡ length s = length-write front index with-runs (omega (arith, area-written, index-long)) ∙ area-written in
-      header-front o (lawful .layout-lawful) c with-index front (lawful .header-inside) (omega arith)
+      header-front o (lawful .layout-lawful) c with-index front (omega arith) (omega arith)
       ∙ ap₂ (λ (x y : List ℕ). changed-header o c x ++ y) (front-kept front (omega arith)) back-is
       ∙ sym (append-assoc (changed-header o c (take front s)) index (runs-bytes rs ++ rest))
       ∙ ap₂ (λ (x : Counts) (y : List ℕ). changed-header o x (take front s) ++ index ++ y) e (sym area-is)
       ∙ sym plan-parts
 
   -- the plan's length
-  length-is : plan-length (plan-packed F rs) ≡ base + 256 * run-blocks rs
-  unfolding CallsSpec.plan-length CheckSpec.frame-length CheckSpec.data-start PlaceSpec.plan-packed
+  length-is : plan-length (plan-packed F rs) ≡ block-position (F .extended) m (run-blocks rs)
+  unfolding CallsSpec.plan-length CheckSpec.frame-length PlaceSpec.plan-packed
   length-is = rw need
 
 -- ---- pack
-module _ (s : List ℕ) (v : Overview) (a : AcceptedImage s v) (in-blocks : length s % 256 ≡ 0) (e : ℕ) (number : e ≡ get (layout-named s .nindex2) s)
-    (blocks : ℕ) (counted : blocks ≡ get (layout-named s .nblock2) s)
+module _ (s : List ℕ) (v : Overview) (a : AcceptedImage s v) (in-blocks : length s % 256 ≡ 0) (start : ℕ) (here : start ≡ area-start (v .form) (v .n))
+    (e : ℕ) (number : e ≡ get (layout-named s .nindex2) s) (blocks : ℕ) (counted : blocks ≡ get (layout-named s .nblock2) s)
     (m : ℕ) (needed : m ≡ blocks-needed e (v .end)) (bytes : (k : ℕ) → getD s k 0 < 256) where
   -- the runs, and the format
   abbrev runs : List Run
@@ -296,11 +304,11 @@ module _ (s : List ℕ) (v : Overview) (a : AcceptedImage s v) (in-blocks : leng
   runs-at = area-start (v .form) m
 
   abbrev new-end : ℕ
-  new-end = runs-at + 256 * blocks
+  new-end = block-position (v .form .extended) m blocks
 
   -- the blocks that their index needs,
   need-of : m ≡ index-need (v .form .width) (map element-of runs)
-  need-of = need-is s v a in-blocks e number m needed ∙ ap (index-need (v .form .width)) (sym (elements-are s v a in-blocks e number))
+  need-of = need-is s v a in-blocks start here e number m needed ∙ ap (index-need (v .form .width)) (sym (elements-are s v a in-blocks start here e number))
 
   -- their blocks,
   blocks-of : blocks ≡ run-blocks runs
@@ -308,7 +316,7 @@ module _ (s : List ℕ) (v : Overview) (a : AcceptedImage s v) (in-blocks : leng
 
   -- and how many they are
   elements-of : e ≡ length runs
-  elements-of = sym (elements-count (v .form .width) (index-part (v .form) s (v .n)) 0 e) ∙ ap length (sym (elements-are s v a in-blocks e number)) ∙ length-map runs element-of
+  elements-of = sym (elements-count (v .form .width) (index-cut (v .form) s start) 0 e) ∙ ap length (sym (elements-are s v a in-blocks start here e number)) ∙ length-map runs element-of
 
   -- the plan of the image that is read
   same-plan : (i : Image) → image-from s ≡ ok i → plan-packed format runs ≡ plan-packed (i .frame .format) (i .runs)
@@ -318,37 +326,38 @@ module _ (s : List ℕ) (v : Overview) (a : AcceptedImage s v) (in-blocks : leng
 
   -- the new length is no longer than the old one
   pub packed-shorter : new-end ≤ length s
-  packed-shorter = omega (arith, old-whole s v a in-blocks, blocks-of, blocks-few s v a in-blocks bytes, index-fewer s v a in-blocks e number m needed bytes)
+  packed-shorter = omega (arith, old-whole s v a in-blocks, blocks-of, blocks-few s v a in-blocks bytes, index-fewer s v a in-blocks start here e number m needed bytes)
 
   -- and is the plan's
-  pub packed-length : (i : Image) → image-from s ≡ ok i → new-end ≡ plan-length (plan-packed (i .frame .format) (i .runs))
-  packed-length i h =
-      ap (λ (b : ℕ). runs-at + 256 * b) blocks-of
-      ∙ sym (length-is format (format-lawful s v a in-blocks) runs m need-of (runs-sized s v a in-blocks e number) s (omega (arith, packed-shorter, blocks-of)))
+  pub packed-length : (len : ℕ) → len ≡ new-end → (i : Image) → image-from s ≡ ok i → len ≡ plan-length (plan-packed (i .frame .format) (i .runs))
+  packed-length len ends i h =
+      ends
+      ∙ ap (block-position (v .form .extended) m) blocks-of
+      ∙ sym (length-is format (format-lawful s v a in-blocks) runs m need-of (runs-sized s v a in-blocks start here e number) s (omega (arith, packed-shorter, blocks-of)))
       ∙ ap plan-length (same-plan i h)
 
   -- the stores of packing give the specification's slice
-  pub packed-image : (image image₁ image₂ image₃ image₄ : List ℕ) (out : ℕ) → length s ≤ length image → take (length s) image ≡ s
-      → ((rs : List Run) → runs-from (below-of (v .form .order)) (v .d) (data-part (v .form) s (v .n)) (elements-at (v .form .width) (index-part (v .form) s (v .n)) 0 e) ≡ ok rs
+  pub packed-image : (image image₁ image₂ image₃ image₄ : List ℕ) (out base len : ℕ) → base ≡ runs-at → len ≡ new-end → length s ≤ length image → take (length s) image ≡ s
+      → ((rs : List Run) → runs-from (below-of (v .form .order)) (v .d) (data-cut s start) (elements-at (v .form .width) (index-cut (v .form) s start) 0 e) ≡ ok rs
       → image₁ ≡ runs-packed (v .form .width) index-at runs-at rs image)
-      → out ≡ index-at + length (elements-bytes (v .form .width) (elements-at (v .form .width) (index-part (v .form) s (v .n)) 0 e))
-      → image₂ ≡ write out (zeros (runs-at - out)) image₁
+      → out ≡ index-at + length (elements-bytes (v .form .width) (elements-at (v .form .width) (index-cut (v .form) s start) 0 e))
+      → image₂ ≡ write out (zeros (base - out)) image₁
       → image₃ ≡ changed-header (layout-named image₂) (record { index-blocks = m; entries = v .words; first-free = 4294967295; elements = e; run-blocks = blocks }) image₂
-      → image₄ ≡ write new-end (zeros (length s - new-end)) image₃
+      → image₄ ≡ write len (zeros (length s - len)) image₃
       → (i : Image) → image-from s ≡ ok i
       → image₄ ≡ given-up-zeroed (length s) (plan-packed (i .frame .format) (i .runs)) (plan-written (plan-packed (i .frame .format) (i .runs)) image)
   unfolding CallsSpec.given-up-zeroed CheckSpec.entries-of
-  packed-image image image₁ image₂ image₃ image₄ out long same e₁ e₂ e₃ e₄ e₅ i h =
+  packed-image image image₁ image₂ image₃ image₄ out base len starts ends long same e₁ e₂ e₃ e₄ e₅ i h =
       let w : ℕ = v .form .width in
       let lawful : Lawful format = format-lawful s v a in-blocks in
-      let sized : Whole runs = runs-sized s v a in-blocks e number in
-      let fits : runs-at + 256 * run-blocks runs ≤ length image = omega (arith, packed-shorter, blocks-of) in
+      let sized : Whole runs = runs-sized s v a in-blocks start here e number in
+      let fits : block-position (v .form .extended) m (run-blocks runs) ≤ length image = omega (arith, packed-shorter, blocks-of) in
       let o : out ≡ index-at + length (packed-elements w 0 runs) = e₂
-      ∙ ap (λ (es : List Element). index-at + length (elements-bytes w es)) (sym (elements-are s v a in-blocks e number))
+      ∙ ap (λ (es : List Element). index-at + length (elements-bytes w es)) (sym (elements-are s v a in-blocks start here e number))
       ∙ ap (λ (k : ℕ). index-at + k) (sym (packed-same w 0 runs)) in
-      let x₁ : image₁ ≡ runs-packed w index-at runs-at runs image = e₁ runs (accepted-runs s v a e number) in
+      let x₁ : image₁ ≡ runs-packed w index-at runs-at runs image = e₁ runs (accepted-runs s v a start here e number) in
       let x₂ : image₂ ≡ with-index format lawful runs m need-of sized image fits
-      = e₃ ∙ ap (write out (zeros (runs-at - out))) x₁ ∙ index-written format lawful runs m need-of sized image fits out o in
+      = e₃ ∙ ap₂ (λ (q : ℕ) (z : List ℕ). write out (zeros (q - out)) z) starts x₁ ∙ index-written format lawful runs m need-of sized image fits out o in
       let header : take 256 image₂ ≡ take 256 s
       = ap (take 256) x₂
       ∙ front-kept format lawful runs m need-of sized image fits 256 (omega arith)
@@ -359,7 +368,7 @@ module _ (s : List ℕ) (v : Overview) (a : AcceptedImage s v) (in-blocks : leng
       let x₃ : image₃ ≡ plan-written (plan-packed format runs) image = e₄
       ∙ ap₂ (λ (y : Layout) (z : List ℕ). changed-header y c z) (layout-kept image₂ s header) x₂
       ∙ plan-is format lawful runs m need-of sized image fits c k in
-      let l : new-end ≡ plan-length (plan-packed format runs) = packed-length (a .image) (a .is) ∙ ap plan-length (sym (same-plan (a .image) (a .is))) in
+      let l : len ≡ plan-length (plan-packed format runs) = packed-length len ends (a .image) (a .is) ∙ ap plan-length (sym (same-plan (a .image) (a .is))) in
       e₅
       ∙ ap₂ (λ (q : ℕ) (z : List ℕ). write q (zeros (length s - q)) z) l x₃
       ∙ ap (λ (p : Plan). given-up-zeroed (length s) p (plan-written p image)) (same-plan i h)

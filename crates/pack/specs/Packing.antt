@@ -1,11 +1,12 @@
 -- Runs written one after the other, and their elements, as the code writes them.
-use Prim.Native.Nat.{ℕ, zero, suc, _+_, _*_, _≤_}
+use Prim.Native.Nat.{ℕ, zero, suc, _+_, _≤_}
 use mathlib.Core.Path.{_≡_}
 use mathlib.Core.List.{List, [], _∷_, _++_, map}
 use lib.ListN.{length}
 use Rattle.spec.specs.Order.{below-of}
 use Rattle.spec.specs.Outcome.{ok}
 use Rattle.spec.specs.Bytes.{write, blocks-for}
+use Rattle.spec.specs.Header.{block-position}
 use Rattle.spec.specs.Run.{Run}
 use Rattle.spec.specs.Index.{elements-bytes}
 use Rattle.spec.specs.Blocks.{run-blocks}
@@ -31,12 +32,12 @@ packed-elements width b rs = elements-bytes width (map element-of (packed b rs))
 unfoldable pub runs-packed : ℕ → ℕ → ℕ → List Run → List ℕ → List ℕ
 runs-packed width front base rs s = write front (packed-elements width 0 rs) (write base (runs-bytes rs) s)
 
--- the runs of an index and a data area are read; their elements fit between `front` and `base`, and they from there on in a slice of that length
-pub record RunsFit (width order : ℕ) (index area : List ℕ) (elements d front base long : ℕ) : Type 0 where
+-- the runs of an index and a data area are read; their elements fit from `front` on in an index of m blocks, and they behind it in a slice of that length
+pub record RunsFit (width order extended : ℕ) (index area : List ℕ) (elements d front m long : ℕ) : Type 0 where
   pub runs : List Run
   pub read : runs-from (below-of order) d area (elements-at width index 0 elements) ≡ ok runs
-  pub index-room : front + length (elements-bytes width (elements-at width index 0 elements)) ≤ base
-  pub area-room : base + 256 * run-blocks runs ≤ long
+  pub index-room : front + length (elements-bytes width (elements-at width index 0 elements)) ≤ block-position extended m 0
+  pub area-room : block-position extended m (run-blocks runs) ≤ long
 
 -- names all definitions of this module: who unfolds it unfolds them
 unfoldable pub open-packing : Unit {0}

@@ -11,7 +11,7 @@ ghost use Rattle.spec.specs.Calls.{plan-length, given-up-zeroed};
 ghost use Rattle.spec.specs.Index.{elements-bytes};
 ghost use Rattle.spec.specs.Run.{Run};
 ghost use Rattle.byteops.specs.Width.{Width};
-ghost use Rattle.header.specs.Form.{index-start};
+ghost use Rattle.header.specs.Form.{index-start, area-start};
 ghost use Rattle.index.specs.Elements.{elements-at, Inside};
 ghost use Rattle.inspect.specs.Overview.{AcceptedImage};
 ghost use Rattle.pack.specs.Packing.{blocks-needed, runs-packed, RunsFit};
@@ -34,12 +34,12 @@ fn need(elements: usize, bytes: usize) -> usize
     (bytes + 259) / 256
 }
 
-// Writes the runs of the old index and data area one after the other from `base` on, and their elements from the index's start on;
+// Writes the runs of the old index and data area one after the other behind an index of m blocks, and their elements from its start on;
 // answers where the elements end. Stops at a run that breaks row 7; the runs of an accepted image do not.
 fn write_runs(
     form: Form,
     image: &mut [u8],
-    base: usize,
+    m: usize,
     index: &[u8],
     elements: usize,
     area: &[u8],
@@ -47,14 +47,15 @@ fn write_runs(
 ) -> usize
     requires { ⌜ Width (form .width) × Inside (form .width) (now index) 0 elements ⌝ }
     requires { ⌜ (256 * d ≡ length (now area)) × (d ≤ 16777215) ⌝ }
-    requires { ⌜ RunsFit (form .width) (form .order) (now index) (now area) elements d (index-start form) base (length (now image)) ⌝ }
+    requires { ⌜ RunsFit (form .width) (form .order) (form .extended) (now index) (now area) elements d (index-start form) m (length (now image)) ⌝ }
     ensures { λ r. ⌜ ((rs : List Run) → runs-from (below-of (form .order)) d (now (area .entry)) (elements-at (form .width) (now (index .entry)) 0 elements) ≡ ok rs
-        → now (image .exit) ≡ runs-packed (form .width) (index-start form) base rs (now (image .entry))) ⌝ }
+        → now (image .exit) ≡ runs-packed (form .width) (index-start form) (area-start form m) rs (now (image .entry))) ⌝ }
     ensures { λ r. ⌜ r ≡ index-start form + length (elements-bytes (form .width) (elements-at (form .width) (now (index .entry)) 0 elements)) ⌝ }
     ensures { λ r. ⌜ length (now (image .exit)) ≡ length (now (image .entry)) ⌝ }
 {
     let width = form.width;
-    let front = HEADER + form.extended;
+    let extended = form.extended;
+    let front = HEADER + extended;
     let mut at = 0;
     let mut out = front;
     let mut b = 0;
@@ -69,7 +70,8 @@ fn write_runs(
                 return out;
             }
             Size::Blocks(blocks) => {
-                byteops::copy(image, base + 256 * b, area, 256 * from, 256 * blocks);
+                let to = header::position(extended, m, b);
+                byteops::copy(image, to, area, 256 * from, 256 * blocks);
                 out = elements::put_element(width, image, out, b, &index[at + width..end]);
                 b += blocks;
             }
@@ -91,16 +93,16 @@ pub fn pack(image: &mut [u8], old: &[u8], v: Overview) -> usize
     ensures { λ r. ⌜ length (now (image .exit)) ≡ length (now (image .entry)) ⌝ }
 {
     let front = HEADER + v.form.extended;
-    let start = front + 256 * v.n;
+    let start = header::position(v.form.extended, v.n, 0);
     let index = &old[front..start];
     let elements = header::nindex2(old);
     let blocks = header::nblock2(old);
     let m = need(elements, v.end);
-    let data = front + 256 * m;
-    let out = write_runs(v.form, image, data, index, elements, &old[start..], v.d);
+    let data = header::position(v.form.extended, m, 0);
+    let out = write_runs(v.form, image, m, index, elements, &old[start..], v.d);
     byteops::fill_zero(image, out, data - out);
     header::write_counts(image, m, v.words, LIST_END, elements, blocks);
-    let len = data + 256 * blocks;
+    let len = header::position(v.form.extended, m, blocks);
     byteops::fill_zero(image, len, old.len() - len);
     len
 }

@@ -1,17 +1,17 @@
 -- How many runs a plan has, and how many blocks they take.
-use Prim.Native.Nat.{ℕ, _+_, _-_, _*_, _≤_, max}
+use Prim.Native.Nat.{ℕ, _+_, _-_, _≤_, max}
 use mathlib.Core.Bool.{not}
 use mathlib.Core.Path.{_≡_, refl}
 use mathlib.Core.List.{List, [], _∷_, _++_, map}
 use native.Mathlib.Omega.{arith}
 use lib.ListN.{length, length-append, length-map}
 use Rattle.spec.specs.Lists.{filter}
-use Rattle.spec.specs.Header.{Format}
+use Rattle.spec.specs.Header.{Format, block-position}
 use Rattle.spec.specs.Entry.{Entry}
 use Rattle.spec.specs.Run.{Run}
 use Rattle.spec.specs.Index.{index-need}
 use Rattle.spec.specs.Blocks.{place-for, run-blocks}
-use Rattle.spec.specs.Check.{Image, data-start, frame-length}
+use Rattle.spec.specs.Check.{Image, frame-length}
 use Rattle.spec.specs.Place.{Target, Placed, Move, Grown, target-run, cut, new-run, at-block, with-run, place, element-of, in-number-order, touches, renumbered, grown, plan-change}
 use Rattle.spec.specs.Calls.{plan-length}
 use Rattle.placing.proofs.SpreadLaws.{place-grows}
@@ -94,8 +94,8 @@ grown-blocks-kept g D before after =
 
 -- an insertion or a deletion never shortens the image
 pub change-longer : (F : Format) (i : Image) (h : List ℕ) (f : List Entry → List Entry)
-    → F .header-bytes + 256 * i .frame .index-blocks + 256 * i .frame .data-blocks ≤ plan-length (plan-change F i h f)
-unfolding plan-change plan-length frame-length data-start
+    → block-position (F .extended) (i .frame .index-blocks) (i .frame .data-blocks) ≤ plan-length (plan-change F i h f)
+unfolding plan-change plan-length frame-length
 change-longer F i h f =
     let c : Target = target-run (F .below) h (i .runs) in
     let ps : List Run = map new-run (cut (F .run-limit) (f (c .entries))) in

@@ -1,5 +1,5 @@
 -- The plan of a change by its numbers: where the new runs go, when there is no room, and what is written then.
-use Prim.Native.Nat.{ℕ, _+_, _-_, _*_, _≤_, _<_, max}
+use Prim.Native.Nat.{ℕ, _+_, _-_, _≤_, _<_, max}
 use mathlib.Core.Path.{_≡_, refl, sym, ap, ap₂, subst, _∙_}
 use mathlib.Core.Bool.{Bool, true, false, _||_}
 use mathlib.Core.List.{List, [], _∷_, _++_, map, append-assoc}
@@ -9,7 +9,7 @@ use lib.ListN.{length, take, drop}
 use lib.Dec.{ltb}
 use borrow.Author.Tests.{lt-ltb, le-ltb}
 use Rattle.spec.specs.Bytes.{blocks-for}
-use Rattle.spec.specs.Header.{Format, changed-header}
+use Rattle.spec.specs.Header.{Format, changed-header, header-bytes, block-position}
 use Rattle.spec.specs.Entry.{Entry}
 use Rattle.spec.specs.Run.{Run, run-size, encoded-size}
 use Rattle.spec.specs.Index.{index-need, index-bytes}
@@ -60,35 +60,35 @@ plan-parts F i h f n d g en ed qs e eg =
     (plan-is F i h f n d g en ed k)
 
 -- row 15 by the numbers of a plan
-pub full-is : (F : Format) (s : List ℕ) (n D : ℕ) (rs : List Run) → plan-full s (plan-of F n D rs) ≡ (ltb (length s) (F .header-bytes + 256 * n + 256 * D) || ltb (F .most-blocks) D || ltb 32_767 n)
-unfolding plan-full frame-length data-start
+pub full-is : (F : Format) (s : List ℕ) (n D : ℕ) (rs : List Run) → plan-full s (plan-of F n D rs) ≡ (ltb (length s) (block-position (F .extended) n D) || ltb (F .most-blocks) D || ltb 32_767 n)
+unfolding plan-full frame-length
 full-is F s n D rs = refl
 
 pub full-index : (F : Format) (s : List ℕ) (n D : ℕ) (rs : List Run) → 32_767 < n → plan-full s (plan-of F n D rs) ≡ true
-full-index F s n D rs h = full-is F s n D rs ∙ rw (lt-ltb 32_767 n h) (or-right (ltb (length s) (F .header-bytes + 256 * n + 256 * D) || ltb (F .most-blocks) D) true refl)
+full-index F s n D rs h = full-is F s n D rs ∙ rw (lt-ltb 32_767 n h) (or-right (ltb (length s) (block-position (F .extended) n D) || ltb (F .most-blocks) D) true refl)
 
 pub full-blocks : (F : Format) (s : List ℕ) (n D : ℕ) (rs : List Run) → F .most-blocks < D → plan-full s (plan-of F n D rs) ≡ true
-full-blocks F s n D rs h = full-is F s n D rs ∙ rw (lt-ltb (F .most-blocks) D h) (or-middle (ltb (length s) (F .header-bytes + 256 * n + 256 * D)) (ltb 32_767 n))
+full-blocks F s n D rs h = full-is F s n D rs ∙ rw (lt-ltb (F .most-blocks) D h) (or-middle (ltb (length s) (block-position (F .extended) n D)) (ltb 32_767 n))
   where
     or-middle : (t u : Bool) → t || true || u ≡ true
     or-middle true u = refl
     or-middle false u = refl
 
-pub full-length : (F : Format) (s : List ℕ) (n D : ℕ) (rs : List Run) → length s < F .header-bytes + 256 * n + 256 * D → plan-full s (plan-of F n D rs) ≡ true
-full-length F s n D rs h = full-is F s n D rs ∙ rw (lt-ltb (length s) (F .header-bytes + 256 * n + 256 * D) h)
+pub full-length : (F : Format) (s : List ℕ) (n D : ℕ) (rs : List Run) → length s < block-position (F .extended) n D → plan-full s (plan-of F n D rs) ≡ true
+full-length F s n D rs h = full-is F s n D rs ∙ rw (lt-ltb (length s) (block-position (F .extended) n D) h)
 
-pub full-not : (F : Format) (s : List ℕ) (n D : ℕ) (rs : List Run) → F .header-bytes + 256 * n + 256 * D ≤ length s → D ≤ F .most-blocks → n ≤ 32_767 → plan-full s (plan-of F n D rs) ≡ false
-full-not F s n D rs a b c = full-is F s n D rs ∙ rw (le-ltb (length s) (F .header-bytes + 256 * n + 256 * D) a, le-ltb (F .most-blocks) D b, le-ltb 32_767 n c)
+pub full-not : (F : Format) (s : List ℕ) (n D : ℕ) (rs : List Run) → block-position (F .extended) n D ≤ length s → D ≤ F .most-blocks → n ≤ 32_767 → plan-full s (plan-of F n D rs) ≡ false
+full-not F s n D rs a b c = full-is F s n D rs ∙ rw (le-ltb (length s) (block-position (F .extended) n D) a, le-ltb (F .most-blocks) D b, le-ltb 32_767 n c)
 
 -- its length
-pub length-is : (F : Format) (n D : ℕ) (rs : List Run) → plan-length (plan-of F n D rs) ≡ F .header-bytes + 256 * n + 256 * D
-unfolding plan-length frame-length data-start
+pub length-is : (F : Format) (n D : ℕ) (rs : List Run) → plan-length (plan-of F n D rs) ≡ block-position (F .extended) n D
+unfolding plan-length frame-length
 length-is F n D rs = refl
 
 -- and what it writes
 pub written-is : (F : Format) (s : List ℕ) (n D : ℕ) (rs : List Run) → plan-written (plan-of F n D rs) s
-    ≡ changed-header (F .layout) (plan-counts (plan-of F n D rs)) (take (F .header-bytes) s) ++ index-bytes (F .number-width) n (map element-of rs)
-    ++ free-list-written (free-blocks rs D) (runs-written rs (drop (F .header-bytes + 256 * n) s))
+    ≡ changed-header (F .layout) (plan-counts (plan-of F n D rs)) (take (header-bytes F) s) ++ index-bytes (F .number-width) n (map element-of rs)
+    ++ free-list-written (free-blocks rs D) (runs-written rs (drop (block-position (F .extended) n 0) s))
 unfolding plan-written data-area data-start
 written-is F s n D rs = refl
 

@@ -6,7 +6,7 @@ use native.Mathlib.Omega.{arith}
 use lib.ListN.{length, take, drop, length-append, length-drop}
 use lib.Seq.{take-at, drop-at, length-take-le, take-take, drop-length}
 use Rattle.spec.specs.Bytes.{write, zeros}
-use Rattle.spec.specs.Header.{Layout, Format, Lawful, Counts, changed-header}
+use Rattle.spec.specs.Header.{Layout, Format, Lawful, Counts, changed-header, header-bytes, block-position}
 use Rattle.spec.specs.Entry.{Entry}
 use Rattle.spec.specs.Run.{Run, run-bytes}
 use Rattle.spec.specs.Index.{Element, element-bytes, elements-bytes, index-bytes}
@@ -49,21 +49,21 @@ front-back at i j x r H A h e =
     rw (write-right i r H A (omega arith), k) (write-left at x H (write j r A) h)
 
 -- parts written over a front and the blocks behind it: the elements go into the front, the runs behind it
-pub parts-apart : (width start g at : ℕ) (bs : List ℕ) (ps : List (List Entry)) (H A : List ℕ) → length H ≡ start + 256 * g → All (λ b. g ≤ b) bs
+pub parts-apart : (width extended index g at : ℕ) (bs : List ℕ) (ps : List (List Entry)) (H A : List ℕ) → length H ≡ block-position extended index g → All (λ b. g ≤ b) bs
     → at + length (elements-bytes width (map element-of (part-runs g bs ps))) ≤ length H
-    → parts-written width start g at bs ps (H ++ A) ≡ write at (elements-bytes width (map element-of (part-runs g bs ps))) H ++ runs-put (part-runs g bs ps) A
+    → parts-written width extended index g at bs ps (H ++ A) ≡ write at (elements-bytes width (map element-of (part-runs g bs ps))) H ++ runs-put (part-runs g bs ps) A
 unfolding parts-written part-runs runs-put elements-bytes
-parts-apart width start g at [] ps H A l a r = ap (λ x. x ++ A) (sym (write-none H at))
-parts-apart width start g at (b ∷ bs) [] H A l a r = ap (λ x. x ++ A) (sym (write-none H at))
-parts-apart width start g at (b ∷ bs) (p ∷ ps) H A l (a, as′) r =
+parts-apart width extended index g at [] ps H A l a r = ap (λ x. x ++ A) (sym (write-none H at))
+parts-apart width extended index g at (b ∷ bs) [] H A l a r = ap (λ x. x ++ A) (sym (write-none H at))
+parts-apart width extended index g at (b ∷ bs) (p ∷ ps) H A l (a, as′) r =
     let x : List ℕ = element-bytes width (part-element (b - g) p) in
     let y : List ℕ = elements-bytes width (map element-of (part-runs g bs ps)) in
     let e : element-bytes width (element-of (at-block (b - g) (new-run p))) ≡ x = ap (element-bytes width) (part-element-is g b p) in
     let q : length (element-bytes width (element-of (at-block (b - g) (new-run p))) ++ y) ≡ length x + length y = ap (λ (z : List ℕ). length (z ++ y)) e ∙ length-append x y in
     let t : at + (length x + length y) ≤ length H = omega (arith, r, q) in
     let m : length (write at x H) ≡ length H = length-write at x H (omega arith) in
-    ap (parts-written width start g (at + length x) bs ps) (front-back at (start + 256 * b) (256 * (b - g)) x (run-bytes p) H A (omega arith) (omega arith))
-    ∙ parts-apart width start g (at + length x) bs ps (write at x H) (write (256 * (b - g)) (run-bytes p) A) (m ∙ l) as′ (omega arith)
+    ap (parts-written width extended index g (at + length x) bs ps) (front-back at (block-position extended index b) (256 * (b - g)) x (run-bytes p) H A (omega arith) (omega arith))
+    ∙ parts-apart width extended index g (at + length x) bs ps (write at x H) (write (256 * (b - g)) (run-bytes p) A) (m ∙ l) as′ (omega arith)
     ∙ ap₂ (λ (u v : List ℕ). u ++ v) (write-behind H x y at (omega arith) ∙ ap (λ (z : List ℕ). write at (z ++ y) H) (sym e))
     (ap₂ (λ (k : ℕ) (z : List ℕ). runs-put (part-runs g bs ps) (write (256 * k) z A)) (sym (part-block (b - g) p)) (sym (part-bytes (b - g) p)))
 
@@ -134,7 +134,7 @@ module _ (F : Format) (s : List ℕ) (n g D : ℕ) (mb ma : List Run) (bs : List
   width = F .number-width
 
   abbrev header : ℕ
-  header = F .header-bytes
+  header = header-bytes F
 
   abbrev q : List Run
   q = part-runs g bs parts
@@ -151,12 +151,9 @@ module _ (F : Format) (s : List ℕ) (n g D : ℕ) (mb ma : List Run) (bs : List
   abbrev A : List ℕ
   A = elements-bytes width (map element-of ma)
 
-  abbrev start : ℕ
-  start = header + 256 * n
-
   -- header and index take so many bytes
   abbrev front : ℕ
-  front = start + 256 * g
+  front = block-position (F .extended) n g
 
   abbrev end : ℕ
   end = header + length B + length P + length A
@@ -195,7 +192,7 @@ module _ (F : Format) (s : List ℕ) (n g D : ℕ) (mb ma : List Run) (bs : List
     pub sides : (s₁ s₂ s₃ s₄ s₅ : List ℕ)
         → s₁ ≡ take front s ++ runs-written (mb ++ ma) (drop front s)
         → s₂ ≡ write header B s₁
-        → s₃ ≡ parts-written width start g (header + length B) bs parts s₂
+        → s₃ ≡ parts-written width (F .extended) n g (header + length B) bs parts s₂
         → s₄ ≡ write (header + length B + length P) A s₃
         → s₅ ≡ write end Z s₄
         → s₅ ≡ take header s ++ index-bytes width (n + g) (map element-of all) ++ blocks
@@ -208,7 +205,8 @@ module _ (F : Format) (s : List ℕ) (n g D : ℕ) (mb ma : List Run) (bs : List
         = length-write (header + length B + length P) A (write (header + length B) P (write header B H)) (omega (arith, h, l₂)) ∙ l₂ in
         let d₂ : s₂ ≡ write header B H ++ Y = e₂ ∙ ap (write header B) e₁ ∙ write-left header B H Y (omega (arith, h)) in
         let d₃ : s₃ ≡ write (header + length B) P (write header B H) ++ runs-put q Y
-        = e₃ ∙ ap (parts-written width start g (header + length B) bs parts) d₂ ∙ parts-apart width start g (header + length B) bs parts (write header B H) Y (l₁ ∙ h) above (omega (arith, h, l₁)) in
+        = e₃ ∙ ap (parts-written width (F .extended) n g (header + length B) bs parts) d₂
+        ∙ parts-apart width (F .extended) n g (header + length B) bs parts (write header B H) Y (l₁ ∙ h) above (omega (arith, h, l₁)) in
         let d₄ : s₄ ≡ write (header + length B + length P) A (write (header + length B) P (write header B H)) ++ runs-put q Y
         = e₄ ∙ ap (write (header + length B + length P) A) d₃ ∙ write-left (header + length B + length P) A (write (header + length B) P (write header B H)) (runs-put q Y) (omega (arith, h, l₂)) in
         let w : take header H ≡ take header s = take-take header front s (omega arith) in
@@ -218,13 +216,13 @@ module _ (F : Format) (s : List ℕ) (n g D : ℕ) (mb ma : List Run) (bs : List
         ∙ ap₂ (λ (u v : List ℕ). u ++ v ++ blocks) w (sym index-is)
 
 -- the free list and the header written last
-pub sealed : (F : Format) → Lawful F → (s s₅ s₆ s₇ I blocks bs : List ℕ) (front : ℕ) (counts : Counts) → F .header-bytes ≤ length s → length I + F .header-bytes ≡ front
-    → s₅ ≡ take (F .header-bytes) s ++ I ++ blocks
+pub sealed : (F : Format) → Lawful F → (s s₅ s₆ s₇ I blocks bs : List ℕ) (front : ℕ) (counts : Counts) → header-bytes F ≤ length s → length I + header-bytes F ≡ front
+    → s₅ ≡ take (header-bytes F) s ++ I ++ blocks
     → s₆ ≡ take front s₅ ++ free-list-written bs (drop front s₅)
     → s₇ ≡ changed-header (F .layout) counts s₆
-    → s₇ ≡ changed-header (F .layout) counts (take (F .header-bytes) s) ++ I ++ free-list-written bs blocks
+    → s₇ ≡ changed-header (F .layout) counts (take (header-bytes F) s) ++ I ++ free-list-written bs blocks
 sealed F law s s₅ s₆ s₇ I blocks bs front counts h l d e₆ e₇ =
-    let header : ℕ = F .header-bytes in
+    let header : ℕ = header-bytes F in
     let o : Layout = F .layout in
     let K : List ℕ = take header s in
     let L : List ℕ = free-list-written bs blocks in
@@ -234,6 +232,6 @@ sealed F law s s₅ s₆ s₇ I blocks bs front counts h l d e₆ e₇ =
     let u : drop front s₅ ≡ blocks = ap (drop front) d ∙ drop-at (K ++ I) blocks front c in
     let v : s₆ ≡ K ++ (I ++ L) = e₆ ∙ ap₂ (λ (y z : List ℕ). y ++ free-list-written bs z) t u ∙ append-assoc K I L in
     e₇ ∙ ap (changed-header o counts) v
-    ∙ header-front o (law .layout-lawful) counts (K ++ (I ++ L)) header (law .header-inside) (omega (arith, length-append K (I ++ L)))
+    ∙ header-front o (law .layout-lawful) counts (K ++ (I ++ L)) header (omega arith) (omega (arith, length-append K (I ++ L)))
     ∙ ap₂ (λ (y z : List ℕ). changed-header o counts y ++ z) (take-at K (I ++ L) header k) (drop-at K (I ++ L) header k)
     ∙ sym (append-assoc (changed-header o counts K) I L)

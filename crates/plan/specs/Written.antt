@@ -3,6 +3,7 @@ use Prim.Native.Nat.{ℕ, _+_, _-_, _*_}
 use mathlib.Core.List.{List, [], _∷_}
 use lib.ListN.{length}
 use Rattle.spec.specs.Bytes.{write}
+use Rattle.spec.specs.Header.{block-position}
 use Rattle.spec.specs.Entry.{Entry}
 use Rattle.spec.specs.Run.{Run, run-bytes}
 use Rattle.spec.specs.Index.{Element, element-bytes}
@@ -12,14 +13,14 @@ use Rattle.spec.specs.Place.{first-headword, at-block, new-run}
 unfoldable pub part-element : ℕ → List Entry → Element
 part-element b p = record { block = b; headword = first-headword p }
 
--- Parts written at their places, counted from `start` on, and their elements, with block numbers of `width` bytes, from `at` on; the elements'
--- numbers are g lower.
-unfoldable pub parts-written : ℕ → ℕ → ℕ → ℕ → List ℕ → List (List Entry) → List ℕ → List ℕ
-parts-written width start g at [] ps s = s
-parts-written width start g at (b ∷ bs) [] s = s
-parts-written width start g at (b ∷ bs) (p ∷ ps) s =
+-- Parts written at their blocks' positions, behind an extended header of so many bytes and so many index blocks, and their elements, with block
+-- numbers of `width` bytes, from `at` on; the elements' numbers are g lower.
+unfoldable pub parts-written : ℕ → ℕ → ℕ → ℕ → ℕ → List ℕ → List (List Entry) → List ℕ → List ℕ
+parts-written width extended index g at [] ps s = s
+parts-written width extended index g at (b ∷ bs) [] s = s
+parts-written width extended index g at (b ∷ bs) (p ∷ ps) s =
     let element : List ℕ = element-bytes width (part-element (b - g) p) in
-    parts-written width start g (at + length element) bs ps (write at element (write (start + 256 * b) (run-bytes p) s))
+    parts-written width extended index g (at + length element) bs ps (write at element (write (block-position extended index b) (run-bytes p) s))
 
 -- parts as runs at their places, numbered g lower
 unfoldable pub part-runs : ℕ → List ℕ → List (List Entry) → List Run

@@ -33,7 +33,7 @@ use Rattle.runs.proofs.Laws.{attribute-in, text-in}
 use Rattle.seek.specs.Spot as SpotSpec
 use Rattle.seek.specs.Spot.{spot-entry}
 use Rattle.seek.specs.declared.Spot.{Spot}
-use Rattle.header.specs.Form.{layout-named, index-part, data-part}
+use Rattle.header.specs.Form.{layout-named, area-start, index-cut, data-cut}
 use Rattle.inspect.specs.Overview.{AcceptedImage}
 use Rattle.inspect.specs.declared.Overview.{Overview}
 use Rattle.inspect.proofs.Accepted.{accepted-area, accepted-sought, accepted-lookup}
@@ -68,15 +68,15 @@ module _ (s h out : List ℕ) (v : Overview) (a : AcceptedImage s v) (whole : le
   unfolding Calls.look-up-result Answers.look-up-answer Calls.look-up-in
   look-up-twelve q i o = rw (← rule, q)
 
-  module _ (q : not t ≡ false) (e : ℕ) (number : e ≡ get (layout-named s .nindex2) s) (word : List ℕ) (p : Spot)
-      (sought : (D : ℕ) → 256 * D ≡ length (data-part (v .form) s (v .n)) → (rs : List Run)
-      → runs-from (below-of (v .form .order)) D (data-part (v .form) s (v .n)) (elements-at (v .form .width) (index-part (v .form) s (v .n)) 0 e) ≡ ok rs
-      → spot-entry (data-part (v .form) s (v .n)) word p ≡ successor (below-of (v .form .order)) false h (all-entries rs))
+  module _ (q : not t ≡ false) (start : ℕ) (here : start ≡ area-start (v .form) (v .n)) (e : ℕ) (number : e ≡ get (layout-named s .nindex2) s) (word : List ℕ) (p : Spot)
+      (sought : (D : ℕ) → 256 * D ≡ length (data-cut s start) → (rs : List Run)
+      → runs-from (below-of (v .form .order)) D (data-cut s start) (elements-at (v .form .width) (index-cut (v .form) s start) 0 e) ≡ ok rs
+      → spot-entry (data-cut s start) word p ≡ successor (below-of (v .form .order)) false h (all-entries rs))
       (i : Image) (o : image-from s ≡ ok i) where
-    found : lookup h (entries-of i) ≡ exactly h (spot-entry (data-part (v .form) s (v .n)) word p)
-    found = accepted-lookup s v a e number (spot-entry (data-part (v .form) s (v .n)) word p) h (sought (v .d) (accepted-area s v a whole)) i o
+    found : lookup h (entries-of i) ≡ exactly h (spot-entry (data-cut s start) word p)
+    found = accepted-lookup s v a start here e number (spot-entry (data-cut s start) word p) h (sought (v .d) (accepted-area s v a start here whole)) i o
 
-    opened : look-up-in i h out ≡ text-fitted out (exactly h (spot-entry (data-part (v .form) s (v .n)) word p))
+    opened : look-up-in i h out ≡ text-fitted out (exactly h (spot-entry (data-cut s start) word p))
     unfolding Calls.look-up-in
     opened = rw (← rule, q, found)
 
@@ -86,7 +86,7 @@ module _ (s h out : List ℕ) (v : Overview) (a : AcceptedImage s v) (whole : le
     look-up-none x = sym (rw (opened, x))
 
     module _ (k z x : ℕ) (y : p ≡ Spot.At k z x) (b : Bool) (same : b ≡ bytes-equal (take k word) h) where
-      spot : exactly h (spot-entry (data-part (v .form) s (v .n)) word p) ≡ elim b [ true ↦ some (entry-in (data-part (v .form) s (v .n)) z x (take k word)) | false ↦ none ]
+      spot : exactly h (spot-entry (data-cut s start) word p) ≡ elim b [ true ↦ some (entry-in (data-cut s start) z x (take k word)) | false ↦ none ]
       unfolding SpotSpec.spot-entry
       spot = rw (y, same)
 
@@ -94,24 +94,24 @@ module _ (s h out : List ℕ) (v : Overview) (a : AcceptedImage s v) (whole : le
       pub look-up-other : b ≡ false → record { answer = look-up-answer LookUpAnswer.Absent; text = out } ≡ look-up-result out (look-up-in i h out)
       unfolding Calls.look-up-result Answers.look-up-answer Calls.text-fitted
       look-up-other f =
-          let g : exactly h (spot-entry (data-part (v .form) s (v .n)) word p) ≡ none = spot ∙ rw f in
+          let g : exactly h (spot-entry (data-cut s start) word p) ≡ none = spot ∙ rw f in
           ap (look-up-result out) (sym (opened ∙ ap (text-fitted out) g))
 
       -- it is the entry
       pub look-up-same : b ≡ true → (r : LookUpAnswer) (out′ : List ℕ)
-          → ((g : List ℕ) → record { answer = look-up-answer r; text = out′ } ≡ look-up-result out (text-fitted out (some (entry-in (data-part (v .form) s (v .n)) z x g))))
+          → ((g : List ℕ) → record { answer = look-up-answer r; text = out′ } ≡ look-up-result out (text-fitted out (some (entry-in (data-cut s start) z x g))))
           → record { answer = look-up-answer r; text = out′ } ≡ look-up-result out (look-up-in i h out)
       look-up-same f r out′ g =
-          let y′ : exactly h (spot-entry (data-part (v .form) s (v .n)) word p) ≡ some (entry-in (data-part (v .form) s (v .n)) z x (take k word)) = spot ∙ rw f in
+          let y′ : exactly h (spot-entry (data-cut s start) word p) ≡ some (entry-in (data-cut s start) z x (take k word)) = spot ∙ rw f in
           g (take k word) ∙ ap (look-up-result out) (sym (opened ∙ ap (text-fitted out) y′))
 
   -- no entry is there
-  pub look-up-absent : not t ≡ false → (e : ℕ) → e ≡ get (layout-named s .nindex2) s → (word : List ℕ) (p : Spot)
-      → ((D : ℕ) → 256 * D ≡ length (data-part (v .form) s (v .n)) → (rs : List Run)
-      → runs-from (below-of (v .form .order)) D (data-part (v .form) s (v .n)) (elements-at (v .form .width) (index-part (v .form) s (v .n)) 0 e) ≡ ok rs
-      → spot-entry (data-part (v .form) s (v .n)) word p ≡ successor (below-of (v .form .order)) false h (all-entries rs)) → p ≡ Spot.Absent
+  pub look-up-absent : not t ≡ false → (start : ℕ) → start ≡ area-start (v .form) (v .n) → (e : ℕ) → e ≡ get (layout-named s .nindex2) s → (word : List ℕ) (p : Spot)
+      → ((D : ℕ) → 256 * D ≡ length (data-cut s start) → (rs : List Run)
+      → runs-from (below-of (v .form .order)) D (data-cut s start) (elements-at (v .form .width) (index-cut (v .form) s start) 0 e) ≡ ok rs
+      → spot-entry (data-cut s start) word p ≡ successor (below-of (v .form .order)) false h (all-entries rs)) → p ≡ Spot.Absent
       → (i : Image) → image-from s ≡ ok i → record { answer = look-up-answer LookUpAnswer.Absent; text = out } ≡ look-up-result out (look-up-in i h out)
-  look-up-absent q e number word p sought x i o = look-up-none q e number word p sought i o x
+  look-up-absent q start here e number word p sought x i o = look-up-none q start here e number word p sought i o x
 
 -- row 12 of a walk
 pub start-long : (h : List ℕ) → 248 < length h → false ≡ start-ok h
@@ -160,15 +160,15 @@ module _ (s h out text-out : List ℕ) (v : Overview) (a : AcceptedImage s v) (w
   unfolding Calls.walk-result Answers.walk-answer Calls.walk-in
   walk-twelve q i o = rw (← rule, q)
 
-  module _ (q : not t ≡ false) (e : ℕ) (number : e ≡ get (layout-named s .nindex2) s) (word : List ℕ) (p : Spot)
-      (sought : (D : ℕ) → 256 * D ≡ length (data-part (v .form) s (v .n)) → (rs : List Run)
-      → runs-from (below-of (v .form .order)) D (data-part (v .form) s (v .n)) (elements-at (v .form .width) (index-part (v .form) s (v .n)) 0 e) ≡ ok rs
-      → spot-entry (data-part (v .form) s (v .n)) word p ≡ successor (below-of (v .form .order)) above h (all-entries rs)) where
-    walked : (i : Image) → image-from s ≡ ok i → walk-in i above h out text-out ≡ entry-fitted out text-out (spot-entry (data-part (v .form) s (v .n)) word p)
+  module _ (q : not t ≡ false) (start : ℕ) (here : start ≡ area-start (v .form) (v .n)) (e : ℕ) (number : e ≡ get (layout-named s .nindex2) s) (word : List ℕ) (p : Spot)
+      (sought : (D : ℕ) → 256 * D ≡ length (data-cut s start) → (rs : List Run)
+      → runs-from (below-of (v .form .order)) D (data-cut s start) (elements-at (v .form .width) (index-cut (v .form) s start) 0 e) ≡ ok rs
+      → spot-entry (data-cut s start) word p ≡ successor (below-of (v .form .order)) above h (all-entries rs)) where
+    walked : (i : Image) → image-from s ≡ ok i → walk-in i above h out text-out ≡ entry-fitted out text-out (spot-entry (data-cut s start) word p)
     unfolding Check.entries-of Calls.walk-in
     walked i o =
-        let x : spot-entry (data-part (v .form) s (v .n)) word p ≡ successor (i .frame .format .below) above h (entries-of i)
-        = accepted-sought s v a e number (spot-entry (data-part (v .form) s (v .n)) word p) above h (sought (v .d) (accepted-area s v a whole)) i o in
+        let x : spot-entry (data-cut s start) word p ≡ successor (i .frame .format .below) above h (entries-of i)
+        = accepted-sought s v a start here e number (spot-entry (data-cut s start) word p) above h (sought (v .d) (accepted-area s v a start here whole)) i o in
         rw (← rule, q, ← x)
 
     -- past the last
@@ -179,7 +179,7 @@ module _ (s h out text-out : List ℕ) (v : Overview) (a : AcceptedImage s v) (w
 
     -- the entry found
     pub walk-found : (k z x : ℕ) → p ≡ Spot.At k z x → (r : WalkAnswer) (out′ text′ : List ℕ)
-        → record { answer = walk-answer r; headword = out′; text = text′ } ≡ walk-result out text-out (entry-fitted out text-out (some (entry-in (data-part (v .form) s (v .n)) z x (take k word))))
+        → record { answer = walk-answer r; headword = out′; text = text′ } ≡ walk-result out text-out (entry-fitted out text-out (some (entry-in (data-cut s start) z x (take k word))))
         → (i : Image) → image-from s ≡ ok i → record { answer = walk-answer r; headword = out′; text = text′ } ≡ walk-result out text-out (walk-in i above h out text-out)
     unfolding SpotSpec.spot-entry
     walk-found k z x y r out′ text′ g i o = g ∙ ap (walk-result out text-out) (sym (walked i o ∙ rw y))

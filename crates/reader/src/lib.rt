@@ -66,7 +66,7 @@ fn look_up_in(image: &[u8], v: Overview, headword: &[u8], text: &mut [u8]) -> Lo
         return LookUpAnswer::Refused(12);
     }
     let from = HEADER + v.form.extended;
-    let start = from + 256 * v.n;
+    let start = header::position(v.form.extended, v.n, 0);
     let area = &image[start..];
     let elements = header::nindex2(image);
     let mut word = [0u8; WORD];
@@ -167,7 +167,7 @@ fn walk_in(
         return WalkAnswer::Refused(12);
     }
     let from = HEADER + v.form.extended;
-    let start = from + 256 * v.n;
+    let start = header::position(v.form.extended, v.n, 0);
     let area = &image[start..];
     let elements = header::nindex2(image);
     let mut word = [0u8; WORD];

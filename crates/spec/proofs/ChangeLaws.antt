@@ -9,7 +9,7 @@ use lib.ListN.{length, length-append, length-drop}
 use Rattle.spec.specs.Order.{HeadwordOrder}
 use Rattle.spec.specs.Outcome.{ok}
 use Rattle.spec.specs.Bytes.{blocks-for}
-use Rattle.spec.specs.Header.{Format, Lawful}
+use Rattle.spec.specs.Header.{Format, Lawful, block-position}
 use Rattle.spec.specs.Entry.{Entry}
 use Rattle.spec.specs.Run.{Run}
 use Rattle.spec.specs.Index.{element-bytes, elements-bytes, index-need}
@@ -48,7 +48,7 @@ unfolding data-area data-start
 image-sound F s i h =
     let t = image-told F s i h in
     let f = frame-fits F s (i .frame) (t .frame) in
-    let start : data-start (i .frame) ≡ F .header-bytes + 256 * i .frame .index-blocks = ap data-start (f .is) in
+    let start : data-start (i .frame) ≡ block-position (F .extended) (i .frame .index-blocks) 0 = ap data-start (f .is) in
     let long : 256 * i .frame .data-blocks ≤ length (data-area (i .frame) s) = rw (length-drop) (omega (arith, start, f .index-inside, f .data-are)) in
     let k = runs-hold (F .below) (i .frame .data-blocks) (data-area (i .frame) s) (t .elements) (i .runs) long (t .runs) in
     record {

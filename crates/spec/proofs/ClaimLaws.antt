@@ -1,5 +1,5 @@
 -- The sorted-list claim: between any two calls the image is accepted and its entries are the sorted list's, and each call is refused or answered as the list says.
-use Prim.Native.Nat.{ℕ, _+_, _-_, _*_, _%_, _<_, _≤_, max}
+use Prim.Native.Nat.{ℕ, _+_, _-_, _%_, _<_, _≤_, max}
 use mathlib.Core.Path.{_≡_, refl, sym, ap, subst, _∙_}
 use mathlib.Core.Bool.{Bool, true, false, not, _&&_}
 use mathlib.Core.List.{List, [], _∷_}
@@ -13,11 +13,11 @@ use Rattle.spec.specs.Order.{HeadwordOrder}
 use Rattle.spec.specs.Outcome.{Outcome, refused, ok}
 use Rattle.spec.specs.Lists.{all, count, All}
 use Rattle.spec.specs.Bytes.{from-little-endian, bytes-at, zeros}
-use Rattle.spec.specs.Header.{Format, Lawful, format-of, get, writable, tested-fields, written-fields, lies-in}
+use Rattle.spec.specs.Header.{Format, Lawful, format-of, get, writable, tested-fields, written-fields, lies-in, header-bytes, block-position}
 use Rattle.spec.specs.Entry.{Entry, headword-ok, text-ok, attribute-ok, body-ok, entry-of}
 use Rattle.spec.specs.Run.{Run}
 use Rattle.spec.specs.Blocks.{covers, run-blocks, free-blocks, each-once}
-use Rattle.spec.specs.Check.{Frame, Image, image-in, image-by, image-from, slice-ok, kind-ok, options-ok, frame-length, data-start, entries-of, all-entries}
+use Rattle.spec.specs.Check.{Frame, Image, image-in, image-by, image-from, slice-ok, kind-ok, options-ok, frame-length, entries-of, all-entries}
 use Rattle.spec.specs.SortedList.{lookup}
 use Rattle.spec.specs.Place.{Plan, plan-change, plan-packed, plan-full, plan-written}
 use Rattle.spec.specs.Calls.{figures, check, plan-length, given-up-zeroed}
@@ -193,7 +193,7 @@ module _ (s : List ℕ) (L : ℕ) (i : Image) (got : image-in s L ≡ ok i) (sma
 
     -- and its L
     abbrev new : ℕ
-    new = i .frame .format .header-bytes + 256 * n + 256 * D
+    new = block-position (i .frame .format .extended) n D
 
     new-inside : new ≤ length s
     new-inside = written-inside (i .frame .format) law n D rs s plan-sound kind options room
@@ -201,7 +201,7 @@ module _ (s : List ℕ) (L : ℕ) (i : Image) (got : image-in s L ≡ ok i) (sma
     -- it is an accepted image of the slice
     module _ (t : List ℕ) (size : length t ≡ length s) (front : take new t ≡ take new (plan-written plan s)) where
       new-slice : slice-ok t new ≡ ok tt
-      new-slice = slice-stored t new .1 (record { long-enough = omega (arith, law .header-inside); whole-blocks = omega (arith, law .front-in-blocks); in-slice = omega (arith, new-inside) })
+      new-slice = slice-stored t new .1 (record { long-enough = omega arith; whole-blocks = omega (arith, law .extended-in-blocks); in-slice = omega (arith, new-inside) })
 
       abbrev new-image : Image
       new-image = record { frame = frame-of (i .frame .format) n D; runs = rs; free-list = free-blocks rs D }
@@ -219,7 +219,7 @@ module _ (s : List ℕ) (L : ℕ) (i : Image) (got : image-in s L ≡ ok i) (sma
       -- a change that is done
       placed : (c : Call) (x : Observed) → first-row (rows s i (entries-of i) c) ≡ none → list-answer (i .frame .format .below) c (entries-of i) ≡ x → slice-after s L i c ≡ t
           → all-entries rs ≡ list-after (i .frame .format .below) c (entries-of i) → drop (max L new) t ≡ drop (max L new) s
-          → ((j : ℕ) → j < i .frame .format .header-bytes → all (λ f. not (lies-in j f)) (written-fields (i .frame .format .layout)) ≡ true → bytes-at j 1 t ≡ bytes-at j 1 s)
+          → ((j : ℕ) → j < header-bytes (i .frame .format) → all (λ f. not (lies-in j f)) (written-fields (i .frame .format .layout)) ≡ true → bytes-at j 1 t ≡ bytes-at j 1 s)
           → Zeroed c t new L → get (i .frame .format .layout .update-count) t ≡ (get (i .frame .format .layout .update-count) s + 1) % 4_294_967_296
           → is-change c (entries-of i) ≡ true → (T (call-bytes c) → T (areBytes t)) → Next c (record { observed = ok x; image = t; length-after = new })
       unfolding expected is-refused slice-kept list-step entries-of next-count
@@ -270,7 +270,7 @@ module _ (s : List ℕ) (L : ℕ) (i : Image) (got : image-in s L ≡ ok i) (sma
 
     insert-placed : first-row (rows s i (entries-of i) (insert-call work h a t)) ≡ none
         → Next (insert-call work h a t) (record { observed = ok done; image = plan-written (insert-placing i h a t) s; length-after = plan-length (insert-placing i h a t) })
-    unfolding insert-placing entry-of plan-change plan-length frame-length data-start list-answer slice-after list-after Zeroed is-change
+    unfolding insert-placing entry-of plan-change plan-length frame-length list-answer slice-after list-after Zeroed is-change
     insert-placed e =
         let (p, q, room) = insert-rows-none e in
         let F : Format = i .frame .format in
@@ -314,7 +314,7 @@ module _ (s : List ℕ) (L : ℕ) (i : Image) (got : image-in s L ≡ ok i) (sma
 
     delete-placed : (d : Entry) → lookup h (entries-of i) ≡ some d → first-row (rows s i (entries-of i) (delete-call work h)) ≡ none
         → Next (delete-call work h) (record { observed = ok removed; image = plan-written (delete-placing i h) s; length-after = plan-length (delete-placing i h) })
-    unfolding delete-placing plan-change plan-length frame-length data-start list-answer tell-removed slice-after list-after Zeroed is-there is-change
+    unfolding delete-placing plan-change plan-length frame-length list-answer tell-removed slice-after list-after Zeroed is-there is-change
     delete-placed d l e =
         let room : plan-full s (delete-placing i h) ≡ false = rw (l, is-there) at (delete-room e) in
         let F : Format = i .frame .format in
@@ -363,7 +363,7 @@ module _ (s : List ℕ) (L : ℕ) (i : Image) (got : image-in s L ≡ ok i) (sma
           length-after = plan-length
               (optimise-placing i);
         })
-    unfolding optimise-placing plan-packed plan-length frame-length data-start list-answer slice-after list-after Zeroed given-up-zeroed is-change get
+    unfolding optimise-placing plan-packed plan-length frame-length list-answer slice-after list-after Zeroed given-up-zeroed is-change get
     optimise-placed e =
         let F : Format = i .frame .format in
         let plan : Plan = optimise-placing i in
@@ -380,7 +380,7 @@ module _ (s : List ℕ) (L : ℕ) (i : Image) (got : image-in s L ≡ ok i) (sma
         (λ j h a. zeroed-front (plan-length plan) L t packed-shorter inside j 1 (omega arith) ∙ written-header F law _ _ _ s k kind options packed-room j h a)
         (packed-shorter, zeroed-given-up (plan-length plan) L t packed-shorter inside)
         (ap from-little-endian (zeroed-front (plan-length plan) L t packed-shorter inside (F .layout .update-count .offset) (F .layout .update-count .bytes)
-        (omega (arith, count-inside, law .header-inside))) ∙ written-count F law _ _ _ s k kind options packed-room)
+        (omega (arith, count-inside))) ∙ written-count F law _ _ _ s k kind options packed-room)
         refl
         (λ c. zeroed-bytes L plan t (written-bytes plan s small (optimise-bytes F law L s i read sound small)))
 
@@ -432,7 +432,7 @@ kept-by-all below s L es (c ∷ cs) (m, a, h) =
     let clear : (j : ℕ) → 216 ≤ j → j < 216 + 8 → all (λ f. not (lies-in j f)) (written-fields (F .layout)) ≡ true
     = range-all (λ n. all (λ f. not (lies-in n f)) (written-fields (F .layout))) 216 8 (lawful .layout-lawful .identifier-kept) in
     kept-by-all below (r .image) (r .length-after) _ cs h
-    ∙ bytes-same (r .image) s 216 8 (λ j low high. a .header-kept j (omega (arith, lawful .header-inside)) (clear j low high))
+    ∙ bytes-same (r .image) s 216 8 (λ j low high. a .header-kept j (omega arith) (clear j low high))
 
 pub identifier-kept : IdentifierKept
 unfolding IdentifierKept

@@ -1,6 +1,5 @@
 -- An accepted image needs no more when packed, by how its bytes are made up.
-use Prim.Native.Nat.{ℕ, _+_, _*_, _≤_}
-use mathlib.Core.Path.{_≡_, ap, _∙_}
+use Prim.Native.Nat.{ℕ, _≤_}
 use mathlib.Core.List.{List, map}
 use native.Mathlib.Omega.{arith}
 use lib.ListN.{length, take}
@@ -9,20 +8,19 @@ use borrow.Author.Tests.{le-ltb}
 use Rattle.spec.specs.Header.{Format}
 use Rattle.spec.specs.Index.{index-need}
 use Rattle.spec.specs.Blocks.{run-blocks}
-use Rattle.spec.specs.Check.{Frame, Image, data-start, frame-length}
+use Rattle.spec.specs.Check.{Frame, Image, frame-length}
 use Rattle.spec.specs.Place.{element-of, plan-packed, plan-full}
 use Rattle.spec.specs.Calls.{plan-length}
 use Rattle.spec.specs.ImageForm.{IsImage, Accepted}
 use Rattle.spec.specs.Claim.{optimise-placing}
 use Rattle.spec.specs.PackedForm.{NeedsNoMore, PackedNeedsNoMore, PackedNeverFull}
 use Rattle.spec.proofs.CountLaws.{covered-few}
-use Rattle.spec.proofs.PlanLaws.{whole-length}
 use Rattle.spec.proofs.StoredIndexLaws.{index-enough}
-use Rattle.spec.proofs.AcceptedLaws.{all-inside, accepted}
+use Rattle.spec.proofs.AcceptedLaws.{all-inside, made-up-length, accepted}
 
 -- bytes that are made up as an image: its index has the blocks that its elements need, and its runs lie in its data blocks, none twice
 pub made-up-enough : (s : List ℕ) (i : Image) → IsImage s i → NeedsNoMore (length s) i (optimise-placing i)
-unfolding optimise-placing plan-packed plan-length frame-length data-start
+unfolding optimise-placing plan-packed plan-length frame-length
 made-up-enough s i m =
     let f : Frame = i .frame in
     let F : Format = f .format in
@@ -30,9 +28,7 @@ made-up-enough s i m =
     = index-enough (F .number-width) (f .index-blocks) (m .index) (map element-of (i .runs)) (m .index-length) (m .index-stored) in
     let blocks : run-blocks (i .runs) ≤ f .data-blocks
     = covered-few (f .data-blocks) (i .runs) (i .free-list) (m .each-once) (all-inside (F .below) (f .data-blocks) (m .area) (m .area-length) (i .runs) (m .runs-stored)) in
-    let whole : length s ≡ F .header-bytes + 256 * f .index-blocks + 256 * f .data-blocks
-    = ap length (m .made-up) ∙ whole-length F (m .header) (m .index) (m .area) (f .index-blocks) (f .data-blocks) (m .header-length) (m .index-length) (m .area-length) in
-    record { no-longer-index = index; no-more-data-blocks = blocks; no-longer = omega (arith, index, blocks, whole) }
+    record { no-longer-index = index; no-more-data-blocks = blocks; no-longer = omega (arith, index, blocks, made-up-length s i m) }
 
 -- THE LAW: an accepted image needs no more when packed
 pub packed-needs-no-more : PackedNeedsNoMore

@@ -12,7 +12,7 @@ use Rattle.spec.specs.declared.DeleteAnswer.{DeleteAnswer}
 use Rattle.spec.specs.Ascii.{ascii}
 use Rattle.spec.specs.Lists.{all}
 use Rattle.spec.specs.Bytes.{bytes-at, bytes-equal, zeros}
-use Rattle.spec.specs.Header.{new-image, format-of}
+use Rattle.spec.specs.Header.{new-image, format-of, header-bytes}
 use Rattle.spec.specs.Run.{Run}
 use Rattle.spec.specs.Check.{image-in}
 use Rattle.spec.specs.Place.{Grown, grown}
@@ -91,7 +91,7 @@ case-holds (creates k s told s′) = let r = create s k in bytes-equal (told-len
 case-holds (lists s x) = bytes-equal (listing s) x
 case-holds (formats k x) =
     let F = format-of (new-image k) in
-    bytes-equal (F .header-bytes ∷ F .number-width ∷ F .most-blocks ∷ F .run-limit ∷ []) x
+    bytes-equal (header-bytes F ∷ F .number-width ∷ F .most-blocks ∷ F .run-limit ∷ []) x
 case-holds (gives x y) = bytes-equal x y
 case-holds (after k n cs ps) = let q = play (empty k n) cs in all (probe-holds q) ps
 

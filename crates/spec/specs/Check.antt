@@ -8,7 +8,7 @@ use lib.Dec.{ltb, eqb}
 use Rattle.spec.specs.Order.{HeadwordOrder}
 use Rattle.spec.specs.Outcome.{Outcome, refused, ok, _>>=_, _>>_, refuse_when_}
 use Rattle.spec.specs.Bytes.{from-little-endian, bytes-at, bytes-equal}
-use Rattle.spec.specs.Header.{Layout, Format, format-of, get, high-version-of}
+use Rattle.spec.specs.Header.{Layout, Format, format-of, header-bytes, block-position, get, high-version-of}
 use Rattle.spec.specs.Entry.{Entry}
 use Rattle.spec.specs.Run.{Run, read-entry, entries-from}
 use Rattle.spec.specs.Index.{Element, index-from}
@@ -26,21 +26,25 @@ pub record Image : Type 0 where
   pub runs : List Run
   pub free-list : List ℕ
 
--- bytes in front of the data blocks
+-- the position of block b in a file of that frame
+abbrev pub position-in : Frame → ℕ → ℕ
+position-in f b = block-position (f .format .extended) (f .index-blocks) b
+
+-- bytes in front of the data blocks: the position of the first
 unfoldable pub data-start : Frame → ℕ
-data-start f = f .format .header-bytes + 256 * f .index-blocks
+data-start f = position-in f 0
 
 -- "After the header come index_block blocks of 256 bytes, …"
 unfoldable pub index-area : Frame → List ℕ → List ℕ
-index-area f s = bytes-at (f .format .header-bytes) (256 * f .index-blocks) s
+index-area f s = bytes-at (header-bytes (f .format)) (256 * f .index-blocks) s
 
 -- "… then D data blocks numbered from 0."
 unfoldable pub data-area : Frame → List ℕ → List ℕ
 data-area f s = drop (data-start f) s
 
--- "L = 256 × (1 + index_block + D)."
+-- "L = 256 × (1 + index_block + D).": the position of block D
 unfoldable pub frame-length : Frame → ℕ
-frame-length f = data-start f + 256 * f .data-blocks
+frame-length f = position-in f (f .data-blocks)
 
 -- all entries of runs, in index order
 unfoldable pub all-entries : List Run → List Entry
@@ -73,8 +77,8 @@ frame-from F s = do
   refuse 3 when not (kind-ok (F .layout) s)
   refuse 4 when not (options-ok (F .layout) s)
   let n = get (F .layout .index-block) s
-  refuse 5 when (ltb 32_767 n || ltb (length s) (F .header-bytes + 256 * n))
-  let D = (length s - (F .header-bytes + 256 * n)) / 256
+  refuse 5 when (ltb 32_767 n || ltb (length s) (block-position (F .extended) n 0))
+  let D = (length s - block-position (F .extended) n 0) / 256
   refuse 5 when ltb (F .most-blocks) D
   ok (record { format = F; index-blocks = n; data-blocks = D })
 

@@ -11,7 +11,7 @@ use Rattle.spec.specs.Order.{HeadwordOrder}
 use Rattle.spec.specs.Outcome.{Outcome, refused, ok}
 use Rattle.spec.specs.Lists.{all, count}
 use Rattle.spec.specs.Bytes.{bytes-at, zeros, no-zero}
-use Rattle.spec.specs.Header.{get, writable, written-fields, lies-in}
+use Rattle.spec.specs.Header.{get, writable, written-fields, lies-in, header-bytes}
 use Rattle.spec.specs.Entry.{Entry, headword-ok, text-ok, attribute-ok, entry-of, attribute, text}
 use Rattle.spec.specs.Blocks.{covers, run-blocks}
 use Rattle.spec.specs.Check.{Image, image-in, entries-of}
@@ -299,7 +299,7 @@ pub record AnswersAs (below : HeadwordOrder) (s : List ℕ) (L : ℕ) (i : Image
   pub given-up : Zeroed c (r .image) (r .length-after) L
   pub update-count : get (i .frame .format .layout .update-count) (r .image) ≡ next-count (not (is-refused (r .observed)) && is-change c es) (get (i .frame .format .layout .update-count) s)
   -- "No other header byte changes."
-  pub header-kept : (n : ℕ) → n < i .frame .format .header-bytes → all (λ f. not (lies-in n f)) (written-fields (i .frame .format .layout)) ≡ true → bytes-at n 1 (r .image) ≡ bytes-at n 1 s
+  pub header-kept : (n : ℕ) → n < header-bytes (i .frame .format) → all (λ f. not (lies-in n f)) (written-fields (i .frame .format .layout)) ≡ true → bytes-at n 1 (r .image) ≡ bytes-at n 1 s
 
 -- all calls of a list, each given the length last returned
 unfoldable pub History : HeadwordOrder → List ℕ → ℕ → List Entry → List Call → Type 0

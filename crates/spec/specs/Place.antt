@@ -8,7 +8,7 @@ use lib.Dec.{leb, ltb, eqb}
 use Rattle.spec.specs.Order.{HeadwordOrder}
 use Rattle.spec.specs.Lists.{any, filter, range-from, Split, split-first, split-last}
 use Rattle.spec.specs.Bytes.{write}
-use Rattle.spec.specs.Header.{Format, Counts, changed-header}
+use Rattle.spec.specs.Header.{Format, Counts, changed-header, header-bytes}
 use Rattle.spec.specs.Entry.{Entry, entry-bytes}
 use Rattle.spec.specs.Run.{Run, run-bytes, run-size}
 use Rattle.spec.specs.Index.{Element, index-bytes, index-need}
@@ -208,7 +208,7 @@ unfoldable pub plan-written : Plan → List ℕ → List ℕ
 plan-written p s =
     let f : Frame = p .frame in
     let F : Format = f .format in
-    changed-header (F .layout) (plan-counts p) (take (F .header-bytes) s)
+    changed-header (F .layout) (plan-counts p) (take (header-bytes F) s)
     ++ index-bytes (F .number-width) (f .index-blocks) (map element-of (p .runs))
     ++ free-list-written (free-blocks (p .runs) (f .data-blocks)) (runs-written (p .runs) (data-area f s))
 

@@ -1,25 +1,25 @@
 -- What is left of the list, written over what stands there now, is the whole list written.
-use Prim.Native.Nat.{_-_, _*_, _≤_}
+use Prim.Native.Nat.{_-_, _≤_}
 use mathlib.Core.Path.{_≡_}
 use mathlib.Core.Bool.{true}
 use native.Mathlib.Omega.{arith}
 use lib.ListN.{length, take, drop}
-use Rattle.spec.specs.Blocks.{free-list-written}
+use Rattle.spec.specs.Header.{block-position}
 use Rattle.marks.specs.Marks.{marks, gap}
 use Rattle.chain.specs.Numbers.{numbers}
-use Rattle.chain.proofs.Laws.{rest-written, gap-next, chain-turn, chain-laws}
+use Rattle.chain.proofs.Laws.{image-written, numbers-left, gap-next, chain-turn, chain-laws}
 use borrow.Author.Needs.{needs}
 use Rattle.chain.proofs.write_free_list.Statement.{statement}
 use Rattle.chain.proofs.write_free_list.Tie as tie
 
 abbrev Inv-loop : tie.InvT-loop
-Inv-loop area₀ free g d first b₀ area b =
-    (g ≤ b) × (b ≤ d) × (length area ≡ length area₀) × (256 * (d - g) ≤ length area)
+Inv-loop image₀ extended index free g d first b₀ image b =
+    (g ≤ b) × (b ≤ d) × (length image ≡ length image₀) × (block-position extended index (d - g) ≤ length image)
     × (gap true (drop b (take d (marks free))) ≡ 0)
-    × (rest-written free g d b area ≡ free-list-written (numbers 0 (take (d - g) (drop g (marks free)))) area₀)
+    × (image-written extended index (numbers-left free g d b) image ≡ image-written extended index (numbers 0 (take (d - g) (drop g (marks free)))) image₀)
 
 abbrev μ-loop : tie.MeasureT-loop
-μ-loop area₀ free g d first b₀ area b = d - b
+μ-loop image₀ extended index free g d first b₀ image b = d - b
 
 next-marked-requires : tie.Need-next-marked-requires Inv-loop μ-loop
 next-marked-requires c κs = search chain-laws
@@ -33,11 +33,11 @@ add-next-marked c = search chain-laws
 next-marked-requires-2 : tie.Need-next-marked-requires-2 Inv-loop μ-loop
 next-marked-requires-2 c κs = search chain-laws
 
-sub-at : tie.Need-sub-at Inv-loop μ-loop
-sub-at c = search chain-laws
+sub-position : tie.Need-sub-position Inv-loop μ-loop
+sub-position c = search chain-laws
 
-mul-at : tie.Need-mul-at Inv-loop μ-loop
-mul-at c = search chain-laws
+position-requires : tie.Need-position-requires Inv-loop μ-loop
+position-requires c κs = search chain-laws
 
 write-u16-requires : tie.Need-write-u16-requires Inv-loop μ-loop
 write-u16-requires c κs = search chain-laws
@@ -63,7 +63,7 @@ loop-again c =
       search needs,
       search needs,
       search (gap-next, needs),
-      chain-turn _ (l .area) _ _ _ _ _ (l .b) (n .result) _ (l .inv .5) (l .inv .4) (n .ensures .0) (after-link .link .ensures)
+      chain-turn _ _ _ (l .image) _ _ _ _ _ (l .b) (n .result) _ _ (l .inv .5) (l .inv .4) (n .ensures .0) (after-position .position .ensures) (after-link .link .ensures)
           (after-write-u16 .write-u16 .ensures .0) (after-write-u32 .write-u32 .ensures .0)
           (omega arith) (omega arith) (omega arith) (omega arith) (omega arith),
     )
@@ -77,8 +77,11 @@ loop-again c =
     after-write-u16 : tie.After-write-u16 Inv-loop μ-loop
     after-write-u16 = search after-link
 
+    after-position : tie.After-position Inv-loop μ-loop
+    after-position = search after-write-u16
+
     after-next-marked2 : tie.After-next-marked2 Inv-loop μ-loop
-    after-next-marked2 = search after-write-u16
+    after-next-marked2 = search after-position
 
     at-loop : tie.At-loop Inv-loop μ-loop
     at-loop = search after-next-marked2
@@ -102,8 +105,8 @@ write-free-list-spec =
     loop-holds
     add-next-marked
     next-marked-requires-2
-    sub-at
-    mul-at
+    sub-position
+    position-requires
     write-u16-requires
     add-write-u32
     link-requires

@@ -1,25 +1,34 @@
 -- `finish` meets its contract.
-use mathlib.Core.Path.{_≡_, refl, sym, _∙_}
+use mathlib.Core.Path.{_≡_, refl, sym, ap, _∙_}
 use mathlib.Core.List.{List}
-use Prim.Native.Nat.{ℕ, _+_, _*_, _≤_}
+use Prim.Native.Nat.{ℕ, _≤_}
 use native.Mathlib.Omega.{arith}
 use lib.ListN.{length, take}
 use lib.Seq.{length-take-le}
 use Rattle.marks.specs.Marks.{marks}
-use Rattle.header.specs.Form.{area-start}
+use Rattle.spec.specs.Header.{block-position}
 use Rattle.parts.proofs.PartLaws.{copied-front}
 use Rattle.change.specs.declared.Outline.{Outline}
 use Rattle.change.specs.Ready.{laid-parts, old-length, Ready, Roomy}
+use Rattle.change.specs.Drafted.{PlannedEnd}
 use Rattle.change.proofs.Laws.{run-few}
 use Rattle.change.proofs.AreasLaws.{rest-asks, all-written}
-use Rattle.change.proofs.FinishLaws.{marks-long, end-behind, ready-form, ready-few, finish-blocks, finish-length, copy-ready, copy-roomy, copy-last, finish-done}
+use Rattle.change.proofs.FinishLaws.{front-planned, front-long, marks-long, end-behind, ready-form, ready-few, finish-blocks, finish-length, copy-ready, copy-roomy, copy-last, finish-done}
 use borrow.Author.Needs.{needs}
 use Rattle.change.proofs.finish.Statement.{statement}
 use Rattle.change.proofs.finish.Tie as tie
 
--- the start, from where the end of the blocks is known
+-- the length of the old image and the start, from where the end of the blocks is known
+abbrev len-of : tie.After-plan-end → tie.After-position
+len-of c = search
+
 abbrev start-of : tie.After-plan-end → tie.Start
-start-of c = search
+start-of c = search (len-of c)
+
+-- the end of the blocks in the old image
+planned : (c : tie.After-plan-end) → PlannedEnd (take (old-length (start-of c .args .v .old)) (start-of c .args .image .now)) (start-of c .args .v)
+    (marks (start-of c .args .free .now)) (start-of c .args .h .now) (start-of c .args .body .now) (c .plan-end .result)
+planned c = front-planned (start-of c .args .image .now) (start-of c .args .v) _ _ _ _ (len-of c .position .ensures) _ (c .plan-end .ensures .0)
 
 -- what is known when the old image is copied
 module _ (c : tie.After-copy) where
@@ -28,6 +37,9 @@ module _ (c : tie.After-copy) where
 
   abbrev few : tie.Else1
   few = search roomy
+
+  abbrev sized : tie.After-position2
+  sized = search roomy
 
   abbrev ended : tie.After-plan-end
   ended = search few
@@ -41,86 +53,76 @@ module _ (c : tie.After-copy) where
   abbrev v : Outline
   v = begun .args .v
 
+  abbrev len : ℕ
+  len = len-of ended .position .result
+
   abbrev copy : List ℕ
-  copy = take (old-length (v .old)) (c .copy .last .0)
+  copy = take len (c .copy .last .0)
 
   -- the working slice begins with the image
   copied : copy ≡ take (old-length (v .old)) image
-  copied = copied-front image (begun .args .work .now) (c .copy .last .0) (old-length (v .old)) (c .copy .ensures .0) (begun .pre .1 .0)
+  copied =
+      let there = len-of ended .position .ensures in
+      copied-front image (begun .args .work .now) (c .copy .last .0) len (c .copy .ensures .0) (omega (arith, there, begun .pre .1 .0)) ∙ ap (λ (k : ℕ). take k image) there
 
   -- the slice is long enough
-  fits : area-start (v .old .form) (v .old .n) + 256 * ended .plan-end .result ≤ length image
-  fits = omega (arith, roomy .if2 .left, begun .pre .1 .0)
+  fits : block-position (v .old .form .extended) (v .old .n) (ended .plan-end .result) ≤ length image
+  fits = omega (arith, roomy .if2 .left, sized .position2 .ensures)
 
   -- from there the change is ready
   ready : Ready copy v (begun .args .numbers .now) (marks (begun .args .free .now)) (begun .args .h .now) (begun .args .body .now)
   ready =
-      copy-ready image (old-length (v .old)) v _ _ _ _ (begun .pre .0) _ (ended .plan-end .ensures .0) (marks-long _ (begun .pre .1 .2)) (few .if1 .left) fits
+      copy-ready image (old-length (v .old)) v _ _ _ _ (begun .pre .0) _ (planned ended) (marks-long _ (begun .pre .1 .2)) (few .if1 .left) fits
       (begun .pre .1 .0) copy copied
 
   -- and there is room
   room : Roomy image copy v (marks (begun .args .free .now)) (begun .args .h .now) (begun .args .body .now)
   room =
-      copy-roomy image (old-length (v .old)) v _ _ _ _ (begun .pre .0) _ (ended .plan-end .ensures .0) (marks-long _ (begun .pre .1 .2)) (few .if1 .left) fits
+      copy-roomy image (old-length (v .old)) v _ _ _ _ (begun .pre .0) _ (planned ended) (marks-long _ (begun .pre .1 .2)) (few .if1 .left) fits
       (begun .pre .1 .0) copy copied
 
   -- the blocks end there
   last-is : ended .plan-end .result ≡ laid-parts copy v (marks (begun .args .free .now)) (begun .args .h .now) (begun .args .body .now) .end
   last-is =
-      copy-last image (old-length (v .old)) v _ _ _ _ (begun .pre .0) _ (ended .plan-end .ensures .0) (marks-long _ (begun .pre .1 .2)) (few .if1 .left) fits
+      copy-last image (old-length (v .old)) v _ _ _ _ (begun .pre .0) _ (planned ended) (marks-long _ (begun .pre .1 .2)) (few .if1 .left) fits
       (begun .pre .1 .0) copy copied
 
-add-start : tie.Need-add-start
-add-start c = omega (arith, start .pre .0 .few-index, ready-few _ _ _ _ _ _ (start .pre .0), ready-form _ _ _ _ _ _ (start .pre .0))
-  where
-    start : tie.Start
-    start = search
-
-mul-start : tie.Need-mul-start
-mul-start c = omega (arith, start .pre .0 .few-index, ready-few _ _ _ _ _ _ (start .pre .0), ready-form _ _ _ _ _ _ (start .pre .0))
-  where
-    start : tie.Start
-    start = search
-
-add-start-2 : tie.Need-add-start-2
-add-start-2 c = omega (arith, start .pre .0 .few-index, ready-few _ _ _ _ _ _ (start .pre .0), ready-form _ _ _ _ _ _ (start .pre .0))
-  where
-    start : tie.Start
-    start = search
-
-mul-len : tie.Need-mul-len
-mul-len c = omega (arith, start .pre .0 .few-index, ready-few _ _ _ _ _ _ (start .pre .0), ready-form _ _ _ _ _ _ (start .pre .0))
-  where
-    start : tie.Start
-    start = search
-
-add-len : tie.Need-add-len
-add-len c = omega (arith, start .pre .0 .few-index, ready-few _ _ _ _ _ _ (start .pre .0), ready-form _ _ _ _ _ _ (start .pre .0))
+position-requires : tie.Need-position-requires
+position-requires c κs = omega (arith, start .pre .0 .few-index, ready-few _ _ _ _ _ _ (start .pre .0), ready-form _ _ _ _ _ _ (start .pre .0))
   where
     start : tie.Start
     start = search
 
 slice-reshare-prefix-plan-end : tie.Need-slice-reshare-prefix-plan-end
-slice-reshare-prefix-plan-end c = omega (arith, start .pre .1 .0)
+slice-reshare-prefix-plan-end c = omega (arith, place .position .ensures, start .pre .1 .0)
   where
+    place : tie.After-position
+    place = search
+
     start : tie.Start
-    start = search
+    start = search place
 
 slice-aggregate-plan-end : tie.Need-slice-aggregate-plan-end
-slice-aggregate-plan-end c = sym (length-take-le _ _ (start .pre .1 .0))
+slice-aggregate-plan-end c = sym (length-take-le _ _ (omega (arith, place .position .ensures, start .pre .1 .0)))
   where
+    place : tie.After-position
+    place = search
+
     start : tie.Start
-    start = search
+    start = search place
 
 plan-end-requires : tie.Need-plan-end-requires
 plan-end-requires c κs =
     let r = start .pre .0 in (
-      (ready-form _ _ _ _ _ _ r, r .whole, ready-few _ _ _ _ _ _ r),
+      (ready-form _ _ _ _ _ _ r, front-long (start .args .image .now) (start .args .v .old) _ (place .position .ensures) (start .pre .1 .0), ready-few _ _ _ _ _ _ r),
       ((r .inside, run-few _ _ _ _ _ _ r), ((end-behind _ _ _ _ _ _ r, r .end-few, r .few-index, start .pre .1 .2), (r .headword, r .body-short))),
     )
   where
+    place : tie.After-position
+    place = search
+
     start : tie.Start
-    start = search
+    start = search place
 
 add-if1 : tie.Need-add-if1
 add-if1 c = omega (arith, start .pre .0 .few-index)
@@ -139,7 +141,7 @@ same-length-2 c = search needs
 
 returns : tie.Need-returns
 returns c = (
-  finish-blocks (start .args .image .now) (old-length (start .args .v .old)) (start .args .v) _ _ _ _ (start .pre .0) _ (after-plan-end .plan-end .ensures .0)
+  finish-blocks (start .args .image .now) (old-length (start .args .v .old)) (start .args .v) _ _ _ _ (start .pre .0) _ (planned after-plan-end)
       (marks-long _ (start .pre .1 .2)) (c .if1 .taken),
   (refl, refl),
 )
@@ -150,17 +152,8 @@ returns c = (
     start : tie.Start
     start = start-of after-plan-end
 
-mul-size : tie.Need-mul-size
-mul-size c = omega (arith, start .pre .0 .few-index, ready-form _ _ _ _ _ _ (start .pre .0))
-  where
-    after-plan-end : tie.After-plan-end
-    after-plan-end = search
-
-    start : tie.Start
-    start = start-of after-plan-end
-
-add-size : tie.Need-add-size
-add-size c = omega (arith, start .pre .0 .few-index, ready-form _ _ _ _ _ _ (start .pre .0))
+position-requires-2 : tie.Need-position-requires-2
+position-requires-2 c κs = omega (arith, after-plan-end .plan-end .ensures .1, start .pre .0 .few-index, ready-form _ _ _ _ _ _ (start .pre .0))
   where
     after-plan-end : tie.After-plan-end
     after-plan-end = search
@@ -176,13 +169,16 @@ same-length-4 c = search needs
 
 returns-2 : tie.Need-returns-2
 returns-2 c = (
-  finish-length (start .args .image .now) (old-length (start .args .v .old)) (start .args .v) _ _ _ _ (start .pre .0) _ (after-plan-end .plan-end .ensures .0)
-      (marks-long _ (start .pre .1 .2)) (else1 .if1 .left) (c .if2 .taken),
+  finish-length (start .args .image .now) (old-length (start .args .v .old)) (start .args .v) _ _ _ _ (start .pre .0) _ (planned after-plan-end)
+      (marks-long _ (start .pre .1 .2)) (else1 .if1 .left) (omega (arith, c .if2 .taken, sized-here .position2 .ensures)),
   (refl, refl),
 )
   where
+    sized-here : tie.After-position2
+    sized-here = search
+
     else1 : tie.Else1
-    else1 = search
+    else1 = search sized-here
 
     after-plan-end : tie.After-plan-end
     after-plan-end = search else1
@@ -191,7 +187,7 @@ returns-2 c = (
     start = start-of after-plan-end
 
 copy-requires : tie.Need-copy-requires
-copy-requires c κs = omega (arith, start .pre .1)
+copy-requires c κs = omega (arith, start .pre .1, len-of after-plan-end .position .ensures)
   where
     after-plan-end : tie.After-plan-end
     after-plan-end = search
@@ -200,13 +196,13 @@ copy-requires c κs = omega (arith, start .pre .1)
     start = start-of after-plan-end
 
 slice-reshare-prefix-write-areas : tie.Need-slice-reshare-prefix-write-areas
-slice-reshare-prefix-write-areas c = omega (arith, begun after-copy .pre .1, after-copy .copy .ensures .1)
+slice-reshare-prefix-write-areas c = omega (arith, begun after-copy .pre .1, after-copy .copy .ensures .1, len-of (ended after-copy) .position .ensures)
   where
     after-copy : tie.After-copy
     after-copy = search
 
 slice-aggregate-write-areas : tie.Need-slice-aggregate-write-areas
-slice-aggregate-write-areas c = sym (length-take-le _ _ (omega (arith, begun after-copy .pre .1, after-copy .copy .ensures .1)))
+slice-aggregate-write-areas c = sym (length-take-le _ _ (omega (arith, begun after-copy .pre .1, after-copy .copy .ensures .1, len-of (ended after-copy) .position .ensures)))
   where
     after-copy : tie.After-copy
     after-copy = search
@@ -216,24 +212,6 @@ write-areas-requires c κs = (ready after-copy, room after-copy)
   where
     after-copy : tie.After-copy
     after-copy = search
-
-mul-write-rest : tie.Need-mul-write-rest
-mul-write-rest c = omega (arith, begun after-copy .pre .0 .few-index, ready-form _ _ _ _ _ _ (begun after-copy .pre .0))
-  where
-    after-write-areas : tie.After-write-areas
-    after-write-areas = search
-
-    after-copy : tie.After-copy
-    after-copy = search after-write-areas
-
-add-write-rest : tie.Need-add-write-rest
-add-write-rest c = omega (arith, begun after-copy .pre .0 .few-index, ready-form _ _ _ _ _ _ (begun after-copy .pre .0))
-  where
-    after-write-areas : tie.After-write-areas
-    after-write-areas = search
-
-    after-copy : tie.After-copy
-    after-copy = search after-write-areas
 
 write-rest-requires : tie.Need-write-rest-requires
 write-rest-requires c κs =
@@ -261,8 +239,8 @@ returns-3 c =
     let e = after-write-areas .write-areas .ensures in
     let f = after-write-rest .write-rest .ensures in
     let w = all-written _ (v after-copy) _ _ _ _ (ready after-copy) _ (room after-copy) _ _ _ _ (e .0) (e .1 .0) (last-is after-copy) (f .0) in (
-      finish-done (image after-copy) _ (v after-copy) _ _ _ _ (p .0) _ (ended after-copy .plan-end .ensures .0) (marks-long _ (p .1 .2)) (few after-copy .if1 .left) (fits after-copy)
-          (p .1 .0) _ (copied after-copy) _ w,
+      finish-done (image after-copy) _ (v after-copy) _ _ _ _ (p .0) _ (planned (ended after-copy)) (marks-long _ (p .1 .2)) (few after-copy .if1 .left) (fits after-copy)
+          (p .1 .0) _ (copied after-copy) _ w _ (sized after-copy .position2 .ensures),
       (f .1 ∙ e .1 .1 .0, after-copy .copy .ensures .1),
     )
   where
@@ -279,11 +257,7 @@ pub finish-spec : {M : Type 1} → statement M
 finish-spec =
     tie.close
     (tie.spec
-    add-start
-    mul-start
-    add-start-2
-    mul-len
-    add-len
+    position-requires
     slice-reshare-prefix-plan-end
     slice-aggregate-plan-end
     plan-end-requires
@@ -291,8 +265,7 @@ finish-spec =
     same-length
     same-length-2
     returns
-    mul-size
-    add-size
+    position-requires-2
     same-length-3
     same-length-4
     returns-2
@@ -300,8 +273,6 @@ finish-spec =
     slice-reshare-prefix-write-areas
     slice-aggregate-write-areas
     write-areas-requires
-    mul-write-rest
-    add-write-rest
     write-rest-requires
     same-length-5
     same-length-6

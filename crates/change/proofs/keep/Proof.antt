@@ -1,57 +1,67 @@
 -- `keep` meets its contract.
 use mathlib.Core.Path.{refl, sym}
 use native.Mathlib.Omega.{arith}
+use lib.ListN.{take}
 use lib.Seq.{length-take-le}
+use Rattle.marks.specs.Marks.{marks}
 use Rattle.change.specs.Ready.{old-length}
+use Rattle.change.specs.Drafted.{PlannedEnd}
 use Rattle.change.proofs.Laws.{run-few}
-use Rattle.change.proofs.FinishLaws.{marks-long, end-behind, ready-form, ready-few, finish-blocks, finish-length, finish-done}
-use Rattle.change.proofs.KeptLaws.{kept-rest, kept-written, kept-ready}
+use Rattle.change.proofs.FinishLaws.{front-planned, front-long, marks-long, end-behind, ready-form, ready-few, finish-blocks, finish-length, finish-done}
+use Rattle.change.proofs.AreasLaws.{rest-asks, all-written}
+use Rattle.change.proofs.KeptLaws.{kept-ready}
 use borrow.Author.Needs.{needs}
 use Rattle.change.proofs.keep.Statement.{statement}
 use Rattle.change.proofs.keep.Tie as tie
 
-add-start : tie.Need-add-start
-add-start c = search needs
+-- the length of the old image and the start, from where the end of the blocks is known
+abbrev len-of : tie.After-plan-end → tie.After-position
+len-of c = search
 
-mul-start : tie.Need-mul-start
-mul-start c = search needs
+abbrev start-of : tie.After-plan-end → tie.Start
+start-of c = search (len-of c)
 
-add-start-2 : tie.Need-add-start-2
-add-start-2 c = search needs
+-- the end of the blocks in the old image
+planned : (c : tie.After-plan-end) → PlannedEnd (take (old-length (start-of c .args .v .old)) (start-of c .args .image .now)) (start-of c .args .v)
+    (marks (start-of c .args .free .now)) (start-of c .args .h .now) (start-of c .args .body .now) (c .plan-end .result)
+planned c = front-planned (start-of c .args .image .now) (start-of c .args .v) _ _ _ _ (len-of c .position .ensures) _ (c .plan-end .ensures .0)
 
-mul-len : tie.Need-mul-len
-mul-len c = omega (arith, ready-few _ _ _ _ _ _ (start .pre .0))
-  where
-    start : tie.Start
-    start = search
-
-add-len : tie.Need-add-len
-add-len c = omega (arith, ready-few _ _ _ _ _ _ (start .pre .0), start .pre .0 .few-index, ready-form _ _ _ _ _ _ (start .pre .0) .2)
+position-requires : tie.Need-position-requires
+position-requires c κs = omega (arith, ready-few _ _ _ _ _ _ (start .pre .0), start .pre .0 .few-index, ready-form _ _ _ _ _ _ (start .pre .0) .2)
   where
     start : tie.Start
     start = search
 
 slice-reshare-prefix-plan-end : tie.Need-slice-reshare-prefix-plan-end
-slice-reshare-prefix-plan-end c = omega (arith, start .pre .1 .1)
+slice-reshare-prefix-plan-end c = omega (arith, place .position .ensures, start .pre .1 .1)
   where
+    place : tie.After-position
+    place = search
+
     start : tie.Start
-    start = search
+    start = search place
 
 slice-aggregate-plan-end : tie.Need-slice-aggregate-plan-end
-slice-aggregate-plan-end c = sym (length-take-le _ _ (start .pre .1 .1))
+slice-aggregate-plan-end c = sym (length-take-le _ _ (omega (arith, place .position .ensures, start .pre .1 .1)))
   where
+    place : tie.After-position
+    place = search
+
     start : tie.Start
-    start = search
+    start = search place
 
 plan-end-requires : tie.Need-plan-end-requires
 plan-end-requires c κs =
     let r = start .pre .0 in (
-      (ready-form _ _ _ _ _ _ r, r .whole, ready-few _ _ _ _ _ _ r),
+      (ready-form _ _ _ _ _ _ r, front-long (start .args .image .now) (start .args .v .old) _ (place .position .ensures) (start .pre .1 .1), ready-few _ _ _ _ _ _ r),
       ((r .inside, run-few _ _ _ _ _ _ r), ((end-behind _ _ _ _ _ _ r, r .end-few, r .few-index, start .pre .1 .3), (r .headword, r .body-short))),
     )
   where
+    place : tie.After-position
+    place = search
+
     start : tie.Start
-    start = search
+    start = search place
 
 add-if1 : tie.Need-add-if1
 add-if1 c = omega (arith, start .pre .0 .few-index)
@@ -59,11 +69,8 @@ add-if1 c = omega (arith, start .pre .0 .few-index)
     measured : tie.After-plan-end
     measured = search
 
-    lent : tie.After-plan-end-arg
-    lent = search measured
-
     start : tie.Start
-    start = search lent
+    start = start-of measured
 
 same-length : tie.Need-same-length
 same-length c = search needs
@@ -74,7 +81,7 @@ same-length-2 c = search needs
 returns : tie.Need-returns
 returns c = (
   finish-blocks (start .args .image .now) (old-length (start .args .v .old)) (start .args .v) _ _ _ _ (start .pre .0)
-      _ (measured .plan-end .ensures .0) (marks-long _ (start .pre .1 .3)) (full .if1 .taken),
+      _ (planned measured) (marks-long _ (start .pre .1 .3)) (full .if1 .taken),
   (refl, refl),
 )
   where
@@ -84,26 +91,17 @@ returns c = (
     measured : tie.After-plan-end
     measured = search full
 
-    lent : tie.After-plan-end-arg
-    lent = search measured
-
     start : tie.Start
-    start = search lent
+    start = start-of measured
 
-mul-new-len : tie.Need-mul-new-len
-mul-new-len c = search needs
-
-add-new-len : tie.Need-add-new-len
-add-new-len c = omega (arith, measured .plan-end .ensures .1, start .pre .0 .few-index, ready-form _ _ _ _ _ _ (start .pre .0) .2)
+position-requires-2 : tie.Need-position-requires-2
+position-requires-2 c κs = omega (arith, measured .plan-end .ensures .1, start .pre .0 .few-index, ready-form _ _ _ _ _ _ (start .pre .0) .2)
   where
     measured : tie.After-plan-end
     measured = search
 
-    lent : tie.After-plan-end-arg
-    lent = search measured
-
     start : tie.Start
-    start = search lent
+    start = start-of measured
 
 same-length-3 : tie.Need-same-length-3
 same-length-3 c = search needs
@@ -114,51 +112,51 @@ same-length-4 c = search needs
 returns-2 : tie.Need-returns-2
 returns-2 c = (
   finish-length (start .args .image .now) (old-length (start .args .v .old)) (start .args .v) _ _ _ _ (start .pre .0)
-      _ (measured .plan-end .ensures .0) (marks-long _ (start .pre .1 .3)) (few .if1 .left) (full .if2 .taken),
+      _ (planned measured) (marks-long _ (start .pre .1 .3)) (few .if1 .left) (omega (arith, full .if2 .taken, sized .position2 .ensures)),
   (refl, refl),
 )
   where
     full : tie.Then2
     full = search
 
+    sized : tie.After-position2
+    sized = search full
+
     few : tie.Else1
-    few = search full
+    few = search sized
 
     measured : tie.After-plan-end
     measured = search few
 
-    lent : tie.After-plan-end-arg
-    lent = search measured
-
     start : tie.Start
-    start = search lent
+    start = start-of measured
 
 write-kept-requires : tie.Need-write-kept-requires
 write-kept-requires c κs =
     let k = kept-ready (start .args .image .now) _ _ _ _ _ (start .pre .0)
-    _ (measured .plan-end .ensures .0) (start .pre .1 .3) (few .if1 .left) (roomy .if2 .left) (start .pre .1 .1) in
+    _ (planned measured) (start .pre .1 .3) (few .if1 .left) (omega (arith, roomy .if2 .left, sized .position2 .ensures)) (start .pre .1 .1) in
     (start .pre .0, (k .0, (start .pre .1 .0, start .pre .1 .2)))
   where
     roomy : tie.Else2
     roomy = search
 
+    sized : tie.After-position2
+    sized = search roomy
+
     few : tie.Else1
-    few = search roomy
+    few = search sized
 
     measured : tie.After-plan-end
     measured = search few
 
-    lent : tie.After-plan-end-arg
-    lent = search measured
-
     start : tie.Start
-    start = search lent
+    start = start-of measured
 
 write-rest-requires : tie.Need-write-rest-requires
 write-rest-requires c κs =
     let k = kept-ready (start .args .image .now) _ _ _ _ _ (start .pre .0)
-    _ (measured .plan-end .ensures .0) (start .pre .1 .3) (few .if1 .left) (roomy .if2 .left) (start .pre .1 .1) in
-    kept-rest _ _ _ _ _ _ (start .pre .0) _ (k .0) (start .pre .1 .0) _ (k .1) _ _ (areas .write-kept .ensures .1 .1 .0) (areas .write-kept .ensures .1 .1 .2)
+    _ (planned measured) (start .pre .1 .3) (few .if1 .left) (omega (arith, roomy .if2 .left, sized .position2 .ensures)) (start .pre .1 .1) in
+    rest-asks _ (start .args .v) _ _ _ _ (start .pre .0) _ (k .0) _ _ (areas .write-kept .ensures .1 .1 .0) (k .1) _ (areas .write-kept .ensures .1 .1 .2)
   where
     areas : tie.After-write-kept
     areas = search
@@ -166,17 +164,17 @@ write-rest-requires c κs =
     roomy : tie.Else2
     roomy = search areas
 
+    sized : tie.After-position2
+    sized = search roomy
+
     few : tie.Else1
-    few = search roomy
+    few = search sized
 
     measured : tie.After-plan-end
     measured = search few
 
-    lent : tie.After-plan-end-arg
-    lent = search measured
-
     start : tie.Start
-    start = search lent
+    start = start-of measured
 
 same-length-5 : tie.Need-same-length-5
 same-length-5 c = search needs
@@ -190,12 +188,12 @@ same-length-7 c = search needs
 returns-3 : tie.Need-returns-3
 returns-3 c =
     let k = kept-ready (start .args .image .now) _ _ _ _ _ (start .pre .0)
-    _ (measured .plan-end .ensures .0) (start .pre .1 .3) (few .if1 .left) (roomy .if2 .left) (start .pre .1 .1) in
-    let w = kept-written _ _ _ _ _ _ (start .pre .0) _ (k .0) (start .pre .1 .0) _ (k .1) _ _ _ (written .write-kept .ensures .0)
-    (written .write-kept .ensures .1 .0) (sealed .write-rest .ensures .0) in (
-      finish-done (start .args .image .now) _ _ _ _ _ _ (start .pre .0) _ (measured .plan-end .ensures .0)
+    _ (planned measured) (start .pre .1 .3) (few .if1 .left) (omega (arith, roomy .if2 .left, sized .position2 .ensures)) (start .pre .1 .1) in
+    let w = all-written _ (start .args .v) _ _ _ _ (start .pre .0) _ (k .0) _ _ _ _ (written .write-kept .ensures .0)
+    (written .write-kept .ensures .1 .0) (k .1) (sealed .write-rest .ensures .0) in (
+      finish-done (start .args .image .now) _ _ _ _ _ _ (start .pre .0) _ (planned measured)
           (marks-long _ (start .pre .1 .3))
-          (few .if1 .left) (roomy .if2 .left) (start .pre .1 .1) _ refl _ w,
+          (few .if1 .left) (omega (arith, roomy .if2 .left, sized .position2 .ensures)) (start .pre .1 .1) _ refl _ w _ (sized .position2 .ensures),
       (omega (arith, sealed .write-rest .ensures .1, written .write-kept .ensures .1 .1 .0), written .write-kept .ensures .1 .1 .1),
     )
   where
@@ -208,27 +206,23 @@ returns-3 c =
     roomy : tie.Else2
     roomy = search written
 
+    sized : tie.After-position2
+    sized = search roomy
+
     few : tie.Else1
-    few = search roomy
+    few = search sized
 
     measured : tie.After-plan-end
     measured = search few
 
-    lent : tie.After-plan-end-arg
-    lent = search measured
-
     start : tie.Start
-    start = search lent
+    start = start-of measured
 
 pub keep-spec : {M : Type 1} → statement M
 keep-spec =
     tie.close
     (tie.spec
-    add-start
-    mul-start
-    add-start-2
-    mul-len
-    add-len
+    position-requires
     slice-reshare-prefix-plan-end
     slice-aggregate-plan-end
     plan-end-requires
@@ -236,8 +230,7 @@ keep-spec =
     same-length
     same-length-2
     returns
-    mul-new-len
-    add-new-len
+    position-requires-2
     same-length-3
     same-length-4
     returns-2

@@ -14,14 +14,8 @@ add-front c = omega (arith, accepted-index _ _ (start .pre .0))
     start : tie.Start
     start = search
 
-mul-start : tie.Need-mul-start
-mul-start c = omega (arith, accepted-index _ _ (start .pre .0))
-  where
-    start : tie.Start
-    start = search
-
-add-start : tie.Need-add-start
-add-start c = omega (arith, accepted-index _ _ (start .pre .0))
+position-requires : tie.Need-position-requires
+position-requires c κs = omega (arith, accepted-index _ _ (start .pre .0))
   where
     start : tie.Start
     start = search
@@ -33,22 +27,31 @@ part-index-start : tie.Need-part-index-start
 part-index-start c = search needs
 
 part-index-end : tie.Need-part-index-end
-part-index-end c = accepted-index _ _ (start .pre .0)
+part-index-end c = omega (arith, accepted-index _ _ (start .pre .0), place .position .ensures)
   where
+    place : tie.After-position
+    place = search
+
     start : tie.Start
-    start = search
+    start = search place
 
 sub-area : tie.Need-sub-area
-sub-area c = accepted-index _ _ (start .pre .0)
+sub-area c = omega (arith, accepted-index _ _ (start .pre .0), place .position .ensures)
   where
+    place : tie.After-position
+    place = search
+
     start : tie.Start
-    start = search
+    start = search place
 
 part-area-start : tie.Need-part-area-start
-part-area-start c = accepted-index _ _ (start .pre .0)
+part-area-start c = omega (arith, accepted-index _ _ (start .pre .0), place .position .ensures)
   where
+    place : tie.After-position
+    place = search
+
     start : tie.Start
-    start = search
+    start = search place
 
 part-area-end : tie.Need-part-area-end
 part-area-end c = search needs
@@ -62,12 +65,15 @@ nindex2-requires c κs = omega (arith, accepted-index _ _ (start .pre .0))
 find-run-requires : tie.Need-find-run-requires
 find-run-requires c κs =
     let a = start .pre .0 in (
-      (a .good .0, accepted-inside _ _ a _ (c .nindex2 .ensures .0)),
-      (omega (arith, accepted-area _ _ a (start .pre .1 .0)), omega (arith, accepted-blocks _ _ a)),
+      (a .good .0, accepted-inside _ _ a _ (place .position .ensures) _ (c .nindex2 .ensures .0)),
+      (omega (arith, accepted-area _ _ a _ (place .position .ensures) (start .pre .1 .0)), omega (arith, accepted-blocks _ _ a)),
     )
   where
+    place : tie.After-position
+    place = search
+
     start : tie.Start
-    start = search
+    start = search place
 
 entries-start-requires : tie.Need-entries-start-requires
 entries-start-requires c κs = omega (arith, c .find-run .ensures .1 .0, accepted-blocks _ _ (start .pre .0))
@@ -76,7 +82,19 @@ entries-start-requires c κs = omega (arith, c .find-run .ensures .1 .0, accepte
     start = search
 
 add-measure : tie.Need-add-measure
-add-measure c = search needs
+add-measure c = omega (arith, after-find-run .find-run .ensures .1 .0, accepted-blocks _ _ (start .pre .0))
+  where
+    after-find-run : tie.After-find-run
+    after-find-run = search
+
+    counted : tie.After-nindex2
+    counted = search after-find-run
+
+    after-form : tie.After-form
+    after-form = search counted
+
+    start : tie.Start
+    start = search after-form
 
 mul-measure : tie.Need-mul-measure
 mul-measure c = omega (arith, after-find-run .find-run .ensures .1 .0, accepted-blocks _ _ (start .pre .0))
@@ -100,7 +118,7 @@ part-measure-start : tie.Need-part-measure-start
 part-measure-start c = search needs
 
 part-measure-end : tie.Need-part-measure-end
-part-measure-end c = omega (arith, after-find-run .find-run .ensures .1 .0, accepted-area _ _ (start .pre .0) (start .pre .1 .0))
+part-measure-end c = omega (arith, after-find-run .find-run .ensures .1 .0, accepted-area _ _ (start .pre .0) _ (place .position .ensures) (start .pre .1 .0))
   where
     after-find-run : tie.After-find-run
     after-find-run = search
@@ -108,8 +126,11 @@ part-measure-end c = omega (arith, after-find-run .find-run .ensures .1 .0, acce
     counted : tie.After-nindex2
     counted = search after-find-run
 
+    place : tie.After-position
+    place = search counted
+
     after-form : tie.After-form
-    after-form = search counted
+    after-form = search place
 
     start : tie.Start
     start = search after-form
@@ -157,7 +178,7 @@ sub-bytes : tie.Need-sub-bytes
 sub-bytes c = search needs
 
 sub-bytes-2 : tie.Need-sub-bytes-2
-sub-bytes-2 c = element-short _ _ (start .pre .0) _ (counted .nindex2 .ensures .0) _ _ (found .find-run .ensures .0)
+sub-bytes-2 c = element-short _ _ (start .pre .0) _ (place .position .ensures) _ (counted .nindex2 .ensures .0) _ _ (found .find-run .ensures .0)
   where
     found : tie.After-find-run
     found = search
@@ -165,8 +186,11 @@ sub-bytes-2 c = element-short _ _ (start .pre .0) _ (counted .nindex2 .ensures .
     counted : tie.After-nindex2
     counted = search found
 
+    place : tie.After-position
+    place = search counted
+
     after-form : tie.After-form
-    after-form = search counted
+    after-form = search place
 
     start : tie.Start
     start = search after-form
@@ -223,7 +247,7 @@ nblock2-requires c κs = omega (arith, accepted-index _ _ (start .pre .0))
     start = search after-form
 
 sub-blocks : tie.Need-sub-blocks
-sub-blocks c = blocks-short _ _ (start .pre .0) _ (counted .nindex2 .ensures .0) _ _ (found .find-run .ensures .0) _ (held .nblock2 .ensures .0)
+sub-blocks c = blocks-short _ _ (start .pre .0) _ (place .position .ensures) _ (counted .nindex2 .ensures .0) _ _ (found .find-run .ensures .0) _ (held .nblock2 .ensures .0)
   where
     held : tie.After-nblock2
     held = search
@@ -237,8 +261,11 @@ sub-blocks c = blocks-short _ _ (start .pre .0) _ (counted .nindex2 .ensures .0)
     counted : tie.After-nindex2
     counted = search found
 
+    place : tie.After-position
+    place = search counted
+
     after-form : tie.After-form
-    after-form = search counted
+    after-form = search place
 
     start : tie.Start
     start = search after-form
@@ -258,7 +285,7 @@ returns c =
     let m = measured .measure .ensures in (
       refl,
       refl,
-      drafted (a .image .now) (a .old) (start .pre .0) _ (counted .nindex2 .ensures .0) (a .h .now) (found .find-run .result) (found .find-run .ensures .0)
+      drafted (a .image .now) (a .old) (start .pre .0) _ (place .position .ensures) _ (counted .nindex2 .ensures .0) (a .h .now) (found .find-run .result) (found .find-run .ensures .0)
           (a .body .now) (a .fresh) _ _ _ _ _ _ _ (found .find-run .ensures .1 .0) (begun .entries-start .ensures .0) (m .0) (held .nblock2 .ensures .0)
           (grown .growth .ensures) (m .1 .0 .1) (m .1 .1),
     )
@@ -281,8 +308,11 @@ returns c =
     counted : tie.After-nindex2
     counted = search found
 
+    place : tie.After-position
+    place = search counted
+
     after-form : tie.After-form
-    after-form = search counted
+    after-form = search place
 
     start : tie.Start
     start = search after-form
@@ -292,8 +322,7 @@ measure-change-spec =
     tie.close
     (tie.spec
     add-front
-    mul-start
-    add-start
+    position-requires
     sub-index
     part-index-start
     part-index-end

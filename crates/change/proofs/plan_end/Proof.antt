@@ -12,14 +12,8 @@ slice-aggregate-copy-marks c = search needs
 copy-marks-requires : tie.Need-copy-marks-requires
 copy-marks-requires c κs = search needs
 
-add-area : tie.Need-add-area
-add-area c = search needs
-
-mul-area : tie.Need-mul-area
-mul-area c = search needs
-
-add-area-2 : tie.Need-add-area-2
-add-area-2 c = search needs
+position-requires : tie.Need-position-requires
+position-requires c κs = search needs
 
 sub-area : tie.Need-sub-area
 sub-area c = search needs
@@ -82,7 +76,7 @@ plan-parts-requires c κs =
 returns : tie.Need-returns
 returns c = (
   end-planned (start .args .old .now) (start .args .v) (start .args .free .now) _ (start .args .h .now) (start .args .body .now)
-      (after-entries-start .entries-start .result) (after-plan-parts .plan-parts .result) _
+      _ (after-entries-start .entries-start .result) (after-plan-parts .plan-parts .result) _ (after-position .position .ensures)
       (after-copy-marks .copy-marks .ensures) (after-entries-start .entries-start .ensures .0) (after-plan-parts .plan-parts .ensures .0),
   omega (arith, after-plan-parts .plan-parts .ensures .1 .1, start .pre .1 .1 .0 .2),
 )
@@ -93,8 +87,11 @@ returns c = (
     after-entries-start : tie.After-entries-start
     after-entries-start = search after-plan-parts
 
+    after-position : tie.After-position
+    after-position = search after-entries-start
+
     after-copy-marks : tie.After-copy-marks
-    after-copy-marks = search after-entries-start
+    after-copy-marks = search after-position
 
     start : tie.Start
     start = search after-copy-marks
@@ -105,9 +102,7 @@ plan-end-spec =
     (tie.spec
     slice-aggregate-copy-marks
     copy-marks-requires
-    add-area
-    mul-area
-    add-area-2
+    position-requires
     sub-area
     part-area-start
     part-area-end

@@ -1,12 +1,8 @@
 -- `write_areas` meets its contract.
-use mathlib.Core.Path.{_≡_, refl, ap, _∙_}
-use mathlib.Core.List.{List, _++_}
-use Prim.Native.Nat.{ℕ, _+_, _-_, _*_}
-use lib.ListN.{length, take, drop}
+use mathlib.Core.Path.{_≡_, _∙_}
+use lib.ListN.{length}
 use native.Mathlib.Omega.{arith}
 use borrow.Author.Needs.{needs}
-use Rattle.newruns.proofs.Laws.{length-lent}
-use Rattle.change.proofs.Laws.{areas-done}
 use Rattle.change.proofs.AreasLaws.{
   starts-inside,
   area-long,
@@ -16,44 +12,24 @@ use Rattle.change.proofs.AreasLaws.{
   parts-asks,
   after-asks,
   index-end,
-  start-room,
   run-inside,
   parts-bytes,
   parts-image,
   parts-marks,
+  areas-written,
 }
 use Rattle.change.proofs.write_areas.Statement.{statement}
 use Rattle.change.proofs.write_areas.Tie as tie
 
-abbrev after-index-of-copy-moved : tie.After-copy-moved → tie.After-index
-after-index-of-copy-moved c = search
-
 abbrev after-form-of-copy-moved : tie.After-copy-moved → tie.After-form
-after-form-of-copy-moved c = search (after-index-of-copy-moved c)
+after-form-of-copy-moved c = search
 
 abbrev start-of-copy-moved : tie.After-copy-moved → tie.Start
 start-of-copy-moved c = search (after-form-of-copy-moved c)
 
 -- the image keeps its length from call to call
-moved-kept : (c : tie.After-copy-moved)
-    → length
-    (take (256 + start-of-copy-moved c .args .v .old .form .extended + 256 * start-of-copy-moved c .args .v .old .n) (start-of-copy-moved c .args .image .now) ++ (c .copy-moved .last .0 ++ drop
-    (length (start-of-copy-moved c .args .image .now) - (256 + start-of-copy-moved c .args .v .old .form .extended + 256 * start-of-copy-moved c .args .v .old .n))
-    (drop (256 + start-of-copy-moved c .args .v .old .form .extended + 256 * start-of-copy-moved c .args .v .old .n) (start-of-copy-moved c .args .image .now))))
-    ≡ length (start-of-copy-moved c .args .image .now)
-moved-kept c =
-    length-lent (256 + start .args .v .old .form .extended + 256 * start .args .v .old .n)
-    (length (start .args .image .now) - (256 + start .args .v .old .form .extended + 256 * start .args .v .old .n)) (start .args .image .now)
-    (c .copy-moved .last .0) refl (start-room _ _ _ _ _ _ (start .pre .0) _ (start .pre .1)) (c .copy-moved .ensures .1)
-  where
-    after-index : tie.After-index
-    after-index = search
-
-    after-form : tie.After-form
-    after-form = search after-index
-
-    start : tie.Start
-    start = search after-form
+moved-kept : (c : tie.After-copy-moved) → length (c .copy-moved .last .0) ≡ length (start-of-copy-moved c .args .image .now)
+moved-kept c = c .copy-moved .ensures .1
 
 abbrev after-image-of-copy-elements : tie.After-copy-elements → tie.After-image
 after-image-of-copy-elements c = search
@@ -113,115 +89,112 @@ after-kept c = c .copy-elements2 .ensures .1 .1 ∙ parts-kept after-write-parts
     after-write-parts = search
 
 add-front : tie.Need-add-front
-add-front c = omega (arith, starts-inside _ _ _ _ _ _ (start .pre .0) _ (start .pre .1))
+add-front c = omega (arith, start .pre .0 .accepted .good .2)
   where
     start : tie.Start
     start = search
 
-mul-start : tie.Need-mul-start
-mul-start c = omega (arith, starts-inside _ _ _ _ _ _ (start .pre .0) _ (start .pre .1))
+position-requires : tie.Need-position-requires
+position-requires c κs = omega (arith, start .pre .0 .accepted .good .2, start .pre .0 .few-index)
   where
     start : tie.Start
     start = search
 
-add-start : tie.Need-add-start
-add-start c = omega (arith, starts-inside _ _ _ _ _ _ (start .pre .0) _ (start .pre .1))
+add-position : tie.Need-add-position
+add-position c = omega (arith, start .pre .0 .few-index)
   where
     start : tie.Start
     start = search
 
-mul-end : tie.Need-mul-end
-mul-end c = omega (arith, starts-inside _ _ _ _ _ _ (start .pre .0) _ (start .pre .1))
-  where
-    start : tie.Start
-    start = search
-
-add-end : tie.Need-add-end
-add-end c = omega (arith, starts-inside _ _ _ _ _ _ (start .pre .0) _ (start .pre .1))
+position-requires-2 : tie.Need-position-requires-2
+position-requires-2 c κs = omega (arith, start .pre .0 .accepted .good .2, start .pre .0 .few-index)
   where
     start : tie.Start
     start = search
 
 sub-index : tie.Need-sub-index
-sub-index c = omega (arith, starts-inside _ _ _ _ _ _ (start .pre .0) _ (start .pre .1))
+sub-index c = omega (arith, starts-inside _ _ _ _ _ _ (start .pre .0) _ (start .pre .1) _ (place .position .ensures), place .position .ensures)
   where
+    place : tie.After-position
+    place = search
+
+    after-form : tie.After-form
+    after-form = search place
+
     start : tie.Start
-    start = search
+    start = search after-form
 
 part-index-start : tie.Need-part-index-start
-part-index-start c = omega (arith, starts-inside _ _ _ _ _ _ (start .pre .0) _ (start .pre .1))
+part-index-start c = omega (arith, starts-inside _ _ _ _ _ _ (start .pre .0) _ (start .pre .1) _ (place .position .ensures), place .position .ensures)
   where
+    place : tie.After-position
+    place = search
+
+    after-form : tie.After-form
+    after-form = search place
+
     start : tie.Start
-    start = search
+    start = search after-form
 
 part-index-end : tie.Need-part-index-end
-part-index-end c = omega (arith, starts-inside _ _ _ _ _ _ (start .pre .0) _ (start .pre .1))
+part-index-end c = omega (arith, starts-inside _ _ _ _ _ _ (start .pre .0) _ (start .pre .1) _ (place .position .ensures), place .position .ensures)
   where
+    place : tie.After-position
+    place = search
+
+    after-form : tie.After-form
+    after-form = search place
+
     start : tie.Start
-    start = search
+    start = search after-form
 
 sub-area : tie.Need-sub-area
-sub-area c = omega (arith, starts-inside _ _ _ _ _ _ (start .pre .0) _ (start .pre .1))
+sub-area c = omega (arith, starts-inside _ _ _ _ _ _ (start .pre .0) _ (start .pre .1) _ (place .position .ensures), place .position .ensures)
   where
+    place : tie.After-position
+    place = search
+
+    after-form : tie.After-form
+    after-form = search place
+
     start : tie.Start
-    start = search
+    start = search after-form
 
 part-area-start : tie.Need-part-area-start
-part-area-start c = omega (arith, starts-inside _ _ _ _ _ _ (start .pre .0) _ (start .pre .1))
+part-area-start c = omega (arith, starts-inside _ _ _ _ _ _ (start .pre .0) _ (start .pre .1) _ (place .position .ensures), place .position .ensures)
   where
+    place : tie.After-position
+    place = search
+
+    after-form : tie.After-form
+    after-form = search place
+
     start : tie.Start
-    start = search
+    start = search after-form
 
 part-area-end : tie.Need-part-area-end
-part-area-end c = omega (arith, starts-inside _ _ _ _ _ _ (start .pre .0) _ (start .pre .1))
+part-area-end c = omega (arith, starts-inside _ _ _ _ _ _ (start .pre .0) _ (start .pre .1) _ (place .position .ensures), place .position .ensures)
   where
-    start : tie.Start
-    start = search
-
-sub-copy-moved : tie.Need-sub-copy-moved
-sub-copy-moved c = omega (arith, starts-inside _ _ _ _ _ _ (start .pre .0) _ (start .pre .1))
-  where
-    after-index : tie.After-index
-    after-index = search
+    place : tie.After-position
+    place = search
 
     after-form : tie.After-form
-    after-form = search after-index
-
-    start : tie.Start
-    start = search after-form
-
-part-copy-moved-start : tie.Need-part-copy-moved-start
-part-copy-moved-start c = omega (arith, starts-inside _ _ _ _ _ _ (start .pre .0) _ (start .pre .1))
-  where
-    after-index : tie.After-index
-    after-index = search
-
-    after-form : tie.After-form
-    after-form = search after-index
-
-    start : tie.Start
-    start = search after-form
-
-part-copy-moved-end : tie.Need-part-copy-moved-end
-part-copy-moved-end c = omega (arith, starts-inside _ _ _ _ _ _ (start .pre .0) _ (start .pre .1))
-  where
-    after-index : tie.After-index
-    after-index = search
-
-    after-form : tie.After-form
-    after-form = search after-index
+    after-form = search place
 
     start : tie.Start
     start = search after-form
 
 copy-moved-requires : tie.Need-copy-moved-requires
-copy-moved-requires c κs = moved-asks _ _ _ _ _ _ (start .pre .0) _ (start .pre .1)
+copy-moved-requires c κs = moved-asks _ _ _ _ _ _ (start .pre .0) _ (start .pre .1) _ (place .position .ensures)
   where
     after-index : tie.After-index
     after-index = search
 
+    place : tie.After-position
+    place = search after-index
+
     after-form : tie.After-form
-    after-form = search after-index
+    after-form = search place
 
     start : tie.Start
     start = search after-form
@@ -232,8 +205,11 @@ entries-start-requires c κs = run-asks _ _ _ _ _ _ (start .pre .0) _ (start .pr
     after-index : tie.After-index
     after-index = search
 
+    place : tie.After-position
+    place = search after-index
+
     after-form : tie.After-form
-    after-form = search after-index
+    after-form = search place
 
     start : tie.Start
     start = search after-form
@@ -245,7 +221,7 @@ add-run c =
       run-asks _ _ _ _ _ _ (start .pre .0) _ (start .pre .1),
       after-entries-start .entries-start .ensures,
       run-inside _ _ _ _ _ _ (start .pre .0) _ (start .pre .1),
-      area-long _ _ _ _ _ _ (start .pre .0) _ (start .pre .1),
+      area-long _ _ _ _ _ _ (start .pre .0) _ (start .pre .1) _ (place .position .ensures),
     )
   where
     after-entries-start : tie.After-entries-start
@@ -254,8 +230,11 @@ add-run c =
     after-index : tie.After-index
     after-index = search after-entries-start
 
+    place : tie.After-position
+    place = search after-index
+
     after-form : tie.After-form
-    after-form = search after-index
+    after-form = search place
 
     start : tie.Start
     start = search after-form
@@ -267,7 +246,7 @@ mul-run c =
       run-asks _ _ _ _ _ _ (start .pre .0) _ (start .pre .1),
       after-entries-start .entries-start .ensures,
       run-inside _ _ _ _ _ _ (start .pre .0) _ (start .pre .1),
-      area-long _ _ _ _ _ _ (start .pre .0) _ (start .pre .1),
+      area-long _ _ _ _ _ _ (start .pre .0) _ (start .pre .1) _ (place .position .ensures),
     )
   where
     after-entries-start : tie.After-entries-start
@@ -276,8 +255,11 @@ mul-run c =
     after-index : tie.After-index
     after-index = search after-entries-start
 
+    place : tie.After-position
+    place = search after-index
+
     after-form : tie.After-form
-    after-form = search after-index
+    after-form = search place
 
     start : tie.Start
     start = search after-form
@@ -289,7 +271,7 @@ sub-run c =
       run-asks _ _ _ _ _ _ (start .pre .0) _ (start .pre .1),
       after-entries-start .entries-start .ensures,
       run-inside _ _ _ _ _ _ (start .pre .0) _ (start .pre .1),
-      area-long _ _ _ _ _ _ (start .pre .0) _ (start .pre .1),
+      area-long _ _ _ _ _ _ (start .pre .0) _ (start .pre .1) _ (place .position .ensures),
     )
   where
     after-entries-start : tie.After-entries-start
@@ -298,8 +280,11 @@ sub-run c =
     after-index : tie.After-index
     after-index = search after-entries-start
 
+    place : tie.After-position
+    place = search after-index
+
     after-form : tie.After-form
-    after-form = search after-index
+    after-form = search place
 
     start : tie.Start
     start = search after-form
@@ -311,7 +296,7 @@ part-run-start c =
       run-asks _ _ _ _ _ _ (start .pre .0) _ (start .pre .1),
       after-entries-start .entries-start .ensures,
       run-inside _ _ _ _ _ _ (start .pre .0) _ (start .pre .1),
-      area-long _ _ _ _ _ _ (start .pre .0) _ (start .pre .1),
+      area-long _ _ _ _ _ _ (start .pre .0) _ (start .pre .1) _ (place .position .ensures),
     )
   where
     after-entries-start : tie.After-entries-start
@@ -320,8 +305,11 @@ part-run-start c =
     after-index : tie.After-index
     after-index = search after-entries-start
 
+    place : tie.After-position
+    place = search after-index
+
     after-form : tie.After-form
-    after-form = search after-index
+    after-form = search place
 
     start : tie.Start
     start = search after-form
@@ -333,7 +321,7 @@ part-run-end c =
       run-asks _ _ _ _ _ _ (start .pre .0) _ (start .pre .1),
       after-entries-start .entries-start .ensures,
       run-inside _ _ _ _ _ _ (start .pre .0) _ (start .pre .1),
-      area-long _ _ _ _ _ _ (start .pre .0) _ (start .pre .1),
+      area-long _ _ _ _ _ _ (start .pre .0) _ (start .pre .1) _ (place .position .ensures),
     )
   where
     after-entries-start : tie.After-entries-start
@@ -342,14 +330,17 @@ part-run-end c =
     after-index : tie.After-index
     after-index = search after-entries-start
 
+    place : tie.After-position
+    place = search after-index
+
     after-form : tie.After-form
-    after-form = search after-index
+    after-form = search place
 
     start : tie.Start
     start = search after-form
 
 copy-elements-requires : tie.Need-copy-elements-requires
-copy-elements-requires c κs = before-asks _ _ _ _ _ _ (start .pre .0) _ (start .pre .1) _ (moved-kept after-copy-moved)
+copy-elements-requires c κs = before-asks _ _ _ _ _ _ (start .pre .0) _ (start .pre .1) _ (place .position .ensures) _ (moved-kept after-copy-moved)
   where
     after-copy-moved : tie.After-copy-moved
     after-copy-moved = search
@@ -357,15 +348,18 @@ copy-elements-requires c κs = before-asks _ _ _ _ _ _ (start .pre .0) _ (start 
     after-index : tie.After-index
     after-index = search after-copy-moved
 
+    place : tie.After-position
+    place = search after-index
+
     after-form : tie.After-form
-    after-form = search after-index
+    after-form = search place
 
     start : tie.Start
     start = search after-form
 
 write-parts-requires : tie.Need-write-parts-requires
 write-parts-requires c κs =
-    parts-asks _ _ _ _ _ _ (start .pre .0) _ (start .pre .1) _ _ _ (before-kept after-copy-elements) (after-entries-start .entries-start .ensures .0)
+    parts-asks _ _ _ _ _ _ (start .pre .0) _ (start .pre .1) _ (place .position .ensures) _ _ _ (before-kept after-copy-elements) (after-entries-start .entries-start .ensures .0)
     (after-copy-elements .copy-elements .ensures .1 .0)
   where
     after-copy-elements : tie.After-copy-elements
@@ -377,16 +371,19 @@ write-parts-requires c κs =
     after-index : tie.After-index
     after-index = search after-entries-start
 
+    place : tie.After-position
+    place = search after-index
+
     after-form : tie.After-form
-    after-form = search after-index
+    after-form = search place
 
     start : tie.Start
     start = search after-form
 
 copy-elements-requires-2 : tie.Need-copy-elements-requires-2
 copy-elements-requires-2 c κs =
-    after-asks _ _ _ _ _ _ (start .pre .0) _ (start .pre .1) _ _ _ (parts-kept after-write-parts) (after-copy-elements .copy-elements .ensures .1 .0)
-    (parts-bytes _ _ _ _ _ _ (start .pre .0) _ (start .pre .1) _ (after-entries-start .entries-start .ensures .0) _ _
+    after-asks _ _ _ _ _ _ (start .pre .0) _ (start .pre .1) _ (place .position .ensures) _ _ _ (parts-kept after-write-parts) (after-copy-elements .copy-elements .ensures .1 .0)
+    (parts-bytes _ _ _ _ _ _ (start .pre .0) _ (start .pre .1) _ (place .position .ensures) _ (after-entries-start .entries-start .ensures .0) _ _
     (after-write-parts .write-parts .ensures .0 .1))
   where
     after-write-parts : tie.After-write-parts
@@ -401,8 +398,11 @@ copy-elements-requires-2 c κs =
     after-index : tie.After-index
     after-index = search after-entries-start
 
+    place : tie.After-position
+    place = search after-index
+
     after-form : tie.After-form
-    after-form = search after-index
+    after-form = search place
 
     start : tie.Start
     start = search after-form
@@ -411,10 +411,10 @@ sub-fill-zero : tie.Need-sub-fill-zero
 sub-fill-zero c =
     omega (
       arith,
-      index-end _ _ _ _ _ _ (start .pre .0) _ (start .pre .1) _ _ _ (after-copy-elements .copy-elements .ensures .1 .0)
-          (parts-bytes _ _ _ _ _ _ (start .pre .0) _ (start .pre .1) _ (after-entries-start .entries-start .ensures .0) _ _
+      index-end _ _ _ _ _ _ (start .pre .0) _ (start .pre .1) _ (place .position .ensures) _ _ _ (after-copy-elements .copy-elements .ensures .1 .0)
+          (parts-bytes _ _ _ _ _ _ (start .pre .0) _ (start .pre .1) _ (place .position .ensures) _ (after-entries-start .entries-start .ensures .0) _ _
           (after-write-parts .write-parts .ensures .0 .1)) (after-copy-elements2 .copy-elements2 .ensures .1 .0),
-      starts-inside _ _ _ _ _ _ (start .pre .0) _ (start .pre .1),
+      ends .position2 .ensures,
     )
   where
     after-copy-elements2 : tie.After-copy-elements2
@@ -432,8 +432,14 @@ sub-fill-zero c =
     after-index : tie.After-index
     after-index = search after-entries-start
 
+    ends : tie.After-position2
+    ends = search after-index
+
+    place : tie.After-position
+    place = search ends
+
     after-form : tie.After-form
-    after-form = search after-index
+    after-form = search place
 
     start : tie.Start
     start = search after-form
@@ -442,10 +448,11 @@ fill-zero-requires : tie.Need-fill-zero-requires
 fill-zero-requires c κs =
     omega (
       arith,
-      index-end _ _ _ _ _ _ (start .pre .0) _ (start .pre .1) _ _ _ (after-copy-elements .copy-elements .ensures .1 .0)
-          (parts-bytes _ _ _ _ _ _ (start .pre .0) _ (start .pre .1) _ (after-entries-start .entries-start .ensures .0) _ _
+      index-end _ _ _ _ _ _ (start .pre .0) _ (start .pre .1) _ (place .position .ensures) _ _ _ (after-copy-elements .copy-elements .ensures .1 .0)
+          (parts-bytes _ _ _ _ _ _ (start .pre .0) _ (start .pre .1) _ (place .position .ensures) _ (after-entries-start .entries-start .ensures .0) _ _
           (after-write-parts .write-parts .ensures .0 .1)) (after-copy-elements2 .copy-elements2 .ensures .1 .0),
       after-kept after-copy-elements2,
+      ends .position2 .ensures,
     )
   where
     after-copy-elements2 : tie.After-copy-elements2
@@ -463,8 +470,14 @@ fill-zero-requires c κs =
     after-index : tie.After-index
     after-index = search after-entries-start
 
+    ends : tie.After-position2
+    ends = search after-index
+
+    place : tie.After-position
+    place = search ends
+
     after-form : tie.After-form
-    after-form = search after-index
+    after-form = search place
 
     start : tie.Start
     start = search after-form
@@ -483,17 +496,15 @@ same-length-2 c = search needs
 
 returns : tie.Need-returns
 returns c = (
-  areas-done _ _ _ _ _ _ (start .pre .0) _ (start .pre .1) _ _ _ _ _ _ _ _ (ap (λ (x : List ℕ). take (256 + start .args .v .old .form .extended + 256 * start .args .v .old .n)
-      (start .args .image .now) ++ (x ++ drop (length (start .args .image .now) - (256 + start .args .v .old .form .extended + 256 * start .args .v .old .n))
-      (drop (256 + start .args .v .old .form .extended + 256 * start .args .v .old .n) (start .args .image .now)))) (after-copy-moved .copy-moved .ensures .0))
+  areas-written _ _ _ _ _ _ (start .pre .0) _ (start .pre .1) _ (place .position .ensures) _ _ _ _ _ _ _ _ _ (after-copy-moved .copy-moved .ensures .0)
       (after-copy-elements .copy-elements .ensures .0) (after-copy-elements .copy-elements .ensures .1 .0) (parts-image _ _ _ _ _ _
-      (start .pre .0) _ (start .pre .1) _ (after-entries-start .entries-start .ensures .0) _ _ _ (after-write-parts .write-parts .ensures .0 .0))
-      (parts-bytes _ _ _ _ _ _ (start .pre .0) _ (start .pre .1) _ (after-entries-start .entries-start .ensures .0) _ _
+      (start .pre .0) _ (start .pre .1) _ (place .position .ensures) _ (after-entries-start .entries-start .ensures .0) _ _ _ (after-write-parts .write-parts .ensures .0 .0))
+      (parts-bytes _ _ _ _ _ _ (start .pre .0) _ (start .pre .1) _ (place .position .ensures) _ (after-entries-start .entries-start .ensures .0) _ _
       (after-write-parts .write-parts .ensures .0 .1)) (after-copy-elements2 .copy-elements2 .ensures .0)
-      (after-copy-elements2 .copy-elements2 .ensures .1 .0) (after-fill-zero .fill-zero .ensures .0),
+      (after-copy-elements2 .copy-elements2 .ensures .1 .0) (ends .position2 .ensures) (after-fill-zero .fill-zero .ensures .0),
   (
     parts-marks _ _ _ _ _ _ (start .pre .0) _
-        (start .pre .1) _ (after-entries-start .entries-start .ensures .0) _ (after-write-parts .write-parts .ensures .0 .2),
+        (start .pre .1) _ (place .position .ensures) _ (after-entries-start .entries-start .ensures .0) _ (after-write-parts .write-parts .ensures .0 .2),
     (after-fill-zero .fill-zero .ensures .1 ∙ after-kept after-copy-elements2, search needs),
   ),
 )
@@ -519,8 +530,14 @@ returns c = (
     after-index : tie.After-index
     after-index = search after-copy-moved
 
+    ends : tie.After-position2
+    ends = search after-index
+
+    place : tie.After-position
+    place = search ends
+
     after-form : tie.After-form
-    after-form = search after-index
+    after-form = search place
 
     start : tie.Start
     start = search after-form
@@ -530,19 +547,15 @@ write-areas-spec =
     tie.close
     (tie.spec
     add-front
-    mul-start
-    add-start
-    mul-end
-    add-end
+    position-requires
+    add-position
+    position-requires-2
     sub-index
     part-index-start
     part-index-end
     sub-area
     part-area-start
     part-area-end
-    sub-copy-moved
-    part-copy-moved-start
-    part-copy-moved-end
     copy-moved-requires
     entries-start-requires
     add-run

@@ -11,11 +11,8 @@ use Rattle.change.proofs.write_kept.Tie as tie
 add-front : tie.Need-add-front
 add-front c = search needs
 
-mul-start : tie.Need-mul-start
-mul-start c = search needs
-
-add-start : tie.Need-add-start
-add-start c = search needs
+position-requires : tie.Need-position-requires
+position-requires c κs = search needs
 
 mul-rest : tie.Need-mul-rest
 mul-rest c = search needs
@@ -125,7 +122,7 @@ put-rest-requires : tie.Need-put-rest-requires
 put-rest-requires c κs =
     let i = new-inside _ _ _ _ _ _ (start .pre .0) _ (start .pre .1 .0) (start .pre .1 .1 .0) (λ k. omega (arith, known .slice-known .given k))
     _ _ (save .save-old .ensures .0) _ (parts .write-parts .ensures .0 .1) in
-    (i .0, omega (arith, i .1, parts .write-parts .ensures .1 .0))
+    (omega (arith, i .0, place .position .ensures), omega (arith, i .1, place .position .ensures, parts .write-parts .ensures .1 .0))
   where
     parts : tie.After-write-parts
     parts = search
@@ -133,8 +130,11 @@ put-rest-requires c κs =
     save : tie.After-save-old
     save = search parts
 
+    place : tie.After-position
+    place = search save
+
     formed : tie.After-form
-    formed = search save
+    formed = search place
 
     known : tie.After-slice-known
     known = search formed
@@ -154,8 +154,8 @@ same-length-3 c = search needs
 returns : tie.Need-returns
 returns c = (
   kept-areas _ _ _ _ _ _ (start .pre .0) _ (start .pre .1 .0) (start .pre .1 .1 .0) (λ k. omega (arith, known .slice-known .given k))
-      _ _ (save .save-old .ensures .0) _ (parts .write-parts .ensures .0 .1) _ _ (parts .write-parts .ensures .0 .0) (parts .write-parts .ensures .1 .0)
-      (put .put-rest .ensures .0),
+      _ _ (save .save-old .ensures .0) _ (parts .write-parts .ensures .0 .1) _ _ _ (place .position .ensures)
+      (parts .write-parts .ensures .0 .0) (parts .write-parts .ensures .1 .0) (put .put-rest .ensures .0),
   (
     kept-marks _ _ _ _ _ _ (start .pre .0) _ (start .pre .1 .0) (start .pre .1 .1 .0) (λ k. omega (arith, known .slice-known .given k))
         _ _ (save .save-old .ensures .0) _ (parts .write-parts .ensures .0 .2),
@@ -176,8 +176,11 @@ returns c = (
     save : tie.After-save-old
     save = search parts
 
+    place : tie.After-position
+    place = search save
+
     formed : tie.After-form
-    formed = search save
+    formed = search place
 
     known : tie.After-slice-known
     known = search formed
@@ -190,8 +193,7 @@ write-kept-spec =
     tie.close
     (tie.spec
     add-front
-    mul-start
-    add-start
+    position-requires
     mul-rest
     sub-rest
     save-old-requires

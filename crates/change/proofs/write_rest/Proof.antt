@@ -1,23 +1,15 @@
 -- `write_rest` meets its contract.
+use native.Mathlib.Omega.{arith}
 use borrow.Author.Needs.{needs}
 use Rattle.change.proofs.CodeLaws.{rest-sealed}
 use Rattle.change.proofs.write_rest.Statement.{statement}
 use Rattle.change.proofs.write_rest.Tie as tie
 
-sub-write-free-list : tie.Need-sub-write-free-list
-sub-write-free-list c = search needs
-
-part-write-free-list-start : tie.Need-part-write-free-list-start
-part-write-free-list-start c = search needs
-
-part-write-free-list-end : tie.Need-part-write-free-list-end
-part-write-free-list-end c = search needs
+add-n : tie.Need-add-n
+add-n c = search needs
 
 write-free-list-requires : tie.Need-write-free-list-requires
 write-free-list-requires c κs = search needs
-
-add-write-counts : tie.Need-add-write-counts
-add-write-counts c = search needs
 
 write-counts-requires : tie.Need-write-counts-requires
 write-counts-requires c κs = search needs
@@ -28,7 +20,7 @@ same-length c = search needs
 returns : tie.Need-returns
 returns c =
     let f = after-write-free-list .write-free-list .ensures in (
-      rest-sealed (start .args .image .now) _ _ _ (start .args .front) (start .args .v) _ (start .pre .0) (start .pre .1) (f .0) (f .1 .0) (after-write-counts .write-counts .ensures .0),
+      rest-sealed (start .args .image .now) _ _ _ (start .args .v) _ (omega (arith, start .pre)) (f .0) (f .1 .0) (after-write-counts .write-counts .ensures .0),
       search needs,
     )
   where
@@ -45,11 +37,8 @@ pub write-rest-spec : {M : Type 1} → statement M
 write-rest-spec =
     tie.close
     (tie.spec
-    sub-write-free-list
-    part-write-free-list-start
-    part-write-free-list-end
+    add-n
     write-free-list-requires
-    add-write-counts
     write-counts-requires
     same-length
     returns)

@@ -8,12 +8,13 @@ use lib.ListN.{length, take}
 use Rattle.spec.specs.Entry.{headword-ok}
 use Rattle.encoder.specs.Limits.{longest-body}
 use Rattle.parts.proofs.Laws.{first-bytes}
-use Rattle.editor.proofs.Rows.{front-blocks, whole-blocks}
+use Rattle.editor.proofs.Rows.{front-blocks, front-accepted, whole-blocks}
 use Rattle.editor.proofs.Changes.{
   text-short,
   head-good,
   body-made,
   body-few,
+  draft-front,
   draft-measured,
   draft-inside,
   draft-marked,
@@ -29,9 +30,9 @@ use borrow.Author.Needs.{needs}
 use Rattle.editor.proofs.insert_in.Statement.{statement}
 use Rattle.editor.proofs.insert_in.Tie as tie
 
--- where the body is made, from the start of the call on
-abbrev start : tie.After-body4 → tie.Start
-start c = start-place
+-- where the body is made, from the start of the call on: the image's length, and the start
+abbrev len-of : tie.After-body4 → tie.After-position
+len-of c = place
   where
     else4 : tie.Else4
     else4 = search
@@ -39,8 +40,11 @@ start c = start-place
     after-writable : tie.After-writable
     after-writable = search else4
 
-    start-place : tie.Start
-    start-place = search after-writable
+    place : tie.After-position
+    place = search after-writable
+
+abbrev start : tie.After-body4 → tie.Start
+start c = search (len-of c)
 
 -- the text is short
 text-few : (c : tie.After-body4) → length (start c .args .text .now) ≤ 3000
@@ -103,20 +107,8 @@ entry-good c =
     start-place : tie.Start
     start-place = search after-writable
 
-add-len : tie.Need-add-len
-add-len c = search needs
-
-mul-len : tie.Need-mul-len
-mul-len c = search needs
-
-add-len-2 : tie.Need-add-len-2
-add-len-2 c = search needs
-
-mul-len-2 : tie.Need-mul-len-2
-mul-len-2 c = search needs
-
-add-len-3 : tie.Need-add-len-3
-add-len-3 c = search needs
+position-requires : tie.Need-position-requires
+position-requires c κs = search needs
 
 writable-requires : tie.Need-writable-requires
 writable-requires c κs = search needs
@@ -266,13 +258,13 @@ slice-aggregate-new : tie.Need-slice-aggregate-new
 slice-aggregate-new c = first-bytes _ _ (omega (arith, text-few (c .before)))
 
 slice-reshare-prefix-measure-change : tie.Need-slice-reshare-prefix-measure-change
-slice-reshare-prefix-measure-change c = omega (arith, start after-body4 .pre .1 .0)
+slice-reshare-prefix-measure-change c = omega (arith, start after-body4 .pre .1 .0, len-of after-body4 .position .ensures)
   where
     after-body4 : tie.After-body4
     after-body4 = search
 
 slice-aggregate-measure-change : tie.Need-slice-aggregate-measure-change
-slice-aggregate-measure-change c = first-bytes _ _ (omega (arith, start after-body4 .pre .1 .0))
+slice-aggregate-measure-change c = first-bytes _ _ (omega (arith, start after-body4 .pre .1 .0, len-of after-body4 .position .ensures))
   where
     after-body4 : tie.After-body4
     after-body4 = search
@@ -280,7 +272,14 @@ slice-aggregate-measure-change c = first-bytes _ _ (omega (arith, start after-bo
 measure-change-requires : tie.Need-measure-change-requires
 measure-change-requires c κs =
     let p = start after-body4 .pre in
-    (p .0 .0, (front-blocks _ _ (p .1 .0) (whole-blocks _ _ (p .0 .0)), entry-good after-body4 .0, entry-good after-body4 .1))
+    let there = len-of after-body4 .position .ensures in (
+      front-accepted _ _ _ there (p .0 .0),
+      (
+        front-blocks (start after-body4 .args .image .now) (len-of after-body4 .position .result) (omega (arith, there, p .1 .0)) (omega (arith, there, whole-blocks _ _ (p .0 .0))),
+        entry-good after-body4 .0,
+        entry-good after-body4 .1,
+      ),
+    )
   where
     after-body4 : tie.After-body4
     after-body4 = search
@@ -295,7 +294,7 @@ change-requires : tie.Need-change-requires
 change-requires c κs =
     let a = start-place .args in
     let p = start-place .pre in
-    let m = after-measure-change .measure-change .ensures in
+    let m = draft-front _ (start-place .args .v) _ _ _ _ _ (place .position .ensures) (after-measure-change .measure-change .ensures) in
     let h = after-headword-ok .headword-ok .ensures in
     let t = after-text-ok .text-ok .ensures in
     let w = after-words-after .words-after .ensures in
@@ -340,8 +339,11 @@ change-requires c κs =
     after-writable : tie.After-writable
     after-writable = search after-headword-ok
 
+    place : tie.After-position
+    place = search after-writable
+
     start-place : tie.Start
-    start-place = search after-writable
+    start-place = search place
 
 enum-told : tie.Need-enum-told
 enum-told c = search needs
@@ -364,7 +366,7 @@ returns-5 c =
     let v = after-writable .writable .ensures in
     let h = after-headword-ok .headword-ok .ensures in
     let t = after-text-ok .text-ok .ensures in
-    let m = after-measure-change .measure-change .ensures in
+    let m = draft-front _ (start-place .args .v) _ _ _ _ _ (place .position .ensures) (after-measure-change .measure-change .ensures) in
     let q = after-change .change .ensures in
     let r = insert-fifteen (start-place .args .image .now) (start-place .args .work .now) (start-place .args .v) (p .0 .0) (p .1 .0) (p .1 .1) _ v
     (start-place .args .headword .now) (else1 .if1 .left)
@@ -407,8 +409,11 @@ returns-5 c =
     after-writable : tie.After-writable
     after-writable = search else1
 
+    place : tie.After-position
+    place = search after-writable
+
     start-place : tie.Start
-    start-place = search after-writable
+    start-place = search place
 
 same-length-8 : tie.Need-same-length-8
 same-length-8 c = search needs
@@ -425,7 +430,7 @@ returns-6 c =
     let v = after-writable .writable .ensures in
     let h = after-headword-ok .headword-ok .ensures in
     let t = after-text-ok .text-ok .ensures in
-    let m = after-measure-change .measure-change .ensures in
+    let m = draft-front _ (start-place .args .v) _ _ _ _ _ (place .position .ensures) (after-measure-change .measure-change .ensures) in
     let q = after-change .change .ensures in
     let r = insert-done (start-place .args .image .now) (start-place .args .work .now) (start-place .args .v) (p .0 .0) (p .1 .0) (p .1 .1) _ v
     (start-place .args .headword .now) (else1 .if1 .left)
@@ -471,18 +476,17 @@ returns-6 c =
     after-writable : tie.After-writable
     after-writable = search else1
 
+    place : tie.After-position
+    place = search after-writable
+
     start-place : tie.Start
-    start-place = search after-writable
+    start-place = search place
 
 pub insert-in-spec : {M : Type 1} → statement M
 insert-in-spec =
     tie.close
     (tie.spec
-    add-len
-    mul-len
-    add-len-2
-    mul-len-2
-    add-len-3
+    position-requires
     writable-requires
     same-length
     returns

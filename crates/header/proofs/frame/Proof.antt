@@ -19,11 +19,8 @@ returns-2 c = (search frame-options, search no-form)
 read-u16-requires : tie.Need-read-u16-requires
 read-u16-requires c κs = search needs
 
-mul-start : tie.Need-mul-start
-mul-start c = search needs
-
-add-start : tie.Need-add-start
-add-start c = search needs
+position-requires : tie.Need-position-requires
+position-requires c κs = search needs
 
 returns-3 : tie.Need-returns-3
 returns-3 c = (search frame-index, search no-form)
@@ -49,8 +46,7 @@ frame-spec =
     options-ok-requires
     returns-2
     read-u16-requires
-    mul-start
-    add-start
+    position-requires
     returns-3
     returns-4
     sub-data

@@ -7,11 +7,8 @@ use Rattle.inspect.proofs.inspect_areas.Tie as tie
 add-from : tie.Need-add-from
 add-from c = search needs
 
-mul-start : tie.Need-mul-start
-mul-start c = search needs
-
-add-start : tie.Need-add-start
-add-start c = search needs
+position-requires : tie.Need-position-requires
+position-requires c κs = search needs
 
 sub-index : tie.Need-sub-index
 sub-index c = search needs
@@ -65,7 +62,7 @@ settle-requires c κs =
     let number = after-nindex2 .nindex2 .ensures .0 in
     let ends = after-read-index .read-index .ensures in
     let end = after-ended .ended .given .0 .0 in (
-      areas-read _ _ _ _ frame good _ number _ ends end (search) _ _ _ 65536 (after-read-runs .read-runs .ensures) (marks-zero 1024) (search) _ _ (search),
+      areas-read _ _ _ _ frame good _ (after-position .position .ensures) _ number _ ends end (search) _ _ _ 65536 (after-read-runs .read-runs .ensures) (marks-zero 1024) (search) _ _ (search),
       ((search needs, search needs, search needs, search needs), search needs),
     )
   where
@@ -81,8 +78,11 @@ settle-requires c κs =
     after-nindex2 : tie.After-nindex2
     after-nindex2 = search after-read-index
 
+    after-position : tie.After-position
+    after-position = search after-nindex2
+
     start : tie.Start
-    start = search after-nindex2
+    start = search after-position
 
 returns : tie.Need-returns
 returns c = search areas-index
@@ -101,8 +101,7 @@ inspect-areas-spec =
     tie.close
     (tie.spec
     add-from
-    mul-start
-    add-start
+    position-requires
     sub-index
     part-index-start
     part-index-end

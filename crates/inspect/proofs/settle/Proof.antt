@@ -8,14 +8,8 @@ use Rattle.inspect.proofs.settle.Tie as tie
 returns : tie.Need-returns
 returns c = search settle-laws
 
-add-start : tie.Need-add-start
-add-start c = search needs
-
-mul-start : tie.Need-mul-start
-mul-start c = search needs
-
-add-start-2 : tie.Need-add-start-2
-add-start-2 c = search needs
+position-requires : tie.Need-position-requires
+position-requires c κs = search needs
 
 empty-block2-requires : tie.Need-empty-block2-requires
 empty-block2-requires c κs = search needs
@@ -65,7 +59,7 @@ same-length-6 c = search needs
 returns-4 : tie.Need-returns-4
 returns-4 c =
     let read = after-read-free-list .read-free-list .ensures in
-    settle-words _ _ _ _ (start .pre .0) (search) _ (after-empty-block2 .empty-block2 .ensures .0) _ (read .0) (else2 .if2 .left)
+    settle-words _ _ _ _ (start .pre .0) (search) _ (after-empty-block2 .empty-block2 .ensures .0) _ (after-position .position .ensures) _ (read .0) (else2 .if2 .left)
     _ (read .1 .0) _ (length-marks _) (start .pre .1 .0 .2) _
     (after-next-unmarked .next-unmarked .ensures .0) (else3 .if3 .left) _ (after-nword .nword .ensures .0) (search)
   where
@@ -87,8 +81,11 @@ returns-4 c =
     after-empty-block2 : tie.After-empty-block2
     after-empty-block2 = search after-read-free-list
 
+    after-position : tie.After-position
+    after-position = search after-empty-block2
+
     start : tie.Start
-    start = search after-empty-block2
+    start = search after-position
 
 nblock2-requires : tie.Need-nblock2-requires
 nblock2-requires c κs = omega (arith, start .pre .1 .0 .0)
@@ -111,8 +108,11 @@ nblock2-requires c κs = omega (arith, start .pre .1 .0 .0)
     after-empty-block2 : tie.After-empty-block2
     after-empty-block2 = search after-read-free-list
 
+    after-position : tie.After-position
+    after-position = search after-empty-block2
+
     start : tie.Start
-    start = search after-empty-block2
+    start = search after-position
 
 same-length-7 : tie.Need-same-length-7
 same-length-7 c = search needs
@@ -123,7 +123,7 @@ same-length-8 c = search needs
 returns-5 : tie.Need-returns-5
 returns-5 c =
     let read = after-read-free-list .read-free-list .ensures in
-    settle-blocks _ _ _ _ (start .pre .0) (search) _ (after-empty-block2 .empty-block2 .ensures .0) _ (read .0) (else2 .if2 .left)
+    settle-blocks _ _ _ _ (start .pre .0) (search) _ (after-empty-block2 .empty-block2 .ensures .0) _ (after-position .position .ensures) _ (read .0) (else2 .if2 .left)
     _ (read .1 .0) _ (length-marks _) (start .pre .1 .0 .2) _
     (after-next-unmarked .next-unmarked .ensures .0) (else3 .if3 .left) _ (after-nword .nword .ensures .0) (search) _ (after-nblock2 .nblock2 .ensures .0)
     (search)
@@ -149,8 +149,11 @@ returns-5 c =
     after-empty-block2 : tie.After-empty-block2
     after-empty-block2 = search after-read-free-list
 
+    after-position : tie.After-position
+    after-position = search after-empty-block2
+
     start : tie.Start
-    start = search after-empty-block2
+    start = search after-position
 
 same-length-9 : tie.Need-same-length-9
 same-length-9 c = search needs
@@ -161,7 +164,7 @@ same-length-10 c = search needs
 returns-6 : tie.Need-returns-6
 returns-6 c =
     let read = after-read-free-list .read-free-list .ensures in
-    settle-sound _ _ _ _ (start .pre .0) (search) _ (after-empty-block2 .empty-block2 .ensures .0) _ (read .0) (else2 .if2 .left)
+    settle-sound _ _ _ _ (start .pre .0) (search) _ (after-empty-block2 .empty-block2 .ensures .0) _ (after-position .position .ensures) _ (read .0) (else2 .if2 .left)
     _ (read .1 .0) _ (length-marks _) (start .pre .1 .0 .2) _
     (after-next-unmarked .next-unmarked .ensures .0) (else3 .if3 .left) _ (after-nword .nword .ensures .0) (search) _ (after-nblock2 .nblock2 .ensures .0)
     (search) _ _ _ (start .pre .1 .1) (start .pre .1 .0 .3) (read .1 .1)
@@ -187,17 +190,18 @@ returns-6 c =
     after-empty-block2 : tie.After-empty-block2
     after-empty-block2 = search after-read-free-list
 
+    after-position : tie.After-position
+    after-position = search after-empty-block2
+
     start : tie.Start
-    start = search after-empty-block2
+    start = search after-position
 
 pub settle-spec : {M : Type 1} → statement M
 settle-spec =
     tie.close
     (tie.spec
     returns
-    add-start
-    mul-start
-    add-start-2
+    position-requires
     empty-block2-requires
     sub-read-free-list
     part-read-free-list-start

@@ -14,14 +14,8 @@ add-from c = omega (arith, accepted-index _ _ (start .pre .0 .0))
     start : tie.Start
     start = search
 
-mul-start : tie.Need-mul-start
-mul-start c = omega (arith, accepted-index _ _ (start .pre .0 .0))
-  where
-    start : tie.Start
-    start = search
-
-add-start : tie.Need-add-start
-add-start c = omega (arith, accepted-index _ _ (start .pre .0 .0))
+position-requires : tie.Need-position-requires
+position-requires c κs = omega (arith, accepted-index _ _ (start .pre .0 .0))
   where
     start : tie.Start
     start = search
@@ -74,8 +68,7 @@ accepted-lines-spec =
     (tie.spec
     first-line-requires
     add-from
-    mul-start
-    add-start
+    position-requires
     nindex2-requires
     sub-all-lines
     part-all-lines-start

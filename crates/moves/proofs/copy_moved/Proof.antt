@@ -9,16 +9,16 @@ use Rattle.moves.proofs.copy_moved.Statement.{statement}
 use Rattle.moves.proofs.copy_moved.Tie as tie
 
 abbrev Inv-loop : tie.InvT-loop
-Inv-loop dst₀ area d numbers g b₀ dst b = (b ≤ g) × (length dst ≡ length dst₀) × Copying area numbers d g dst₀ b dst
+Inv-loop image₀ extended index area d numbers g b₀ image b = (b ≤ g) × (length image ≡ length image₀) × Copying extended index area numbers d g image₀ b image
 
 abbrev μ-loop : tie.MeasureT-loop
-μ-loop dst₀ area d numbers g b₀ dst b = g - b
+μ-loop image₀ extended index area d numbers g b₀ image b = g - b
 
 loop-holds : tie.Need-loop-holds Inv-loop μ-loop
 loop-holds c = (omega arith, refl, search (copy-start, needs))
 
 copy-one-requires : tie.Need-copy-one-requires Inv-loop μ-loop
-copy-one-requires c κs = (search needs, copy-ready _ _ _ _ _ _ _ (at-loop .loop .inv .2) (in-loop .loop-test .taken) (at-loop .loop .inv .1))
+copy-one-requires c κs = (search needs, copy-ready _ _ _ _ _ _ _ _ _ (at-loop .loop .inv .2) (in-loop .loop-test .taken) (at-loop .loop .inv .1))
   where
     in-loop : tie.In-loop Inv-loop μ-loop
     in-loop = search

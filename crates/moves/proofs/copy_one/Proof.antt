@@ -22,7 +22,16 @@ shared-slice-read-p : tie.Need-shared-slice-read-p
 shared-slice-read-p c = search needs
 
 cast-p : tie.Need-cast-p
-cast-p c = omega (arith, ready-run _ _ _ _ _ (else1 .if1 .left) (start .pre .1))
+cast-p c = omega (arith, ready-run _ _ _ _ _ _ _ (else1 .if1 .left) (start .pre .1))
+  where
+    else1 : tie.Else1
+    else1 = search
+
+    start : tie.Start
+    start = search else1
+
+position-requires : tie.Need-position-requires
+position-requires c κs = omega (arith, ready-run _ _ _ _ _ _ _ (else1 .if1 .left) (start .pre .1))
   where
     else1 : tie.Else1
     else1 = search
@@ -31,16 +40,7 @@ cast-p c = omega (arith, ready-run _ _ _ _ _ (else1 .if1 .left) (start .pre .1))
     start = search else1
 
 mul-copy : tie.Need-mul-copy
-mul-copy c = omega (arith, ready-run _ _ _ _ _ (else1 .if1 .left) (start .pre .1))
-  where
-    else1 : tie.Else1
-    else1 = search
-
-    start : tie.Start
-    start = search else1
-
-mul-copy-2 : tie.Need-mul-copy-2
-mul-copy-2 c = omega (arith, ready-run _ _ _ _ _ (else1 .if1 .left) (start .pre .1))
+mul-copy c = omega (arith, ready-run _ _ _ _ _ _ _ (else1 .if1 .left) (start .pre .1))
   where
     else1 : tie.Else1
     else1 = search
@@ -51,11 +51,11 @@ mul-copy-2 c = omega (arith, ready-run _ _ _ _ _ (else1 .if1 .left) (start .pre 
 size-at-requires : tie.Need-size-at-requires
 size-at-requires c κs = search needs
 
-mul-copy-3 : tie.Need-mul-copy-3
-mul-copy-3 c = search needs
+mul-copy-2 : tie.Need-mul-copy-2
+mul-copy-2 c = search needs
 
 copy-requires : tie.Need-copy-requires
-copy-requires c κs = let r = ready-run _ _ _ _ _ (else1 .if1 .left) (start .pre .1) in (omega arith, omega arith)
+copy-requires c κs = let r = ready-run _ _ _ _ _ _ _ (else1 .if1 .left) (start .pre .1) in (omega arith, omega arith)
   where
     else1 : tie.Else1
     else1 = search
@@ -79,10 +79,10 @@ copy-one-spec =
     mul-p
     shared-slice-read-p
     cast-p
+    position-requires
     mul-copy
-    mul-copy-2
     size-at-requires
-    mul-copy-3
+    mul-copy-2
     copy-requires
     same-length
     returns-2)

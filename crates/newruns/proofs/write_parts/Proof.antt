@@ -8,6 +8,7 @@ use mathlib.Core.List.{[]}
 use denote.Ref.{now}
 use lib.ListN.{length, take, drop}
 use Rattle.marks.specs.Marks.{marks}
+use Rattle.spec.specs.Header.{block-position}
 use Rattle.spec.specs.Place.{first-headword}
 use Rattle.encoder.specs.Limits.{longest-run}
 use Rattle.parts.specs.Room.{part-room}
@@ -21,17 +22,17 @@ use Rattle.newruns.proofs.write_parts.Statement.{statement}
 use Rattle.newruns.proofs.write_parts.Tie as tie
 
 abbrev Inv-loop : tie.InvT-loop
-Inv-loop image₀ run h body free₀ form fresh start g word₀ part₀ cur₀ last₀ out₀ image free word part cur last out =
+Inv-loop image₀ run h body free₀ form fresh index g word₀ part₀ cur₀ last₀ out₀ image free word part cur last out =
     (length word ≡ 256) × (length part ≡ part-room) × CursorOk run word cur × (length image ≡ length image₀) × (length free ≡ length free₀) × (g ≤ last)
     × (laid (form .limit) g last₀ (marks free₀) (changed-entries (form .order) run h body fresh) .end + longest-run ≤ 64 * length free₀)
-    × (start + 256 * laid (form .limit) g last₀ (marks free₀) (changed-entries (form .order) run h body fresh) .end ≤ length image₀)
+    × (block-position (form .extended) index (laid (form .limit) g last₀ (marks free₀) (changed-entries (form .order) run h body fresh) .end) ≤ length image₀)
     × (out₀ + elements-long (form .width) (form .limit) g (laid (form .limit) g last₀ (marks free₀) (changed-entries (form .order) run h body fresh) .places)
     (changed-entries (form .order) run h body fresh) ≤ length image₀)
-    × Writing (form .width) (form .limit) start g out₀ last₀ (marks free₀) (changed-entries (form .order) run h body fresh) image₀ out last (marks free)
+    × Writing (form .width) (form .limit) (form .extended) index g out₀ last₀ (marks free₀) (changed-entries (form .order) run h body fresh) image₀ out last (marks free)
     (todo (form .order) run word h body cur) image
 
 abbrev μ-loop : tie.MeasureT-loop
-μ-loop image₀ run h body free₀ form fresh start g word₀ part₀ cur₀ last₀ out₀ image free word part cur last out = length (todo (form .order) run word h body cur)
+μ-loop image₀ run h body free₀ form fresh index g word₀ part₀ cur₀ last₀ out₀ image free word part cur last out = length (todo (form .order) run word h body cur)
 
 -- the part fits its slice
 part-filled : (c : tie.After-encode-part Inv-loop μ-loop) → c .encode-part .result .used ≤ length (c .encode-part .last .1 .1 .1 .1 .1 .1 .0)
@@ -56,8 +57,9 @@ abbrev start-of-larger : tie.After-larger Inv-loop μ-loop → tie.Start Inv-loo
 start-of-larger c = search (after-advance-of-larger c)
 
 -- its run fits the image
-run-fits : (c : tie.After-larger Inv-loop μ-loop) → start-of-larger c .args .to .start + 256 * after-place-of-larger c .place .result + 256
-    * after-run-blocks-of-larger c .run-blocks .result ≤ length (at-loop-of-larger c .loop .image)
+run-fits : (c : tie.After-larger Inv-loop μ-loop)
+    → block-position (start-of-larger c .args .edit .form .extended) (start-of-larger c .args .to .index) (after-place-of-larger c .place .result)
+    + 256 * after-run-blocks-of-larger c .run-blocks .result ≤ length (at-loop-of-larger c .loop .image)
 run-fits c =
     omega (
       arith,
@@ -84,39 +86,25 @@ run-fits c =
     at-loop : tie.At-loop Inv-loop μ-loop
     at-loop = search after-encode-part
 
-run-starts : (c : tie.After-larger Inv-loop μ-loop)
-    → start-of-larger c .args .to .start + 256 * after-place-of-larger c .place .result ≤ length (at-loop-of-larger c .loop .image)
-run-starts c = omega (arith, run-fits c)
+abbrev after-larger-of-position : tie.After-position Inv-loop μ-loop → tie.After-larger Inv-loop μ-loop
+after-larger-of-position c = search
 
-abbrev after-place-of-write-run : tie.After-write-run Inv-loop μ-loop → tie.After-place Inv-loop μ-loop
-after-place-of-write-run c = search
+-- from its first block's position on
+run-there : (c : tie.After-position Inv-loop μ-loop)
+    → c .position .result + 256 * after-run-blocks-of-larger (after-larger-of-position c) .run-blocks .result ≤ length (at-loop-of-larger (after-larger-of-position c) .loop .image)
+run-there c = omega (arith, run-fits (after-larger-of-position c), c .position .ensures)
 
-abbrev after-word4-of-write-run : tie.After-write-run Inv-loop μ-loop → tie.After-word4 Inv-loop μ-loop
-after-word4-of-write-run c = search (after-place-of-write-run c)
+abbrev after-position-of-write-run : tie.After-write-run Inv-loop μ-loop → tie.After-position Inv-loop μ-loop
+after-position-of-write-run c = search
 
 abbrev at-loop-of-write-run : tie.After-write-run Inv-loop μ-loop → tie.At-loop Inv-loop μ-loop
-at-loop-of-write-run c = search (after-word4-of-write-run c)
-
-abbrev after-advance-of-write-run : tie.After-write-run Inv-loop μ-loop → tie.After-advance Inv-loop μ-loop
-after-advance-of-write-run c = search (at-loop-of-write-run c)
-
-abbrev start-of-write-run : tie.After-write-run Inv-loop μ-loop → tie.Start Inv-loop μ-loop
-start-of-write-run c = search (after-advance-of-write-run c)
+at-loop-of-write-run c = at-loop-of-larger (after-larger-of-position (after-position-of-write-run c))
 
 -- the image after it is as long
-run-kept : (c : tie.After-write-run Inv-loop μ-loop) → length (putMid (start-of-write-run c .args .to .start + 256 * after-place-of-write-run c .place .result)
-    (length (at-loop-of-write-run c .loop .image) - (start-of-write-run c .args .to .start + 256 * after-place-of-write-run c .place .result))
-    (at-loop-of-write-run c .loop .image) (c .write-run .last .0)) ≡ length (at-loop-of-write-run c .loop .image)
-run-kept c = length-lent _ _ (at-loop .loop .image) (c .write-run .last .0) refl (run-starts after-larger) (c .write-run .ensures .1)
-  where
-    after-larger : tie.After-larger Inv-loop μ-loop
-    after-larger = search
-
-    else1 : tie.Else1 Inv-loop μ-loop
-    else1 = search after-larger
-
-    at-loop : tie.At-loop Inv-loop μ-loop
-    at-loop = search else1
+run-kept : (c : tie.After-write-run Inv-loop μ-loop) → length (putMid (after-position-of-write-run c .position .result)
+    (length (at-loop-of-write-run c .loop .image) - after-position-of-write-run c .position .result) (at-loop-of-write-run c .loop .image) (c .write-run .last .0))
+    ≡ length (at-loop-of-write-run c .loop .image)
+run-kept c = length-lent _ _ (at-loop-of-write-run c .loop .image) (c .write-run .last .0) refl (omega (arith, run-there (after-position-of-write-run c))) (c .write-run .ensures .1)
 
 abbrev after-write-run-of-head-length : tie.After-head-length Inv-loop μ-loop → tie.After-write-run Inv-loop μ-loop
 after-write-run-of-head-length c = search
@@ -181,7 +169,7 @@ loop-holds c = (
   start .pre .1 .1 .0 .0,
   start .pre .1 .1 .0 .1,
   start .pre .1 .1 .1,
-  writing-start _ _ _ _ _ _ _ _ _ _ (begun-todo _ _ _ _ _ _ _ (after-advance .advance .ensures .0) (after-advance .advance .ensures .1 .0)),
+  writing-start _ _ _ _ _ _ _ _ _ _ _ (begun-todo _ _ _ _ _ _ _ (after-advance .advance .ensures .0) (after-advance .advance .ensures .1 .0)),
 )
   where
     after-advance : tie.After-advance Inv-loop μ-loop
@@ -218,7 +206,7 @@ returns : tie.Need-returns Inv-loop μ-loop
 returns c =
     let none = none-left _ _ _ (after-encode-part .encode-part .ensures .1 .0) (c .if1 .taken) in
     let w = at-loop .loop .inv .9 in (
-      (written-image _ _ _ _ _ _ _ _ _ _ _ _ _ _ w none, written-size _ _ _ _ _ _ _ _ _ _ _ _ _ _ w none, written-free _ _ _ _ _ _ _ _ _ _ _ _ _ _ w none),
+      (written-image _ _ _ _ _ _ _ _ _ _ _ _ _ _ _ w none, written-size _ _ _ _ _ _ _ _ _ _ _ _ _ _ _ w none, written-free _ _ _ _ _ _ _ _ _ _ _ _ _ _ _ w none),
       (omega arith, omega arith),
     )
   where
@@ -261,47 +249,29 @@ add-larger c = omega (arith, planning-under _ _ _ _ _ _ _ _ (at-loop .loop .inv 
 larger-requires : tie.Need-larger-requires Inv-loop μ-loop
 larger-requires c κs = search needs
 
-mul-write-run : tie.Need-mul-write-run Inv-loop μ-loop
-mul-write-run c = omega (arith, run-starts c, start .good .1 .0)
+position-requires : tie.Need-position-requires Inv-loop μ-loop
+position-requires c κs = omega (arith, run-fits after-larger, start-of-larger after-larger .good .1 .0)
   where
-    after-part2 : tie.After-part2 Inv-loop μ-loop
-    after-part2 = search
-
-    after-advance : tie.After-advance Inv-loop μ-loop
-    after-advance = search after-part2
-
-    start : tie.Start Inv-loop μ-loop
-    start = search after-advance
-
-add-write-run : tie.Need-add-write-run Inv-loop μ-loop
-add-write-run c = omega (arith, run-starts c, start .good .1 .0)
-  where
-    after-part2 : tie.After-part2 Inv-loop μ-loop
-    after-part2 = search
-
-    after-advance : tie.After-advance Inv-loop μ-loop
-    after-advance = search after-part2
-
-    start : tie.Start Inv-loop μ-loop
-    start = search after-advance
+    after-larger : tie.After-larger Inv-loop μ-loop
+    after-larger = search
 
 sub-write-run : tie.Need-sub-write-run Inv-loop μ-loop
-sub-write-run c = omega (arith, run-starts c, start .good .1 .0)
+sub-write-run c = omega (arith, run-there after-position)
   where
-    after-part2 : tie.After-part2 Inv-loop μ-loop
-    after-part2 = search
-
-    after-advance : tie.After-advance Inv-loop μ-loop
-    after-advance = search after-part2
-
-    start : tie.Start Inv-loop μ-loop
-    start = search after-advance
+    after-position : tie.After-position Inv-loop μ-loop
+    after-position = search
 
 part-write-run-start : tie.Need-part-write-run-start Inv-loop μ-loop
-part-write-run-start c = omega (arith, run-starts c)
+part-write-run-start c = omega (arith, run-there after-position)
+  where
+    after-position : tie.After-position Inv-loop μ-loop
+    after-position = search
 
 part-write-run-end : tie.Need-part-write-run-end Inv-loop μ-loop
-part-write-run-end c = omega (arith, run-starts c)
+part-write-run-end c = omega (arith, run-there after-position)
+  where
+    after-position : tie.After-position Inv-loop μ-loop
+    after-position = search
 
 array-share-prefix-part : tie.Need-array-share-prefix-part Inv-loop μ-loop
 array-share-prefix-part c = omega (arith, after-encode-part .encode-part .ensures .1 .1 .1 .1 .0 .0)
@@ -325,10 +295,13 @@ write-run-requires : tie.Need-write-run-requires Inv-loop μ-loop
 write-run-requires c κs =
     let n = after-run-blocks .run-blocks .ensures .0 in
     run-room _ _ _ _ _ (at-loop .loop .image) (after-encode-part .encode-part .ensures .1 .1 .1 .1 .0 .0) (part-filled after-encode-part) n refl
-    (run-fits after-larger)
+    (run-there after-position)
   where
+    after-position : tie.After-position Inv-loop μ-loop
+    after-position = search
+
     after-larger : tie.After-larger Inv-loop μ-loop
-    after-larger = search
+    after-larger = search after-position
 
     after-run-blocks : tie.After-run-blocks Inv-loop μ-loop
     after-run-blocks = search after-larger
@@ -392,7 +365,7 @@ put-element-requires : tie.Need-put-element-requires Inv-loop μ-loop
 put-element-requires c κs = (
   start .pre .1 .0 .0,
   element-fits _ _ _ (after-encode-part .encode-part .ensures .1 .0) (else1 .if1 .left) _ (after-encode-part .encode-part .ensures .1 .1 .0) _ _ _ _ _ _ _
-      (after-run-blocks .run-blocks .ensures .0) (after-place .place .ensures .0) refl refl _ _ _ _ _ _ _ _ _ _ _ (part-head after-head-length)
+      (after-run-blocks .run-blocks .ensures .0) (after-place .place .ensures .0) refl refl _ _ _ _ _ _ _ _ _ _ _ _ (part-head after-head-length)
       (at-loop .loop .inv .9) (at-loop .loop .inv .8) (at-loop .loop .inv .3) (run-kept after-write-run),
 )
   where
@@ -451,9 +424,9 @@ loop-again c = (
   at-loop .loop .inv .8,
   writing-more _ _ _ (after-encode-part .encode-part .ensures .1 .0) (else1 .if1 .left) _ (after-encode-part .encode-part .ensures .1 .1 .0) _ _ _ _ _ _ _
       (after-run-blocks .run-blocks .ensures .0) (after-place .place .ensures .0) (after-larger .larger .ensures) (after-place .place .ensures .1 .1 .0) _ _ _ _
-      _ _ _ _ _ _ _
+      _ _ _ _ _ _ _ _ _ (after-position .position .ensures)
       (part-stored _ _ _ _ _ (after-encode-part .encode-part .ensures .1 .0) (after-encode-part .encode-part .ensures .0) _ _ _ _ _ _ _ _ _ _
-      (after-run-blocks .run-blocks .ensures .0) refl (run-fits after-larger) (after-write-run .write-run .ensures .0) (part-head after-head-length)
+      (after-run-blocks .run-blocks .ensures .0) refl (run-there after-position) (after-write-run .write-run .ensures .0) (part-head after-head-length)
       (after-put-element .put-element .ensures .0))
       (element-past _ _ _ _ _ _ (part-head after-head-length) (after-put-element .put-element .ensures .1 .0))
       (at-loop .loop .inv .9),
@@ -468,8 +441,11 @@ loop-again c = (
     after-write-run : tie.After-write-run Inv-loop μ-loop
     after-write-run = search after-head-length
 
+    after-position : tie.After-position Inv-loop μ-loop
+    after-position = search after-write-run
+
     after-larger : tie.After-larger Inv-loop μ-loop
-    after-larger = search after-write-run
+    after-larger = search after-position
 
     after-place : tie.After-place Inv-loop μ-loop
     after-place = search after-larger
@@ -505,8 +481,7 @@ write-parts-spec =
     place-requires
     add-larger
     larger-requires
-    mul-write-run
-    add-write-run
+    position-requires
     sub-write-run
     part-write-run-start
     part-write-run-end

@@ -2,6 +2,7 @@
 use Prim.Native.Nat.{ℕ, _+_, _*_, _≤_}
 use mathlib.Core.Path.{_≡_}
 use lib.ListN.{length}
+use Rattle.spec.specs.Header.{block-position}
 use Rattle.spec.specs.Index.{elements-bytes}
 use Rattle.index.specs.Elements.{elements-at, Inside}
 use Rattle.pack.specs.Packing.{RunsFit}
@@ -13,13 +14,15 @@ use Rattle.pack.proofs.write_runs.Statement.{statement}
 use Rattle.pack.proofs.write_runs.Tie as tie
 
 abbrev Inv-loop : tie.InvT-loop
-Inv-loop image₀ base index elements area d width front at₀ out₀ b₀ left₀ image at out b left =
-    (length image ≡ length image₀) × (front + length (elements-bytes width (elements-at width index 0 elements)) ≤ base) × (base + 256 * b ≤ length image)
+Inv-loop image₀ m index elements area d width extended front at₀ out₀ b₀ left₀ image at out b left =
+    (length image ≡ length image₀) × (front + length (elements-bytes width (elements-at width index 0 elements)) ≤ block-position extended m 0)
+    × (block-position extended m b ≤ length image)
     × Inside width index at left
-    × ((order : ℕ) → RunsFit width order index area elements d front base (length image₀) → Underway width order index area elements d front base image₀ image at out b left)
+    × ((order : ℕ) → RunsFit width order extended index area elements d front m (length image₀)
+    → Underway width order extended index area elements d front m image₀ image at out b left)
 
 abbrev μ-loop : tie.MeasureT-loop
-μ-loop image₀ base index elements area d width front at₀ out₀ b₀ left₀ image at out b left = left
+μ-loop image₀ m index elements area d width extended front at₀ out₀ b₀ left₀ image at out b left = left
 
 abbrev after-read-number-of-size : tie.After-size Inv-loop μ-loop → tie.After-read-number Inv-loop μ-loop
 after-read-number-of-size c = search
@@ -33,7 +36,7 @@ start-of-size c = search (at-loop-of-size c)
 -- the run here lies in the old area
 inside-here : (c : tie.After-size Inv-loop μ-loop) → after-read-number-of-size c .read-number .result + c .size .given .0 .0 ≤ start-of-size c .args .d
 inside-here c =
-    run-inside _ _ _ _ _ _ _ _ _ _ _ _ _ _ (at-loop .loop .inv .4 _ (start .pre .1 .1)) (in-loop .loop-test .taken) (at-loop .loop .inv .3) (start .pre .1 .0 .0) _
+    run-inside _ _ _ _ _ _ _ _ _ _ _ _ _ _ _ (at-loop .loop .inv .4 _ (start .pre .1 .1)) (in-loop .loop-test .taken) (at-loop .loop .inv .3) (start .pre .1 .0 .0) _
     (after-element-end .element-end .ensures .0) _ (after-read-number .read-number .ensures .0) _ (after-run-size .run-size .ensures .0) _ (after-size .size .given .1)
   where
     after-size : tie.After-size Inv-loop μ-loop
@@ -59,9 +62,10 @@ inside-here c =
 
 -- and fits where it goes
 fits-here : (c : tie.After-size Inv-loop μ-loop)
-    → start-of-size c .args .base + 256 * at-loop-of-size c .loop .b + 256 * c .size .given .0 .0 ≤ length (at-loop-of-size c .loop .image)
+    → block-position (start-of-size c .args .form .extended) (start-of-size c .args .m) (at-loop-of-size c .loop .b) + 256 * c .size .given .0 .0
+    ≤ length (at-loop-of-size c .loop .image)
 fits-here c =
-    run-fits _ _ _ _ _ _ _ _ _ _ _ _ _ _ (at-loop .loop .inv .4 _ (start .pre .1 .1)) (in-loop .loop-test .taken) (at-loop .loop .inv .3) (start .pre .1 .0 .0) _
+    run-fits _ _ _ _ _ _ _ _ _ _ _ _ _ _ _ (at-loop .loop .inv .4 _ (start .pre .1 .1)) (in-loop .loop-test .taken) (at-loop .loop .inv .3) (start .pre .1 .0 .0) _
     (after-element-end .element-end .ensures .0) _ (after-read-number .read-number .ensures .0) _ (after-run-size .run-size .ensures .0) _ (after-size .size .given .1)
   where
     after-size : tie.After-size Inv-loop μ-loop
@@ -85,15 +89,15 @@ fits-here c =
     start : tie.Start Inv-loop μ-loop
     start = search at-loop
 
-add-front : tie.Need-add-front Inv-loop μ-loop
-add-front c = search write-laws
-
 -- so the block behind it can be counted
 counted-here : (c : tie.After-size Inv-loop μ-loop) → at-loop-of-size c .loop .b + c .size .given .0 .0 ≤ 18_446_744_073_709_551_615
 counted-here c = omega (arith, fits-here c)
 
+add-front : tie.Need-add-front Inv-loop μ-loop
+add-front c = search write-laws
+
 loop-holds : tie.Need-loop-holds Inv-loop μ-loop
-loop-holds c = (search write-laws, search write-laws, search write-laws, search write-laws, λ order fit. underway-start _ order _ _ _ _ _ _ _ fit)
+loop-holds c = (search write-laws, search write-laws, search write-laws, search write-laws, λ order fit. underway-start _ order _ _ _ _ _ _ _ _ fit)
 
 element-end-requires : tie.Need-element-end-requires Inv-loop μ-loop
 element-end-requires c κs = search write-laws
@@ -115,7 +119,7 @@ same-length c = search needs
 
 returns : tie.Need-returns Inv-loop μ-loop
 returns c = absurd (
-    underway-broken _ _ _ _ _ _ _ _ _ _ _ _ _ _ (at-loop .loop .inv .4 _ (start .pre .1 .1)) (in-loop .loop-test .taken) (at-loop .loop .inv .3) (start .pre .1 .0 .0) _
+    underway-broken _ _ _ _ _ _ _ _ _ _ _ _ _ _ _ (at-loop .loop .inv .4 _ (start .pre .1 .1)) (in-loop .loop-test .taken) (at-loop .loop .inv .3) (start .pre .1 .0 .0) _
     (after-element-end .element-end .ensures .0) _ (after-read-number .read-number .ensures .0) _ (after-run-size .run-size .ensures .0) (after-enum-told .enum-told .given .1)
     )
   where
@@ -143,26 +147,29 @@ returns c = absurd (
 enum-known-size : tie.Need-enum-known-size Inv-loop μ-loop
 enum-known-size c = search needs
 
+position-requires : tie.Need-position-requires Inv-loop μ-loop
+position-requires c κs = omega (arith, at-loop .loop .inv .2)
+  where
+    at-loop : tie.At-loop Inv-loop μ-loop
+    at-loop = search
+
 mul-copy : tie.Need-mul-copy Inv-loop μ-loop
 mul-copy c = search write-laws
 
-add-copy : tie.Need-add-copy Inv-loop μ-loop
-add-copy c = search write-laws
-
 mul-copy-2 : tie.Need-mul-copy-2 Inv-loop μ-loop
-mul-copy-2 c = search write-laws
-
-mul-copy-3 : tie.Need-mul-copy-3 Inv-loop μ-loop
-mul-copy-3 c = omega (arith, fits-here after-size)
+mul-copy-2 c = omega (arith, fits-here after-size)
   where
     after-size : tie.After-size Inv-loop μ-loop
     after-size = search
 
 copy-requires : tie.Need-copy-requires Inv-loop μ-loop
-copy-requires c κs = (omega (arith, fits-here after-size), omega (arith, inside-here after-size))
+copy-requires c κs = (omega (arith, fits-here after-size, after-position .position .ensures), omega (arith, inside-here after-size))
   where
+    after-position : tie.After-position Inv-loop μ-loop
+    after-position = search
+
     after-size : tie.After-size Inv-loop μ-loop
-    after-size = search
+    after-size = search after-position
 
 add-put-element : tie.Need-add-put-element Inv-loop μ-loop
 add-put-element c = search write-laws
@@ -181,7 +188,7 @@ put-element-requires c κs = (
   search needs,
   omega (
     arith,
-    element-fits _ _ _ _ _ _ _ _ _ _ _ _ _ _ (at-loop .loop .inv .4 _ (start .pre .1 .1)) (in-loop .loop-test .taken) (at-loop .loop .inv .3) (start .pre .1 .0 .0) _
+    element-fits _ _ _ _ _ _ _ _ _ _ _ _ _ _ _ (at-loop .loop .inv .4 _ (start .pre .1 .1)) (in-loop .loop-test .taken) (at-loop .loop .inv .3) (start .pre .1 .0 .0) _
         (after-element-end .element-end .ensures .0) _ (after-read-number .read-number .ensures .0) _ (after-run-size .run-size .ensures .0) _ (after-size .size .given .1),
   ),
 )
@@ -229,9 +236,9 @@ loop-again c = (
   omega (arith, fits-here after-size),
   here-next _ _ _ _ _ (at-loop .loop .inv .3) (after-element-end .element-end .ensures .0) (in-loop .loop-test .taken),
   λ order fit.
-      underway-turn _ _ _ _ _ _ _ _ _ _ _ _ _ _ (at-loop .loop .inv .4 order fit) (in-loop .loop-test .taken) (at-loop .loop .inv .3) (start .pre .1 .0 .0) _
-      (after-element-end .element-end .ensures .0) _ (after-read-number .read-number .ensures .0) _ (after-run-size .run-size .ensures .0) _ (after-size .size .given .1) _ _ _
-      (at-loop .loop .inv .1) (after-copy .copy .ensures .0) (after-put-element .put-element .ensures .0) (after-put-element .put-element .ensures .1 .0),
+      underway-turn _ _ _ _ _ _ _ _ _ _ _ _ _ _ _ (at-loop .loop .inv .4 order fit) (in-loop .loop-test .taken) (at-loop .loop .inv .3) (start .pre .1 .0 .0) _
+      (after-element-end .element-end .ensures .0) _ (after-read-number .read-number .ensures .0) _ (after-run-size .run-size .ensures .0) _ (after-size .size .given .1)
+      _ (after-position .position .ensures) _ _ _ (at-loop .loop .inv .1) (after-copy .copy .ensures .0) (after-put-element .put-element .ensures .0) (after-put-element .put-element .ensures .1 .0),
 )
   where
     after-put-element : tie.After-put-element Inv-loop μ-loop
@@ -240,8 +247,11 @@ loop-again c = (
     after-copy : tie.After-copy Inv-loop μ-loop
     after-copy = search after-put-element
 
+    after-position : tie.After-position Inv-loop μ-loop
+    after-position = search after-copy
+
     after-size : tie.After-size Inv-loop μ-loop
-    after-size = search after-copy
+    after-size = search after-position
 
     after-run-size : tie.After-run-size Inv-loop μ-loop
     after-run-size = search after-size
@@ -267,7 +277,7 @@ same-length-2 c = search write-laws
 returns-2 : tie.Need-returns-2 Inv-loop μ-loop
 returns-2 c =
     let v = at-loop .loop .inv .4 _ (start .pre .1 .1) in
-    (underway-end _ _ _ _ _ _ _ _ _ _ _ _ _ _ v (c .loop-test .left), (underway-out _ _ _ _ _ _ _ _ _ _ _ _ _ _ v (c .loop-test .left), search needs))
+    (underway-end _ _ _ _ _ _ _ _ _ _ _ _ _ _ _ v (c .loop-test .left), (underway-out _ _ _ _ _ _ _ _ _ _ _ _ _ _ _ v (c .loop-test .left), search needs))
   where
     at-loop : tie.At-loop Inv-loop μ-loop
     at-loop = search
@@ -291,10 +301,9 @@ write-runs-spec =
     same-length
     returns
     enum-known-size
+    position-requires
     mul-copy
-    add-copy
     mul-copy-2
-    mul-copy-3
     copy-requires
     add-put-element
     sub-put-element

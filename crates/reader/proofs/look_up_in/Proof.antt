@@ -14,11 +14,8 @@ returns c = search look-up-twelve
 add-from : tie.Need-add-from
 add-from c = search needs
 
-mul-start : tie.Need-mul-start
-mul-start c = search needs
-
-add-start : tie.Need-add-start
-add-start c = search needs
+position-requires : tie.Need-position-requires
+position-requires c κs = search needs
 
 sub-area : tie.Need-sub-area
 sub-area c = search needs
@@ -70,8 +67,9 @@ same-length c = search needs
 
 returns-2 : tie.Need-returns-2
 returns-2 c i o =
-    look-up-same _ _ _ _ (start .pre .0) (start .pre .1 .1) _ (after-headword-ok .headword-ok .ensures) (else1 .if1 .left) _ (after-nindex2 .nindex2 .ensures .0) _ _
-    (after-seek .seek .ensures .0) i o _ _ _ (after-found .found .given .1) _ (after-is-equal .is-equal .ensures) (then2 .if2 .taken) _ _ (after-give-text .give-text .ensures)
+    look-up-same _ _ _ _ (start .pre .0) (start .pre .1 .1) _ (after-headword-ok .headword-ok .ensures) (else1 .if1 .left) _ (after-position .position .ensures) _
+    (after-nindex2 .nindex2 .ensures .0) _ _ (after-seek .seek .ensures .0) i o _ _ _ (after-found .found .given .1) _ (after-is-equal .is-equal .ensures)
+    (then2 .if2 .taken) _ _ (after-give-text .give-text .ensures)
   where
     after-give-text : tie.After-give-text
     after-give-text = search
@@ -91,8 +89,11 @@ returns-2 c i o =
     after-nindex2 : tie.After-nindex2
     after-nindex2 = search after-seek
 
+    after-position : tie.After-position
+    after-position = search after-nindex2
+
     else1 : tie.Else1
-    else1 = search after-nindex2
+    else1 = search after-position
 
     after-headword-ok : tie.After-headword-ok
     after-headword-ok = search else1
@@ -102,8 +103,8 @@ returns-2 c i o =
 
 returns-3 : tie.Need-returns-3
 returns-3 c =
-    look-up-absent _ _ _ _ (start .pre .0) (start .pre .1 .1) _ (after-headword-ok .headword-ok .ensures) (else1 .if1 .left) _ (after-nindex2 .nindex2 .ensures .0) _ _
-    (after-seek .seek .ensures .0) (search)
+    look-up-absent _ _ _ _ (start .pre .0) (start .pre .1 .1) _ (after-headword-ok .headword-ok .ensures) (else1 .if1 .left) _ (after-position .position .ensures) _
+    (after-nindex2 .nindex2 .ensures .0) _ _ (after-seek .seek .ensures .0) (search)
   where
     after-seek : tie.After-seek
     after-seek = search
@@ -111,8 +112,11 @@ returns-3 c =
     after-nindex2 : tie.After-nindex2
     after-nindex2 = search after-seek
 
+    after-position : tie.After-position
+    after-position = search after-nindex2
+
     else1 : tie.Else1
-    else1 = search after-nindex2
+    else1 = search after-position
 
     after-headword-ok : tie.After-headword-ok
     after-headword-ok = search else1
@@ -122,8 +126,8 @@ returns-3 c =
 
 returns-4 : tie.Need-returns-4
 returns-4 c i o =
-    look-up-other _ _ _ _ (start .pre .0) (start .pre .1 .1) _ (after-headword-ok .headword-ok .ensures) (else1 .if1 .left) _ (after-nindex2 .nindex2 .ensures .0) _ _
-    (after-seek .seek .ensures .0) i o _ _ _ (after-found .found .given .1) _ (after-is-equal .is-equal .ensures) (c .if2 .left)
+    look-up-other _ _ _ _ (start .pre .0) (start .pre .1 .1) _ (after-headword-ok .headword-ok .ensures) (else1 .if1 .left) _ (after-position .position .ensures) _
+    (after-nindex2 .nindex2 .ensures .0) _ _ (after-seek .seek .ensures .0) i o _ _ _ (after-found .found .given .1) _ (after-is-equal .is-equal .ensures) (c .if2 .left)
   where
     after-is-equal : tie.After-is-equal
     after-is-equal = search
@@ -137,8 +141,11 @@ returns-4 c i o =
     after-nindex2 : tie.After-nindex2
     after-nindex2 = search after-seek
 
+    after-position : tie.After-position
+    after-position = search after-nindex2
+
     else1 : tie.Else1
-    else1 = search after-nindex2
+    else1 = search after-position
 
     after-headword-ok : tie.After-headword-ok
     after-headword-ok = search else1
@@ -153,8 +160,7 @@ look-up-in-spec =
     headword-ok-requires
     returns
     add-from
-    mul-start
-    add-start
+    position-requires
     sub-area
     part-area-start
     part-area-end

@@ -14,11 +14,8 @@ returns c = search walk-twelve
 add-from : tie.Need-add-from
 add-from c = search needs
 
-mul-start : tie.Need-mul-start
-mul-start c = search needs
-
-add-start : tie.Need-add-start
-add-start c = search needs
+position-requires : tie.Need-position-requires
+position-requires c κs = search needs
 
 sub-area : tie.Need-sub-area
 sub-area c = search needs
@@ -64,8 +61,8 @@ give-entry-requires c κs = (search spot-body, search spot-area)
 
 returns-2 : tie.Need-returns-2
 returns-2 c =
-    walk-absent _ _ _ _ _ (start .pre .0) (start .pre .1 .1) _ _ (after-start-ok .start-ok .ensures) (else1 .if1 .left) _ (after-nindex2 .nindex2 .ensures .0) _ _
-    (after-seek .seek .ensures .0) (search)
+    walk-absent _ _ _ _ _ (start .pre .0) (start .pre .1 .1) _ _ (after-start-ok .start-ok .ensures) (else1 .if1 .left) _ (after-position .position .ensures) _
+    (after-nindex2 .nindex2 .ensures .0) _ _ (after-seek .seek .ensures .0) (search)
   where
     after-seek : tie.After-seek
     after-seek = search
@@ -73,8 +70,11 @@ returns-2 c =
     after-nindex2 : tie.After-nindex2
     after-nindex2 = search after-seek
 
+    after-position : tie.After-position
+    after-position = search after-nindex2
+
     else1 : tie.Else1
-    else1 = search after-nindex2
+    else1 = search after-position
 
     after-start-ok : tie.After-start-ok
     after-start-ok = search else1
@@ -90,8 +90,8 @@ same-length-2 c = search needs
 
 returns-3 : tie.Need-returns-3
 returns-3 c =
-    walk-found _ _ _ _ _ (start .pre .0) (start .pre .1 .1) _ _ (after-start-ok .start-ok .ensures) (else1 .if1 .left) _ (after-nindex2 .nindex2 .ensures .0) _ _
-    (after-seek .seek .ensures .0) _ _ _ (after-found .found .given .1) _ _ _ (after-give-entry .give-entry .ensures)
+    walk-found _ _ _ _ _ (start .pre .0) (start .pre .1 .1) _ _ (after-start-ok .start-ok .ensures) (else1 .if1 .left) _ (after-position .position .ensures) _
+    (after-nindex2 .nindex2 .ensures .0) _ _ (after-seek .seek .ensures .0) _ _ _ (after-found .found .given .1) _ _ _ (after-give-entry .give-entry .ensures)
   where
     after-give-entry : tie.After-give-entry
     after-give-entry = search
@@ -105,8 +105,11 @@ returns-3 c =
     after-nindex2 : tie.After-nindex2
     after-nindex2 = search after-seek
 
+    after-position : tie.After-position
+    after-position = search after-nindex2
+
     else1 : tie.Else1
-    else1 = search after-nindex2
+    else1 = search after-position
 
     after-start-ok : tie.After-start-ok
     after-start-ok = search else1
@@ -121,8 +124,7 @@ walk-in-spec =
     start-ok-requires
     returns
     add-from
-    mul-start
-    add-start
+    position-requires
     sub-area
     part-area-start
     part-area-end
