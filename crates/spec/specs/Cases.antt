@@ -12,7 +12,7 @@ use Rattle.spec.specs.declared.DeleteAnswer.{DeleteAnswer}
 use Rattle.spec.specs.Ascii.{ascii}
 use Rattle.spec.specs.Lists.{all}
 use Rattle.spec.specs.Bytes.{bytes-at, bytes-equal, zeros}
-use Rattle.spec.specs.Header.{new-image, format-of, header-bytes}
+use Rattle.spec.specs.Header.{new-image, format-of, header-bytes, block-position}
 use Rattle.spec.specs.Run.{Run}
 use Rattle.spec.specs.Check.{image-in}
 use Rattle.spec.specs.Place.{Grown, grown}
@@ -372,6 +372,7 @@ free-probes =
     checks 1_792 (1 ∷ 1 ∷ 5 ∷ 2 ∷ [])
     ∷ stores 512 (0 ∷ 0 ∷ 1 ∷ 0 ∷ 0 ∷ 0 ∷ 0 ∷ 128 ∷ 97 ∷ [])
     ∷ stores 768 (0 ∷ 0 ∷ 0xFF ∷ 0xFF ∷ 0xFF ∷ 0xFF ∷ 97 ∷ [])
+    ∷ stores 1_024 (3 ∷ 0 ∷ 0 ∷ 2 ∷ 0 ∷ 98 ∷ 0 ∷ 128 ∷ [])
     ∷ patched 770 (0 ∷ 0 ∷ 0 ∷ 0 ∷ []) (checks 1_792 (refusal 9))
     ∷ patched 186 (1 ∷ []) (checks 1_792 (refusal 9))
     ∷ patched 769 (1 ∷ []) (checks 1_792 (refusal 9))
@@ -473,6 +474,21 @@ optimise-cases =
     ∷ gives change-numbers (1 ∷ 2 ∷ 3 ∷ 4 ∷ 5 ∷ 6 ∷ 7 ∷ 8 ∷ 9 ∷ 10 ∷ 11 ∷ [])
     ∷ []
 
+-- "add in the page's order: header, extended header, index blocks times block size, block size times number"
+unfoldable pub position-cases : List Case
+position-cases =
+    -- the first block behind an index of no block, one, two and the most
+    gives (block-position 0 0 0 ∷ block-position 0 1 0 ∷ block-position 0 2 0 ∷ block-position 0 32_767 0 ∷ []) (256 ∷ 512 ∷ 768 ∷ 8_388_608 ∷ [])
+    -- blocks behind no index
+    ∷ gives (block-position 0 0 1 ∷ block-position 0 0 2 ∷ block-position 0 0 65_535 ∷ []) (512 ∷ 768 ∷ 16_777_216 ∷ [])
+    -- the image of `free-probes`: its two free blocks, its run, and its end
+    ∷ gives (block-position 0 1 0 ∷ block-position 0 1 1 ∷ block-position 0 1 2 ∷ block-position 0 1 5 ∷ []) (512 ∷ 768 ∷ 1_024 ∷ 1_792 ∷ [])
+    -- the ends of a new image and of the largest
+    ∷ gives (block-position 0 0 0 ∷ block-position 0 32_767 65_536 ∷ []) (256 ∷ 25_165_824 ∷ [])
+    -- the extended header is a term of its own
+    ∷ gives (block-position 256 0 0 ∷ block-position 512 3 5 ∷ block-position 65_536 1 0 ∷ []) (512 ∷ 2_816 ∷ 66_048 ∷ [])
+    ∷ []
+
 -- all cases
 unfoldable pub cases : List Case
 cases =
@@ -564,12 +580,12 @@ cases =
 
 -- THE THEOREM: every row holds
 unfoldable pub CasesHold : Type 0
-CasesHold = T (all case-holds (cases ++ optimise-cases))
+CasesHold = T (all case-holds (cases ++ optimise-cases ++ position-cases))
 
 -- names all definitions of this module: who unfolds it unfolds them
 unfoldable pub open-cases : Unit {0}
 unfolding open-answers probe-holds case-holds file-of front5 empty5 ident5 version-probes strange-header5 strange-bytes5 strange-header strange-bytes
     strange-entry two-entries two-free xq xr two-moved long-run equal-extents one-block
     told-grown check-probes run-probes long-headword-probes long-text-probes look-up-probes walk-probes refusal-probes bytes-probes deleted-probes free-probes
-    spare-blocks idle-index none-free optimise-cases cases CasesHold
+    spare-blocks idle-index none-free optimise-cases position-cases cases CasesHold
 open-cases = tt
