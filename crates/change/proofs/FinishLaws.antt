@@ -308,7 +308,7 @@ module _ (o : List ℕ) (p : Draft) (ms : List Bool) (h body : List ℕ) (words 
   free = free-marks (x .d) (a .image .free-list) ++ replicate (length ms - x .d) false
 
   -- the run concerned
-  pub told-here : TargetTold w (fm .order) index area (get (layout-named o .nindex2) o) h (a .image .runs) t
+  told-here : TargetTold w (fm .order) index area (get (layout-named o .nindex2) o) h (a .image .runs) t
   told-here = k .told (a .image) (a .is)
 
   -- the form, and the data area

@@ -75,7 +75,7 @@ module _ (limit g end : ℕ) (ms₀ : List Bool) (es₀ : List Entry) (last : �
 
 -- ---- a lent part
 -- what a callee left in the rest of a slice
-pub lent-rest : (i : ℕ) (s : List ℕ) (f : List ℕ → List ℕ) → f (take (length s - i) (drop i s)) ++ drop (length s - i) (drop i s) ≡ f (drop i s)
+lent-rest : (i : ℕ) (s : List ℕ) (f : List ℕ → List ℕ) → f (take (length s - i) (drop i s)) ++ drop (length s - i) (drop i s) ≡ f (drop i s)
 lent-rest i s f =
     let k : take (length s - i) (drop i s) ≡ drop i s = take-all (length s - i) (drop i s) (omega (arith, length-drop i s)) in
     let n : drop (length s - i) (drop i s) ≡ [] = drop-drop (length s - i) i s ∙ drop-of-length-le s {i = i + (length s - i)} (omega arith) in

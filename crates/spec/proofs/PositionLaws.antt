@@ -30,11 +30,13 @@ module _ (s : List ℕ) (i : Image) (m : IsImage s i) where
   unfolding SameInTheArea
   at-position b n x e = same-in-the-area (i .frame) s b n ∙ ap (bytes-at (256 * b) n) (sym (made-up-area s i m)) ∙ e
 
+  -- so each of these runs stands at its first block's position
   runs-there : (rs : List Run) → StoredRuns (m .area) rs → All (λ r. bytes-at (position-in (i .frame) (r .block)) (256 * r .size) s ≡ r .bytes) rs
   unfolding StoredRuns
   runs-there [] st = tt
   runs-there (r ∷ rs) (st, sts) = (at-position (r .block) (256 * r .size) (r .bytes) (st .placed), runs-there rs sts)
 
+  -- and each of these free blocks' links at its own
   links-there : (bs : List ℕ) → StoredFreeList (m .area) bs → LinksAt (i .frame) s bs
   unfolding StoredFreeList LinksAt
   links-there [] st = tt
