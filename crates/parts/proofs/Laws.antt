@@ -11,10 +11,11 @@ use lib.Dec.{eqb}
 use borrow.Author.Tests.{eq-eqb, ne-eqb, eqb-false, le-leb, lt-leb}
 use Rattle.spec.specs.Lists.{all, All}
 use Rattle.spec.specs.Bytes.{to-little-endian, write, bytes-at, no-zero}
-use Rattle.spec.specs.Order.{below-of, common-prefix, HeadwordOrder}
-use Rattle.spec.specs.Entry.{Entry, headword-ok, headword-suffix, shared-front, field-bytes, entry-bytes}
+use Rattle.spec.specs.Order.{below-of, HeadwordOrder}
+use Rattle.spec.specs.Entry.{Entry, headword-ok, headword-suffix, field-bytes, entry-bytes}
 use Rattle.spec.specs.Run.{read-entry, entries-bytes}
 use Rattle.spec.proofs.ListsLaws.{all-map, clash, one, or-right}
+use Rattle.spec.proofs.PairsLaws.{front-none}
 use Rattle.spec.proofs.RunLaws.{body-short, headword-by}
 use Rattle.spec.proofs.WriteLaws.{bytes-at-take}
 use Rattle.scans.specs.declared.Comparison.{Comparison}
@@ -281,8 +282,8 @@ changed-few order run h body fresh = omega (arith, merge-few (below-of order) (r
 -- ---- the headword of a part's first entry
 -- what stands behind its field length and its shared front
 entry-front : (e : Entry) (es : List Entry) → drop 3 (entries-bytes [] (e ∷ es)) ≡ e .headword ++ 0 ∷ (e .body ++ entries-bytes (e .headword) es)
-unfolding entries-bytes entry-bytes field-bytes headword-suffix shared-front common-prefix to-little-endian
-entry-front e es = append-assoc (e .headword) (0 ∷ e .body) (entries-bytes (e .headword) es)
+unfolding entries-bytes entry-bytes field-bytes headword-suffix to-little-endian
+entry-front e es = rw (front-none (e .headword)) (append-assoc (e .headword) (0 ∷ e .body) (entries-bytes (e .headword) es))
 
 module _ (part : List ℕ) (used : ℕ) (e : Entry) (es : List Entry) (stands : take used part ≡ entries-bytes [] (e ∷ es)) where
   front-long : 3 + length (e .headword) ≤ used

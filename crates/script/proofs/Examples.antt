@@ -9,6 +9,7 @@ use Rattle.spec.specs.Lists.{open-lists}
 use Rattle.spec.specs.Bytes as Bytes
 use Rattle.spec.specs.Bytes.{zeros, bytes-equal, open-bytes}
 use Rattle.spec.specs.Order.{open-order}
+use Rattle.spec.specs.Pairs.{open-pairs}
 use Rattle.spec.specs.Header.{open-header}
 use Rattle.spec.specs.Entry.{open-entry}
 use Rattle.spec.specs.Run.{open-run}
@@ -67,6 +68,6 @@ work-left-by-calls : T (
     && leaves insert-a 256 (7 ∷ 9 ∷ []) (2 ∷ []) (7 ∷ 9 ∷ [])
     && leaves look-up-a 256 (replicate 768 7) (100 ∷ []) (replicate 768 7)
     && leaves (look-up-a ++ insert-a ++ look-up-a) 256 (replicate 768 7) (100 ∷ 0 ∷ 0 ∷ []) (zeros 768))
-unfolding look-up-a insert-a leaves-in leaves open-lists open-bytes open-order open-header open-entry open-run open-index open-blocks open-check
+unfolding look-up-a insert-a leaves-in leaves open-lists open-bytes open-order open-pairs open-header open-entry open-run open-index open-blocks open-check
     open-sorted-list open-place open-calls open-claim open-script
 work-left-by-calls = tt

@@ -13,9 +13,10 @@ use Rattle.spec.specs.Ascii.{ascii}
 use Rattle.spec.specs.Lists.{all}
 use Rattle.spec.specs.Bytes.{bytes-at, bytes-equal, zeros}
 use Rattle.spec.specs.Header.{new-image, format-of, header-bytes, block-position}
-use Rattle.spec.specs.Run.{Run}
+use Rattle.spec.specs.Entry.{Entry, entry-of, shared-front}
+use Rattle.spec.specs.Run.{Run, entries-bytes, encoded-size}
 use Rattle.spec.specs.Check.{image-in}
-use Rattle.spec.specs.Place.{Grown, grown}
+use Rattle.spec.specs.Place.{Grown, cut, grown}
 use Rattle.spec.specs.Calls.{create, check, look-up, walk}
 use Rattle.spec.specs.Answers.{length-answer, check-answer, look-up-answer, walk-answer, delete-answer, code, code-or-absent, lent-number, lent-number-or-absent, open-answers}
 use Rattle.spec.specs.Listing.{listing, column}
@@ -25,12 +26,10 @@ use Rattle.spec.specs.Play.{t, refusal, lent, Step, ins, ins-as, del, op
 
 -- What is seen of a slice with an image in it. An answer is told as numbers: a refusal as `refusal` writes it, nothing for absent.
 pub data Probe : Type 0 where
-  -- the same after another program stored bytes from an offset on
-  patched : ℕ → List ℕ → Probe → Probe
+  -- the same after one more step
+  stepped : Step → Probe → Probe
   -- the same with another L
   with-length : ℕ → Probe → Probe
-  -- the same after optimising
-  optimised : Probe → Probe
   -- check with this L: headwords, index blocks, data blocks, free blocks
   checks : ℕ → List ℕ → Probe
   -- headword and output slice; attribute and text length, and the output slice then
@@ -50,9 +49,8 @@ pub data Probe : Type 0 where
 
 -- whether a slice with an image is seen so
 unfoldable pub probe-holds : State → Probe → Bool
-probe-holds q (patched i x p) = probe-holds (step q (store i x)) p
+probe-holds q (stepped c p) = probe-holds (step q c) p
 probe-holds q (with-length n p) = probe-holds (record { slice = q .slice; L = n; told = q .told; work = q .work }) p
-probe-holds q (optimised p) = probe-holds (step q opt) p
 probe-holds q (checks L told) = bytes-equal (told-figures (check (q .slice) L)) told
 probe-holds q (looks-up h out told out′) =
     let r = look-up (q .slice) (q .L) h out in
@@ -71,6 +69,14 @@ probe-holds q (lays-out told ib rs fs) =
     bytes-equal (q .told) told && eqb (index-blocks-of i) ib && bytes-equal (runs-at i) rs && bytes-equal (free-at i) fs
 probe-holds q (stores i x) = bytes-equal (bytes-at i (length x) (q .slice)) x
 probe-holds q (prints x) = bytes-equal (listing (take (q .L) (q .slice))) x
+
+-- the same after another program stored bytes from an offset on
+unfoldable pub patched : ℕ → List ℕ → Probe → Probe
+patched i x = stepped (store i x)
+
+-- the same after optimising
+unfoldable pub optimised : Probe → Probe
+optimised = stepped opt
 
 -- a row of the table
 pub data Case : Type 0 where
@@ -489,6 +495,60 @@ position-cases =
     ∷ gives (block-position 256 0 0 ∷ block-position 512 3 5 ∷ block-position 65_536 1 0 ∷ []) (512 ∷ 2_816 ∷ 66_048 ∷ [])
     ∷ []
 
+-- runs a at block 0 and 81 40, 81 41 at block 4: the second entry of the latter stands at 1,665
+unfoldable pub pair-runs : List Step
+pair-runs = ins (ascii "a") (t 900) ∷ ins (0x81 ∷ 0x40 ∷ []) (t 120) ∷ ins (0x81 ∷ 0x41 ∷ []) (ascii "two") ∷ []
+
+-- that entry as we write it, and the end marks
+unfoldable pub pair-whole : List ℕ
+pair-whole = 7 ∷ 0 ∷ 0 ∷ 0x81 ∷ 0x41 ∷ 0 ∷ 128 ∷ ascii "two" ++ 0 ∷ 0 ∷ []
+
+-- and as another program stores it, with a front that ends inside the pair
+unfoldable pub pair-cut : List ℕ
+pair-cut = 6 ∷ 0 ∷ 1 ∷ 0x41 ∷ 0 ∷ 128 ∷ ascii "two" ++ 0 ∷ 0 ∷ []
+
+-- two entries whose headwords differ in the byte behind b: with a front of one byte they encode in 1,024 bytes
+unfoldable pub two-texts : ℕ → List Entry
+two-texts b = entry-of (b ∷ 0x40 ∷ []) 128 (t 500) ∷ entry-of (b ∷ 0x41 ∷ []) 128 (t 507) ∷ []
+
+-- "the largest front, up to the common one, that ends inside no pair of the later headword"
+unfoldable pub pair-cases : List Case
+pair-cases =
+    -- bytes that begin a pair, and their neighbours, in front of 40 and 41
+    gives
+    (map (λ b. shared-front (b ∷ 0x40 ∷ []) (b ∷ 0x41 ∷ [])) (0x7F ∷ 0x80 ∷ 0x81 ∷ 0x9F ∷ 0xA0 ∷ 0xDF ∷ 0xE0 ∷ 0xFC ∷ 0xFD ∷ 0xFF ∷ []))
+    (1 ∷ 1 ∷ 0 ∷ 0 ∷ 1 ∷ 1 ∷ 0 ∷ 0 ∷ 1 ∷ 1 ∷ [])
+    -- a letter and a pair; two pairs; a pair whose second byte is 9F; the same second byte in front of a letter
+    ∷ gives (shared-front (0x41 ∷ 0x81 ∷ 0x40 ∷ []) (0x41 ∷ 0x81 ∷ 0x41 ∷ []) ∷ shared-front (0x82 ∷ 0xA0 ∷ 0x82 ∷ 0xA2 ∷ []) (0x82 ∷ 0xA0 ∷ 0x82 ∷ 0xA4 ∷ []) ∷ [])
+    (1 ∷ 2 ∷ [])
+    ∷ gives (shared-front (0x81 ∷ 0x9F ∷ 0x81 ∷ 0x40 ∷ []) (0x81 ∷ 0x9F ∷ 0x81 ∷ 0x41 ∷ []) ∷ shared-front (0x81 ∷ 0x9F ∷ 0x40 ∷ []) (0x81 ∷ 0x9F ∷ 0x41 ∷ []) ∷ [])
+    (2 ∷ 2 ∷ [])
+    -- "read from the headword's start": a pair 81 81, then a byte by itself
+    ∷ gives (shared-front (0x81 ∷ 0x81 ∷ 0x81 ∷ []) (0x81 ∷ 0x81 ∷ 0x82 ∷ []) ∷ shared-front (0x81 ∷ 0x81 ∷ 0x40 ∷ []) (0x81 ∷ 0x81 ∷ 0x41 ∷ []) ∷ []) (2 ∷ 2 ∷ [])
+    ∷ gives (shared-front (0x41 ∷ 0x81 ∷ 0x81 ∷ 0x40 ∷ []) (0x41 ∷ 0x81 ∷ 0x81 ∷ 0x41 ∷ []) ∷ []) (3 ∷ [])
+    -- "of the later headword": the lead byte stands alone in the earlier; "such a byte at the very end stands alone" in the later
+    ∷ gives (shared-front (0x81 ∷ []) (0x81 ∷ 0x40 ∷ []) ∷ shared-front (0x81 ∷ []) (0x81 ∷ 0x81 ∷ []) ∷ shared-front (0x81 ∷ 0x40 ∷ []) (0x81 ∷ []) ∷ []) (0 ∷ 0 ∷ 1 ∷ [])
+    -- the longest: 247 and 246 lead bytes in front of the byte that differs
+    ∷ gives
+    (shared-front (replicate 247 0x81 ++ 0x40 ∷ []) (replicate 247 0x81 ++ 0x41 ∷ []) ∷ shared-front (0x41 ∷ replicate 246 0xFC ++ 0x40 ∷ []) (0x41 ∷ replicate 246 0xFC ++ 0x41 ∷ []) ∷ [])
+    (246 ∷ 247 ∷ [])
+    -- the bytes of entries one after the other
+    ∷ gives
+    (entries-bytes [] (entry-of (0x41 ∷ 0x81 ∷ []) 128 [] ∷ entry-of (0x41 ∷ 0x81 ∷ 0x40 ∷ []) 128 (ascii "x") ∷ entry-of (0x41 ∷ 0x81 ∷ 0x41 ∷ []) 128 []
+    ∷ entry-of (0xB1 ∷ 0xB2 ∷ []) 128 [] ∷ entry-of (0xB1 ∷ 0xB3 ∷ []) 128 [] ∷ []))
+    (4 ∷ 0 ∷ 0 ∷ 0x41 ∷ 0x81 ∷ 0 ∷ 128 ∷ 5 ∷ 0 ∷ 1 ∷ 0x81 ∷ 0x40 ∷ 0 ∷ 128 ∷ 0x78 ∷ 4 ∷ 0 ∷ 1 ∷ 0x81 ∷ 0x41 ∷ 0 ∷ 128
+    ∷ 4 ∷ 0 ∷ 0 ∷ 0xB1 ∷ 0xB2 ∷ 0 ∷ 128 ∷ 3 ∷ 0 ∷ 1 ∷ 0xB3 ∷ 0 ∷ 128 ∷ [])
+    -- "cuts and places follow its sizes": letters in the place of lead bytes encode in 1,024 bytes, and pairs in 1,025
+    ∷ gives (encoded-size (two-texts 0x61) ∷ encoded-size (two-texts 0x81) ∷ []) (1_024 ∷ 1_025 ∷ [])
+    ∷ gives (map length (cut 1_024 (two-texts 0x61)) ++ map length (cut 1_024 (two-texts 0x81))) (2 ∷ 1 ∷ 1 ∷ [])
+    ∷ after file4 1_792 (ins (0x81 ∷ 0x40 ∷ []) (t 500) ∷ ins (0x81 ∷ 0x41 ∷ []) (t 507) ∷ []) (lays-out (1_792 ∷ []) 1 (0 ∷ 2 ∷ []) [] ∷ [])
+    -- "Reading is as before": a stored front that ends inside a pair is read, and kept by optimise and by a change of the other run; a change of its own run
+    -- writes the entry anew
+    ∷ after file4 1_792 pair-runs (stores 1_665 pair-whole ∷ map (patched 1_665 pair-cut) (checks 1_792 (3 ∷ 1 ∷ 5 ∷ 0 ∷ [])
+    ∷ looks-up (0x81 ∷ 0x41 ∷ []) (lent 3) (128 ∷ 3 ∷ []) (ascii "two") ∷ optimised (stores 1_665 pair-cut) ∷ stepped (del (ascii "a")) (stores 1_665 pair-cut)
+    ∷ stepped (ins (0x81 ∷ 0x40 ∷ []) (t 120)) (stores 1_665 pair-whole) ∷ []))
+    ∷ []
+
 -- all cases
 unfoldable pub cases : List Case
 cases =
@@ -580,12 +640,12 @@ cases =
 
 -- THE THEOREM: every row holds
 unfoldable pub CasesHold : Type 0
-CasesHold = T (all case-holds (cases ++ optimise-cases ++ position-cases))
+CasesHold = T (all case-holds (cases ++ optimise-cases ++ position-cases ++ pair-cases))
 
 -- names all definitions of this module: who unfolds it unfolds them
 unfoldable pub open-cases : Unit {0}
-unfolding open-answers probe-holds case-holds file-of front5 empty5 ident5 version-probes strange-header5 strange-bytes5 strange-header strange-bytes
+unfolding open-answers probe-holds patched optimised case-holds file-of front5 empty5 ident5 version-probes strange-header5 strange-bytes5 strange-header strange-bytes
     strange-entry two-entries two-free xq xr two-moved long-run equal-extents one-block
     told-grown check-probes run-probes long-headword-probes long-text-probes look-up-probes walk-probes refusal-probes bytes-probes deleted-probes free-probes
-    spare-blocks idle-index none-free optimise-cases position-cases cases CasesHold
+    spare-blocks idle-index none-free optimise-cases position-cases pair-runs pair-whole pair-cut two-texts pair-cases cases CasesHold
 open-cases = tt
