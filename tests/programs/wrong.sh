@@ -1,6 +1,7 @@
 #!/bin/sh
 # wrong.sh FOLDER: the tests notice wrong programs. Each is made from the right one by one edit, and must differ from the
-# stored runs, fail under the sanitizers, or fail a test.
+# stored runs, fail under the sanitizers, or fail a test. Engines that write wrong fronts are made from the baseline, which
+# must write the right ones.
 set -eu
 here=$(cd "$(dirname "$0")" && pwd)
 root=$here/../..
@@ -37,6 +38,25 @@ failed_in_test() {
     made "$@"
     ! "$here"/$test "$work/$name" >"$work/$name.txt" 2>&1 || missed "not noticed"
 }
+# fronts_of NAME EDIT: tells the story on fronts by programs that have the edited baseline as their engine
+fronts_of() {
+    name=$1
+    mkdir -p "$work/$name/run"
+    sed "$2" "$root/bench/baseline.c" >"$work/$name/baseline.c"
+    gcc -c -w -o "$work/$name/baseline.o" "$work/$name/baseline.c"
+    ar rc "$work/$name/libpdic.a" "$work/$name/baseline.o"
+    PDIC_LIB=$work/$name "$root/programs/build.sh" "$work/$name" -O0 -w || missed "it is not built"
+    cd "$work/$name/run"
+    "$here/story.sh" characters "$work/$name" >"$work/$name.txt" 2>&1 || true
+}
+fronted_otherwise() {
+    fronts_of "$@"
+    ! cmp -s "$work/$name.txt" "$here/stories/characters.txt" || missed "not noticed"
+}
+fronted_as_stored() {
+    fronts_of "$@"
+    cmp -s "$work/$name.txt" "$here/stories/characters.txt" || missed "it differs from the stored runs"
+}
 # Two wrong programs are tried at a time.
 pace() {
     count=$((count + 1))
@@ -50,6 +70,11 @@ in_story() {
 # in_test TEST NAME FILE EDIT [FLAG..]: the test, with its first arguments if it has such, must fail
 in_test() {
     failed_in_test "$@" &
+    pace
+}
+# in_engine NAME EDIT: the runs with this engine must differ from the stored ones
+in_engine() {
+    fronted_otherwise "$@" &
     pace
 }
 sanitized='-fsanitize=address,undefined -fno-sanitize-recover=all'
@@ -119,6 +144,12 @@ in_story versions identifier-of-version-4 glossary.c 's/\.made\.has_ident \&\& t
 in_story versions identifier-of-15-digits glossary.c 's/strlen(digits) != IDENT_DIGITS || strspn(\(.*\)) != IDENT_DIGITS)/strspn(\1) != strlen(digits))/'
 in_story versions format-ignored glossary.c "s/digits\[0\] == '4' ? PDIC_FORMAT_4 : PDIC_FORMAT_5/PDIC_FORMAT_4/"
 in_test 'damaged.sh 60' identifier-altered book.c 's/^    return replace_held(\&b->file, /    b->image[PDIC_AT_IDENT]++;\n    return replace_held(\&b->file, /'
+fronted_as_stored none-but-the-baseline '' &
+in_engine front-inside-a-pair 's/return c - ((c - i) & 1);/return c;/'
+in_engine front-before-any-first-byte 's/return c - ((c - i) & 1);/return c - (c > i);/'
+in_engine front-of-whole-runs 's/return c - ((c - i) & 1);/return i;/'
+in_engine half-width-kana-as-first-bytes 's/b <= 0x9F) || (b >= 0xE0/b <= 0xDF) || (b >= 0xE0/'
+in_engine no-first-byte-FC 's/b <= 0xFC/b < 0xFC/'
 wait
 [ ! -e "$work/missed" ] || { cat "$work/missed"; exit 1; }
 echo "$count wrong programs noticed"
