@@ -1,10 +1,10 @@
 #!/bin/sh
 # run.sh [SECONDS [-m MODE]...]: the engine against the C baseline, call by call in turn: first without the baseline's SSE2
 # scans (libc's memchr instead), then with them. Three tables each, SECONDS (30) for a table: the glossary with images in
-# rotation, with one image, and long entries in rotation; or those that -m names. Then come the tables of docs/BENCH.md. At the
-# end, but for -m, the engine on the glossary in version 5 beside itself on that in version 4, in rotation. PDIC_LIB names another
-# folder with a libpdic.a to measure. PDIC_BEFORE names a folder with that of another landing, and is measured in the baseline's
-# place.
+# rotation, with one image, and long entries in rotation; or those that -m names, such as pairs, the glossary with headwords in
+# Shift JIS. Then come the tables of docs/BENCH.md. At the end, but for -m, the engine on the glossary in version 5 beside itself
+# on that in version 4, in rotation. PDIC_LIB names another folder with a libpdic.a to measure. PDIC_BEFORE names a folder with
+# that of another landing, and is measured in the baseline's place.
 set -eu
 here=$(cd "$(dirname "$0")" && pwd)
 seconds=${1:-30}
