@@ -98,7 +98,7 @@ static void decode_word(call *c, const state *s, const uint8_t *r) {
         c->word_size = less(r[WORD_SIZE], s->size - at);
         memcpy(c->word, s->slice + at, c->word_size);
     } else if (way < 6) {
-        word_of_letters(c, 1 + r[WORD_SIZE] % 12, at, 'a', 5);
+        word_of_letters(c, 1 + r[WORD_SIZE] % 12, at, r[WORD_FROM] & 1 ? 0x9D : 'a', 5);
     } else if (way == 6) {
         word_of_letters(c, r[WORD_SIZE], at, 1, 255);
     } else {

@@ -230,3 +230,34 @@ void hold_step(const list *before, const list *after, const call *c) {
     hold(i == before->count, c, 0, "entries not concerned are missing");
     hold(found == (c->kind == INSERT), c, 0, "the headword concerned is not there, or still there");
 }
+
+static int leads(uint8_t byte) { return (byte >= 0x81 && byte <= 0x9F) || (byte >= 0xE0 && byte <= 0xFC); }
+
+static size_t common_front(const entry *earlier, const entry *later) {
+    size_t most = less(earlier->word_size, later->word_size), common = 0;
+    while (common < most && earlier->word[common] == later->word[common]) common++;
+    return common;
+}
+
+/* "the largest front, up to the common one, that ends inside no pair of the later headword": where the common one ends inside a
+ * pair, the place before that pair. */
+static size_t whole_front(const entry *earlier, const entry *later) {
+    size_t common = common_front(earlier, later), at = 0;
+    while (at < common) at += leads(later->word[at]) && at + 1 < later->word_size ? 2 : 1;
+    return at > common ? common - 1 : common;
+}
+
+/* The fronts in the run that holds an inserted headword. Returns how many are shorter than the common one. */
+uint64_t hold_fronts(const list *read, const call *c) {
+    size_t inserted = 0;
+    uint64_t shorter = 0;
+    while (inserted < read->count && !concerned(&read->entries[inserted], c)) inserted++;
+    hold(inserted < read->count, c, 0, "the headword concerned is not there");
+    for (size_t i = 1; i < read->count; i++) {
+        const entry *earlier = &read->entries[i - 1], *later = &read->entries[i];
+        if (earlier->run != later->run || later->run != read->entries[inserted].run) continue;
+        hold(later->front == whole_front(earlier, later), c, 0, "a written front is not the largest that ends inside no pair");
+        shorter += later->front < common_front(earlier, later);
+    }
+    return shorter;
+}

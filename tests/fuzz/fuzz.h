@@ -61,8 +61,9 @@ typedef struct {
     uint8_t word[MOST_WORD], text[MOST_TEXT];
 } call;
 
+/* An entry; its front as stored and its run's place in the index only where the harness's own reader gives it. */
 typedef struct {
-    size_t word_size, text_size;
+    size_t word_size, text_size, front, run;
     uint8_t attribute, word[PDIC_MAX_HEADWORD], text[PDIC_MAX_TEXT];
 } entry;
 
@@ -135,6 +136,7 @@ void hold_bytes(const state *s, const lent *l, const call *c, uint32_t number);
 void hold_answer(const state *s, const lent *l, const call *c);
 int same_entry(const entry *a, const entry *b);
 void hold_step(const list *before, const list *after, const call *c);
+uint64_t hold_fronts(const list *read, const call *c);
 enum { UNKNOWN = 0xFFFF }; /* foretold: the list is not known */
 
 /* harness.c */
@@ -142,6 +144,7 @@ int LLVMFuzzerTestOneInput(const uint8_t *data, size_t size);
 typedef struct {
     uint64_t accepted, returned[KINDS][PDIC_ABSENT + 1];
     uint64_t index_grown, run_moved, run_split, run_gone, full_packed; /* changes in which this happened */
+    uint64_t whole_fronts; /* written fronts that are shorter than the common one */
 } tally;
 extern tally seen[VERSIONS]; /* by the image's version; for create by the one that it is given */
 

@@ -156,6 +156,7 @@ static void take_changed(void) {
     uint64_t headwords = hold_accepted(image, len);
     count_change(image);
     hold_looked_up(image, len);
+    if (made.kind == INSERT && own.entries.known) seen[is_5(image)].whole_fronts += hold_fronts(&own.entries, &made);
     if (made.kind == OPTIMISE) hold_optimised(image, len);
     read_list(after, image, now.size, len, headwords);
     if (made.kind != CREATE && now.entries->known && after->known) hold_step(now.entries, after, &made);

@@ -75,6 +75,7 @@ static size_t read_entry(const uint8_t *at, const uint8_t *end, entry *e) {
     size_t rest_size = (size_t)(zero - rest), before_size = e->word_size;
     uint8_t before[PDIC_MAX_HEADWORD];
     memcpy(before, e->word, before_size);
+    e->front = front;
     e->word_size = front + rest_size;
     e->text_size = (size_t)(stop - zero) - 2;
     e->attribute = zero[1];
@@ -92,6 +93,8 @@ static void add_entry(reading *to, const entry *e) {
     next->word_size = e->word_size;
     next->text_size = e->text_size;
     next->attribute = e->attribute;
+    next->front = e->front;
+    next->run = e->run;
     memcpy(next->word, e->word, e->word_size);
     memcpy(next->text, e->text, e->text_size);
 }
@@ -102,6 +105,7 @@ static uint32_t read_entries(size_t i, const uint8_t *at, const uint8_t *end, re
     size_t size, wanted_size, count = 0;
     const uint8_t *wanted = element_word(i, &wanted_size);
     e.word_size = 0;
+    e.run = i;
     for (; end - at >= 2 && two(at) != 0; at += size, count++) {
         if ((size = read_entry(at, end, &e)) == 0) return 8;
         if (count == 0 && order_of(e.word, e.word_size, wanted, wanted_size) != 0) return 8;

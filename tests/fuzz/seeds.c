@@ -34,10 +34,14 @@ static void done(uint32_t number, const char *what) {
     exit(1);
 }
 
+/* Letters from a, half-width kana, two-byte characters, or lead bytes: a byte of a pair may be left at the end, and the second
+ * byte of a pair may be a lead byte. */
 static size_t draw_word(source *r, const recipe *p, uint8_t *word) {
+    static const uint8_t bases[8][2] = {{'a', 'a'},   {'a', 'a'},   {'a', 'a'},   {'a', 'a'},
+                                        {0xC1, 0xC1}, {0x82, 0xA0}, {0xE0, 0x40}, {0x81, 0x81}};
     size_t size = p->word_least + below(r, p->word_most - p->word_least + 1u);
-    uint8_t base = below(r, 4) ? 'a' : 0xC1;
-    for (size_t i = 0; i < size; i++) word[i] = (uint8_t)(base + below(r, p->letters));
+    const uint8_t *base = bases[below(r, 8)];
+    for (size_t i = 0; i < size; i++) word[i] = (uint8_t)(base[i % 2] + below(r, p->letters));
     return size;
 }
 

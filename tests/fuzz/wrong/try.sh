@@ -74,6 +74,7 @@ try os-of-4-at-167 "$reader"
 try update-twice 'update_count did not rise by one'
 try optimise-drops-first 'the number of headwords is wrong'
 try other-text-changed 'an entry not concerned changed'
+try front-in-a-pair 'a written front is not the largest that ends inside no pair'
 try nword-kept "check refuses|$reader"
 try L-one-block-more "check refuses|$reader"
 try accepts-10 "$reader"

@@ -157,6 +157,38 @@ static void counts_at_4(uint8_t *image) {
     memcpy(image + 186, counts, sizeof counts);
 }
 
+static size_t two(const uint8_t *p) { return p[0] | (size_t)p[1] << 8; }
+
+/* A field that version 5 has two bytes later than version 4. */
+static uint8_t *moved(uint8_t *image, size_t at) { return image + at + (is_5(image) ? 2 : 0); }
+
+/* The run that holds a headword: that of the last element not above it. */
+static uint8_t *run_of(uint8_t *image, const uint8_t *headword, size_t size) {
+    uint8_t *element = image + 256, *found = element;
+    for (size_t left = two(moved(image, 190)); left > 0; left--) {
+        size_t length = strlen((char *)element + 2);
+        int order = memcmp(element + 2, headword, length < size ? length : size);
+        if (order < 0 || (order == 0 && length <= size)) found = element;
+        element += 2 + length + 1;
+    }
+    return image + 256 * (1 + two(image + 148) + two(found));
+}
+
+/* The fronts of a run become the common ones: a byte longer where they ended before a pair. */
+static void common_fronts(uint8_t *run) {
+    uint8_t word[256] = {0}, *end = run + 2;
+    while (two(end)) end += 3 + two(end);
+    for (uint8_t *at = run + 2; two(at); at += 3 + two(at)) {
+        if (at[3] == word[at[2]]) {
+            at[1] -= at[0] == 0, at[0]--;
+            at[2]++;
+            memmove(at + 3, at + 4, (size_t)(end - (at + 4)));
+            *--end = 0;
+        }
+        strcpy((char *)word + at[2], (char *)at + 3);
+    }
+}
+
 /* What is spoiled after an insertion. */
 static uint32_t spoil_inserted(uint8_t *image, size_t image_size, size_t len, uint32_t number) {
     if (number == 0 && is("15-without-placing")) {
@@ -180,6 +212,7 @@ uint32_t pdic_insert(uint8_t *image, size_t image_size, size_t len, uint8_t *wor
                                         text, text_size - less_text, new_len);
     if (image_size >= SEED_SLICE) return number;
     if (number == 0) spoil_done(image, image_size, new_len, work, work_size, first);
+    if (number == 0 && is("front-in-a-pair")) common_fronts(run_of(image, headword, headword_size));
     uint32_t spoiled = spoil_inserted(image, image_size, *new_len, number);
     if (number == 0 && spoiled != 0) *new_len = old;
     return spoiled;
@@ -202,9 +235,6 @@ static void drop_first(uint8_t *image, size_t image_size, uint8_t *work, size_t 
         right_pdic_delete(image, image_size, *new_len, work, work_size, word, word_size, new_len);
     memcpy(image + 208, count, 4);
 }
-
-/* A field that version 5 has two bytes later than version 4. */
-static uint8_t *moved(uint8_t *image, size_t at) { return image + at + (is_5(image) ? 2 : 0); }
 
 /* An index block more, where a block was given up. */
 static void longer_index(uint8_t *image, size_t len, size_t *new_len) {

@@ -43,7 +43,7 @@ const GIANT_STEP: u64 = 131;
 const LARGE_STEP: u64 = 500;
 
 /// Kinds of the small images, each as often as it stands here.
-const SMALL: [Kind; 16] = [
+const SMALL: [Kind; 17] = [
     Kind::Empty,
     Kind::Plain,
     Kind::Plain,
@@ -56,6 +56,7 @@ const SMALL: [Kind; 16] = [
     Kind::Edges,
     Kind::Edges,
     Kind::HighBytes,
+    Kind::Pairs,
     Kind::Mixed,
     Kind::Mixed,
     Kind::Mixed,

@@ -4,6 +4,7 @@
 
 use crate::calls::Answer;
 use crate::make::{common, empty_header, put_four, put_two};
+use crate::pairs::{cuts_pair, ends_alone, inside_pair, is_lead};
 use crate::reader::{at, format, is_attribute, is_headword, is_text, read};
 use crate::reader::{Entry, Image, Run, BLOCK, CHAIN_END, MOST_BLOCKS, MOST_DATA};
 
@@ -22,11 +23,26 @@ pub struct Slices<'a> {
 pub struct Told {
     /// An entry with the headword was there.
     pub replaced: bool,
-    /// Into how many parts the list was cut; the run concerned had so many blocks.
+    /// Into how many parts the list was cut; with common fronts it would be into fewer, or into
+    /// as many elsewhere. The run concerned had so many blocks.
     pub parts: usize,
+    pub more_parts: bool,
+    pub other_parts: bool,
     pub old_blocks: usize,
     /// The change was at the run's first entry.
     pub at_first: bool,
+    /// Entries written with a front shorter than the common one, of these after a headword that
+    /// ends with a lone lead byte and that they go on; entries whose front ends behind a lead
+    /// byte, which is a pair's second byte.
+    pub shorter: usize,
+    pub behind_lone: usize,
+    pub behind_second: usize,
+    /// The headword inserted ends with a lone lead byte.
+    pub lone_lead: bool,
+    /// Stored fronts that end inside a pair: in runs kept with their bytes, and those in the run
+    /// concerned that were written anew and shorter.
+    pub kept_inside: usize,
+    pub mended: usize,
     /// g, D before the growth, and how many runs were moved; of these, how many came to lie
     /// over a block that a moved run had.
     pub growth: usize,
@@ -100,6 +116,7 @@ pub fn insert(
         let place = place_in(&list, headword);
         told.replaced = has(&list, headword);
         told.at_first = place == 0;
+        told.lone_lead = ends_alone(headword);
         if told.replaced {
             list[place] = entry;
         } else {
@@ -146,6 +163,7 @@ pub fn optimise(lent: Slices, told: &mut Told) -> Answer<usize> {
         };
         told.index_before = image.index_blocks;
         told.full_before = len == slice.len();
+        told.kept_inside = image.runs.iter().map(fronts_inside).sum();
         layout.tell(told);
         assert_no_longer(&image, len, &layout);
         let new_len = write(slice, &image, &layout, told);
@@ -274,7 +292,12 @@ fn change(
     told: &mut Told,
 ) -> Result<usize, u32> {
     // Step 2: "The list is cut from the left".
-    let mut parts: Vec<Placed> = cut(list).into_iter().map(part).collect();
+    let lists = cut(list);
+    tell_fronts(image, concerned, &lists, told);
+    let by_common = cut_by(list, common_front);
+    told.more_parts = lists.len() > by_common.len();
+    told.other_parts = lists.len() == by_common.len() && lists != by_common;
+    let mut parts: Vec<Placed> = lists.into_iter().map(part).collect();
     told.parts = parts.len();
     let mut runs = stored_runs(slice, image);
     let mut area = Area::of(image);
@@ -307,14 +330,21 @@ fn change(
     Ok(write(slice, image, &layout, told))
 }
 
+/// The shared front of an entry, by its place among those of a run.
+type Front = fn(&[Entry], usize) -> usize;
+
 /// Step 2: "each part takes as many entries as encode in 1,024 bytes, count and end marks
 /// included. An entry too large for that stands alone. An empty list gives no part."
 pub fn cut(list: &[Entry]) -> Vec<&[Entry]> {
+    cut_by(list, front)
+}
+
+fn cut_by(list: &[Entry], front: Front) -> Vec<&[Entry]> {
     let mut parts = Vec::new();
     let mut rest = list;
     while !rest.is_empty() {
         let mut taken = 1;
-        while taken < rest.len() && encoded_size(&rest[..taken + 1]) <= PART {
+        while taken < rest.len() && size_by(&rest[..taken + 1], front) <= PART {
             taken += 1;
         }
         let (part, behind) = rest.split_at(taken);
@@ -324,25 +354,63 @@ pub fn cut(list: &[Entry]) -> Vec<&[Entry]> {
     parts
 }
 
-/// The shared front of entry `i`. "We write the longest possible." "0 in a run's first
-/// entry."
-fn front(entries: &[Entry], i: usize) -> usize {
+/// What entry `i` shares with the one before. "0 in a run's first entry."
+fn common_front(entries: &[Entry], i: usize) -> usize {
     match i {
         0 => 0,
         _ => common(&entries[i - 1].headword, &entries[i].headword),
     }
 }
 
-/// Field length: "from the headword rest to the text's end"; between them stand a zero and
-/// the attribute.
-fn field_length(entries: &[Entry], i: usize) -> usize {
-    entries[i].headword.len() - front(entries, i) + 2 + entries[i].text.len()
+/// The shared front of entry `i`. "We now write the largest front, up to the common one, that ends
+/// inside no pair of the later headword."
+fn front(entries: &[Entry], i: usize) -> usize {
+    let later = &entries[i].headword;
+    let whole = |front: &usize| !inside_pair(later, *front);
+    let mut fronts = (0..=common_front(entries, i)).rev();
+    fronts.find(whole).expect("0 is inside no pair")
 }
 
 /// Bytes of the entries as we write them, count and end marks included.
 pub fn encoded_size(entries: &[Entry]) -> usize {
-    let each = |i| 3 + field_length(entries, i);
+    size_by(entries, front)
+}
+
+fn size_by(entries: &[Entry], front: Front) -> usize {
+    let each = |i| 3 + field_length(&entries[i], front(entries, i));
     2 + (0..entries.len()).map(each).sum::<usize>() + 2
+}
+
+/// Field length: "from the headword rest to the text's end"; between them stand a zero and
+/// the attribute.
+fn field_length(entry: &Entry, front: usize) -> usize {
+    entry.headword.len() - front + 2 + entry.text.len()
+}
+
+/// How many fronts of a run as stored end inside a pair.
+fn fronts_inside(run: &Run) -> usize {
+    run.entries.iter().filter(|entry| cuts_pair(entry)).count()
+}
+
+/// Tells of the fronts in the parts of a changed list, and of those in the other runs.
+fn tell_fronts(image: &Image, concerned: Option<usize>, parts: &[&[Entry]], told: &mut Told) {
+    for (place, run) in image.runs.iter().enumerate() {
+        if Some(place) != concerned {
+            told.kept_inside += fronts_inside(run);
+        }
+    }
+    for part in parts {
+        for i in 1..part.len() {
+            let (front, common) = (front(part, i), common_front(part, i));
+            let (before, entry) = (&part[i - 1], &part[i]);
+            if front < common {
+                told.shorter += 1;
+                told.behind_lone += (common == before.headword.len()) as usize;
+            }
+            told.behind_second += (front > 0 && is_lead(entry.headword[front - 1])) as usize;
+            told.mended += (cuts_pair(entry) && front < entry.front) as usize;
+        }
+    }
 }
 
 /// A run as we write it: "2 bytes with its number of blocks, ... then entries, then two zero
@@ -352,7 +420,7 @@ fn part(entries: &[Entry]) -> Placed {
     let mut bytes = (blocks as u16).to_le_bytes().to_vec();
     for (i, entry) in entries.iter().enumerate() {
         let front = front(entries, i);
-        bytes.extend_from_slice(&(field_length(entries, i) as u16).to_le_bytes());
+        bytes.extend_from_slice(&(field_length(entry, front) as u16).to_le_bytes());
         bytes.push(front as u8);
         bytes.extend_from_slice(&entry.headword[front..]);
         bytes.push(0);

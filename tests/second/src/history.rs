@@ -6,6 +6,7 @@ use crate::calls::{Answer, Read};
 use crate::cases::case;
 use crate::editor::{cut, encoded_size, run_concerned, Told, PART};
 use crate::engine::Lent;
+use crate::letters::{Letters, ANY, BOUNDS, FEW, HIGH, KANA, LEADS, MANY};
 use crate::make::{any_identifier, attribute, text};
 use crate::random::Random;
 use crate::reader::{at, read, Entry, Run, BLOCK, MOST_HEADWORD, MOST_TEXT};
@@ -31,20 +32,18 @@ pub struct History<'a> {
 /// What a history's headwords and texts are like.
 struct Taste {
     stem: Vec<u8>,
-    letters: &'static [u8],
+    letters: &'static Letters,
     most_tail: usize,
     most_text: usize,
     /// Deletions among 10 calls, beside those by chance.
     deleting: usize,
 }
 
-const FEW: &[u8] = b"ABCD";
-const MANY: &[u8] = b"abcdefghijklmnopqrstuvwxyz";
-const HIGH: &[u8] = &[0x01, 0x41, 0x7F, 0x80, 0x83, 0xA0, 0xFE, 0xFF];
-
 fn taste(random: &mut Random, words: &[Vec<u8>]) -> Taste {
     let size = *random.pick(&[0, 0, 0, 3, 60, 200, 244]);
-    let mut stem = text(random, size);
+    let letters = *random.pick(&[&FEW, &FEW, &MANY, &HIGH, &KANA, &LEADS, &BOUNDS]);
+    // It may end inside a pair.
+    let mut stem = random.pick(&[&ANY, letters]).bytes(random, size);
     // The stem of a headword that is there.
     if !words.is_empty() && random.chance(1, 2) {
         stem = random.pick(words).clone();
@@ -52,7 +51,7 @@ fn taste(random: &mut Random, words: &[Vec<u8>]) -> Taste {
     }
     Taste {
         stem,
-        letters: *random.pick(&[FEW, FEW, MANY, HIGH]),
+        letters,
         most_tail: *random.pick(&[1, 2, 3, 4, 10]),
         most_text: *random.pick(&[5, 40, 40, 200, 400, 900, MOST_TEXT]),
         deleting: *random.pick(&[0, 0, 0, 2, 4]),
@@ -320,7 +319,7 @@ impl History<'_> {
         };
         word.truncate(MOST_HEADWORD - 1);
         for _ in 0..self.random.range(1, self.taste.most_tail) {
-            word.push(*self.random.pick(self.taste.letters));
+            self.taste.letters.put(&mut self.random, &mut word);
         }
         word.truncate(MOST_HEADWORD);
         word

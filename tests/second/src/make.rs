@@ -2,6 +2,8 @@
 //! what is wanted, laying it out gives the values, rendering gives the bytes and a map of
 //! where each field stands.
 
+use crate::letters::{Letters, ANY, HIGH, MIXED, PAIRED};
+use crate::pairs::inside_pair;
 use crate::random::Random;
 use crate::reader::{at, format, Entry, Format, Header, Image, Run, FORMATS};
 use crate::reader::{BLOCK, CHAIN_END, MOST_HEADWORD, MOST_TEXT};
@@ -20,13 +22,14 @@ pub enum Kind {
     OldBytes,
     Edges,
     HighBytes,
+    Pairs,
     Mixed,
     Large,
     Giant,
 }
 
 /// Each kind with its name in the report.
-pub const KINDS: [(Kind, &str); 13] = [
+pub const KINDS: [(Kind, &str); 14] = [
     (Kind::Empty, "no entry: zero index, free blocks only"),
     (Kind::Plain, "plain: longest fronts, parts of 1,024, zeros"),
     (Kind::ShortFronts, "fronts shorter than possible"),
@@ -40,6 +43,7 @@ pub const KINDS: [(Kind, &str); 13] = [
         "longest headwords and texts, full runs, full index",
     ),
     (Kind::HighBytes, "bytes from 0x80 up, order unsigned"),
+    (Kind::Pairs, "Shift JIS, fronts inside pairs and not"),
     (Kind::Mixed, "all forms mixed"),
     (Kind::Large, "large: hundreds or thousands of blocks"),
     (Kind::Giant, "giant: at the limits of the blocks' numbers"),
@@ -56,10 +60,12 @@ pub enum Cut {
     One,
 }
 
-/// How much of the longest possible shared front is used.
+/// How much of the longest possible shared front is used; Whole is the largest that ends inside
+/// no pair.
 #[derive(Clone, Copy, Debug)]
 pub enum Fronts {
     Longest,
+    Whole,
     Any,
     None,
 }
@@ -246,6 +252,7 @@ pub fn cut(random: &mut Random, entries: Vec<Entry>, cut: Cut, fronts: Fronts) -
         };
         entry.front = match fronts {
             Fronts::Longest => longest,
+            Fronts::Whole => longest - inside_pair(&entry.headword, longest) as usize,
             Fronts::Any => random.range(0, longest),
             Fronts::None => 0,
         };
@@ -465,19 +472,20 @@ fn lay_ground(random: &mut Random, image: &Image, ground: Ground, data: &mut [u8
     }
 }
 
-/// Sets of letters for headwords.
-const FEW: &[u8] = b"ABCD";
-const HIGH: &[u8] = &[0x01, 0x41, 0x7F, 0x80, 0x83, 0xA0, 0xFE, 0xFF];
-
 /// Ascending headwords, at most `number`: few letters share many fronts.
-pub fn headwords(random: &mut Random, number: usize, high: bool) -> Vec<Vec<u8>> {
+pub fn headwords(random: &mut Random, number: usize, letters: &Letters) -> Vec<Vec<u8>> {
+    let stem = stem(random, letters);
+    some_continue(random, number, letters, &stem)
+}
+
+/// Ascending headwords, at most `number`; two in three continue the stem.
+pub fn some_continue(
+    random: &mut Random,
+    number: usize,
+    letters: &Letters,
+    stem: &[u8],
+) -> Vec<Vec<u8>> {
     let mut set = BTreeSet::new();
-    let style = random.below(4);
-    let mut stem = vec![];
-    if random.chance(1, 6) {
-        let size = *random.pick(&[1, 5, 30, 100, 200, 240]);
-        stem = (0..size).map(|_| *random.pick(FEW)).collect();
-    }
     let most = match number {
         0..=3 => 2,
         4..=60 => 5,
@@ -489,20 +497,25 @@ pub fn headwords(random: &mut Random, number: usize, high: bool) -> Vec<Vec<u8>>
         }
         let mut word: Vec<u8> = match random.below(3) {
             0 => vec![],
-            _ => stem.clone(),
+            _ => stem.to_vec(),
         };
-        for _ in 0..random.range(1, most).min(MOST_HEADWORD - word.len()) {
-            word.push(if high {
-                *random.pick(HIGH)
-            } else if style == 0 {
-                random.byte().max(1)
-            } else {
-                *random.pick(FEW)
-            });
+        for _ in 0..random.range(1, most) {
+            letters.put(random, &mut word);
         }
+        word.truncate(MOST_HEADWORD);
         set.insert(word);
     }
     set.into_iter().collect()
+}
+
+/// What most of the headwords begin with: nothing, or so many bytes, which may end inside a pair.
+fn stem(random: &mut Random, letters: &Letters) -> Vec<u8> {
+    let seldom = if letters.has_leads() { 2 } else { 6 };
+    if !random.chance(1, seldom) {
+        return vec![];
+    }
+    let size = *random.pick(&[1, 5, 30, 100, 200, 240]);
+    letters.bytes(random, size)
 }
 
 pub fn attribute(random: &mut Random) -> u8 {
@@ -532,11 +545,11 @@ pub fn entry(random: &mut Random, headword: Vec<u8>, text_size: usize) -> Entry 
 }
 
 /// Up to `number` ascending entries of together about `budget` bytes at most.
-fn entries(random: &mut Random, number: usize, budget: usize, high: bool) -> Vec<Entry> {
+fn entries(random: &mut Random, number: usize, budget: usize, letters: &Letters) -> Vec<Entry> {
     let most = *random.pick(&[0, 3, 10, 40, 40, 150, 400, 1_100, MOST_TEXT]);
     let mut list = Vec::new();
     let mut sum = 0;
-    for headword in headwords(random, number, high) {
+    for headword in headwords(random, number, letters) {
         let mut size = random.range(0, most);
         if random.chance(1, 8) {
             size = *random.pick(&[0, 1, most]);
@@ -569,6 +582,7 @@ pub fn sketch(random: &mut Random, kind: Kind) -> Sketch {
     let budget = *random.pick(&[300, 1_000, 2_000, 4_000, 6_500]);
     let few = |random: &mut Random| random.below(5);
     let header = any_header(random);
+    let letters = *random.pick(&MIXED);
     let mut sketch = match kind {
         Kind::Empty => {
             let mut sketch = plain(header, vec![]);
@@ -581,7 +595,7 @@ pub fn sketch(random: &mut Random, kind: Kind) -> Sketch {
             sketch
         }
         Kind::Plain => {
-            let list = entries(random, number, budget, false);
+            let list = entries(random, number, budget, letters);
             let mut sketch = plain(
                 header,
                 cut(random, list, Cut::Bytes(1_024), Fronts::Longest),
@@ -591,14 +605,14 @@ pub fn sketch(random: &mut Random, kind: Kind) -> Sketch {
             sketch
         }
         Kind::ShortFronts => {
-            let list = entries(random, number, budget, false);
+            let list = entries(random, number, budget, letters);
             let fronts = *random.pick(&[Fronts::Any, Fronts::Any, Fronts::None]);
             let way = *random.pick(&[Cut::Bytes(1_024), Cut::Chance(9), Cut::One]);
             plain(header, cut(random, list, way, fronts))
         }
         Kind::LongRuns => {
-            let high = random.chance(1, 4);
-            let list = entries(random, number * 4, 7_000, high);
+            let letters = *random.pick(&[&HIGH, letters, letters, letters]);
+            let list = entries(random, number * 4, 7_000, letters);
             let way = *random.pick(&[Cut::One, Cut::One, Cut::Bytes(3_000)]);
             let mut sketch = plain(header, cut(random, list, way, Fronts::Longest));
             sketch.free = few(random);
@@ -606,7 +620,7 @@ pub fn sketch(random: &mut Random, kind: Kind) -> Sketch {
             sketch
         }
         Kind::LooseChain => {
-            let list = entries(random, number, budget, false);
+            let list = entries(random, number, budget, letters);
             let mut sketch = plain(header, cut(random, list, Cut::Chance(4), Fronts::Longest));
             sketch.free = random.range(2, 9);
             sketch.loose = true;
@@ -614,7 +628,7 @@ pub fn sketch(random: &mut Random, kind: Kind) -> Sketch {
             sketch
         }
         Kind::Slack => {
-            let list = entries(random, number, budget, false);
+            let list = entries(random, number, budget, letters);
             let mut sketch = plain(header, cut(random, list, Cut::Chance(6), Fronts::Longest));
             for run in &mut sketch.runs {
                 run.spare = random.below(3) as isize;
@@ -623,14 +637,14 @@ pub fn sketch(random: &mut Random, kind: Kind) -> Sketch {
             sketch
         }
         Kind::WideIndex => {
-            let list = entries(random, number, budget, false);
+            let list = entries(random, number, budget, letters);
             let mut sketch = plain(header, cut(random, list, Cut::Chance(3), Fronts::Longest));
             sketch.extra_index = random.range(1, 12);
             sketch.loose = true;
             sketch
         }
         Kind::OldBytes => {
-            let list = entries(random, number, budget, false);
+            let list = entries(random, number, budget, letters);
             let mut sketch = plain(
                 header,
                 cut(random, list, Cut::Bytes(1_024), Fronts::Longest),
@@ -640,24 +654,34 @@ pub fn sketch(random: &mut Random, kind: Kind) -> Sketch {
             sketch.ground = Ground::OldRuns;
             sketch
         }
-        Kind::Edges => edges(random, header, number),
+        Kind::Edges => edges(random, header, number, letters),
         Kind::HighBytes => {
-            let list = entries(random, number, budget, true);
+            let list = entries(random, number, budget, &HIGH);
             let mut sketch = plain(header, cut(random, list, Cut::Chance(5), Fronts::Longest));
             sketch.free = few(random);
             sketch.loose = true;
             sketch
         }
+        Kind::Pairs => {
+            let letters = *random.pick(&PAIRED);
+            let list = entries(random, number, budget, letters);
+            let way = *random.pick(&[Cut::Bytes(1_024), Cut::Chance(9), Cut::One]);
+            let fronts = *random.pick(&[Fronts::Longest, Fronts::Whole, Fronts::Any]);
+            let mut sketch = plain(header, cut(random, list, way, fronts));
+            sketch.free = few(random);
+            sketch.loose = true;
+            sketch
+        }
         Kind::Mixed => {
-            let high = random.chance(1, 3);
-            let list = entries(random, number, budget, high);
+            let letters = *random.pick(&[&HIGH, letters, letters]);
+            let list = entries(random, number, budget, letters);
             let way = *random.pick(&[
                 Cut::Bytes(1_024),
                 Cut::Bytes(300),
                 Cut::Chance(4),
                 Cut::Chance(8),
             ]);
-            let fronts = *random.pick(&[Fronts::Longest, Fronts::Any]);
+            let fronts = *random.pick(&[Fronts::Longest, Fronts::Whole, Fronts::Any]);
             let mut sketch = plain(header, cut(random, list, way, fronts));
             for run in &mut sketch.runs {
                 run.spare = random.below(4) as isize / 2;
@@ -665,7 +689,7 @@ pub fn sketch(random: &mut Random, kind: Kind) -> Sketch {
             mix(random, &mut sketch);
             sketch
         }
-        Kind::Large => large(random, header),
+        Kind::Large => large(random, header, letters),
         Kind::Giant => unreachable!("made by giant"),
     };
     if random.chance(1, 2) {
@@ -734,15 +758,16 @@ pub fn fit_index(random: &mut Random, sketch: &mut Sketch, tail: usize) -> bool 
 
 /// Headwords of 247 and 248 bytes, texts of 2,999 and 3,000, runs whose end marks are the
 /// last bytes or lie across two blocks, an index with exactly four zero bytes.
-fn edges(random: &mut Random, header: Vec<u8>, number: usize) -> Sketch {
-    let mut list = entries(random, number.min(8), 1_500, false);
+fn edges(random: &mut Random, header: Vec<u8>, number: usize, letters: &'static Letters) -> Sketch {
+    let mut list = entries(random, number.min(8), 1_500, letters);
     if random.chance(1, 2) {
+        let letters = *random.pick(&[&ANY, letters]);
         let size = random.range(MOST_HEADWORD - 3, MOST_HEADWORD - 1);
-        let stem = text(random, size);
+        let stem = letters.bytes(random, size);
         let mut tails = BTreeSet::new();
         for _ in 0..random.range(1, 4) {
             let more = random.range(0, MOST_HEADWORD - size);
-            tails.insert(text(random, more));
+            tails.insert(letters.bytes(random, more));
         }
         for tail in tails {
             let text_size = random.below(40);
@@ -776,10 +801,10 @@ fn edges(random: &mut Random, header: Vec<u8>, number: usize) -> Sketch {
 }
 
 /// Hundreds or thousands of blocks: one long run, many runs, or many free blocks.
-fn large(random: &mut Random, header: Vec<u8>) -> Sketch {
-    let high = random.chance(1, 3);
+fn large(random: &mut Random, header: Vec<u8>, letters: &'static Letters) -> Sketch {
+    let letters = *random.pick(&[&HIGH, letters, letters]);
     let number = random.range(300, 2_500);
-    let list = entries(random, number, 600_000, high);
+    let list = entries(random, number, 600_000, letters);
     let way = *random.pick(&[
         Cut::One,
         Cut::One,

@@ -193,6 +193,33 @@ const WANTED: &[Wanted] = &[
         s.done(Call::Optimise) && s.told.filled
     }),
     ("update count goes to 0", 30, |s| s.told.wrapped),
+    ("front shorter than the common one", 1_000, |s| {
+        s.placed() && s.told.shorter > 0
+    }),
+    ("common front ends with a lone lead byte", 300, |s| {
+        s.placed() && s.told.behind_lone > 0
+    }),
+    ("front behind a lead byte, the second of a pair", 500, |s| {
+        s.placed() && s.told.behind_second > 0
+    }),
+    ("headword that ends with a lone lead byte", 600, |s| {
+        s.done(Call::Insert) && s.told.lone_lead
+    }),
+    ("more parts than with common fronts", 8, |s| {
+        s.placed() && s.told.more_parts
+    }),
+    ("cut elsewhere than with common fronts", 8, |s| {
+        s.placed() && s.told.other_parts
+    }),
+    ("front inside a pair, kept by optimise", 35, |s| {
+        s.done(Call::Optimise) && s.told.kept_inside > 0
+    }),
+    ("front inside a pair, kept in another run", 300, |s| {
+        s.placed() && s.told.kept_inside > 0
+    }),
+    ("front inside a pair, written anew and shorter", 70, |s| {
+        s.placed() && s.told.mended > 0
+    }),
 ];
 
 /// Counts by version, as FORMATS stands.

@@ -1,13 +1,14 @@
 //! Where a history starts: an empty image, or one that another program could have written.
 
 use crate::both::Change;
+use crate::letters::{ANY, KANA, MIXED};
 use crate::make::{any_header, cut, entry, headwords, lay_out, plain, put_four, render};
-use crate::make::{sketch, text, Cut, Fronts, Ground, Kind, Links, Sketch};
+use crate::make::{sketch, some_continue, text, Cut, Fronts, Ground, Kind, Links, Sketch};
 use crate::random::Random;
 use crate::reader::{at, BLOCK, MOST_HEADWORD, MOST_TEXT};
 
 /// The kinds of starts, each with its name in the report.
-pub const STARTS: [(How, &str); 16] = [
+pub const STARTS: [(How, &str); 17] = [
     (How::Created, "created empty"),
     (How::Made(Kind::Empty), "no entry: zero index, free blocks"),
     (How::Made(Kind::Plain), "plain"),
@@ -19,6 +20,7 @@ pub const STARTS: [(How, &str); 16] = [
     (How::Made(Kind::OldBytes), "free blocks with old bytes"),
     (How::Made(Kind::Edges), "longest headwords, full index"),
     (How::Made(Kind::HighBytes), "bytes from 0x80 up"),
+    (How::Made(Kind::Pairs), "Shift JIS"),
     (How::Made(Kind::Mixed), "all forms mixed"),
     (How::Made(Kind::Large), "large"),
     (How::LongFronts, "long runs of long fronts"),
@@ -48,7 +50,7 @@ pub struct Start {
 }
 
 /// How often the starts are taken, by place in STARTS; together 100.
-const OFTEN: [usize; 16] = [14, 4, 4, 5, 5, 5, 5, 4, 4, 9, 4, 10, 1, 13, 5, 8];
+const OFTEN: [usize; 17] = [14, 4, 4, 5, 5, 5, 5, 4, 4, 9, 4, 4, 8, 1, 13, 5, 6];
 
 pub fn start(random: &mut Random) -> Start {
     let mut left = random.below(OFTEN.iter().sum());
@@ -93,8 +95,9 @@ pub fn start(random: &mut Random) -> Start {
 
 /// A stem and ascending headwords that continue it.
 fn stemmed(random: &mut Random, stem: usize, number: usize) -> Vec<Vec<u8>> {
-    let stem = text(random, stem);
-    let mut tails = headwords(random, number, false);
+    let letters = *random.pick(&MIXED);
+    let stem = random.pick(&[&ANY, letters]).bytes(random, stem);
+    let mut tails = some_continue(random, number, letters, &[]);
     for tail in &mut tails {
         tail.truncate(MOST_HEADWORD - stem.len());
     }
@@ -135,7 +138,7 @@ fn long_fronts(random: &mut Random) -> Sketch {
 }
 
 fn one_block(random: &mut Random) -> (Sketch, Change) {
-    let stem = text(random, 215);
+    let stem = random.pick(&[&ANY, &KANA]).bytes(random, 215);
     let mut list = Vec::new();
     for tail in [b'A', b'Z'] {
         let word = [&stem[..], &[tail]].concat();
@@ -155,7 +158,8 @@ fn one_block(random: &mut Random) -> (Sketch, Change) {
 fn gaps(random: &mut Random) -> Sketch {
     let number = random.range(6, 24);
     let mut list = Vec::new();
-    for headword in headwords(random, number, false) {
+    let letters = *random.pick(&MIXED);
+    for headword in headwords(random, number, letters) {
         let most = *random.pick(&[100, 600, 1_000]);
         let size = random.below(most);
         list.push(entry(random, headword, size));

@@ -1,6 +1,7 @@
 //! Arguments of the calls: lengths, headwords near those of an image, headwords outside
 //! their rule.
 
+use crate::letters::{BOUNDS, KANA, LEADS};
 use crate::random::Random;
 use crate::reader::{BLOCK, MOST_HEADWORD};
 
@@ -33,7 +34,7 @@ pub fn near(random: &mut Random, words: &[Vec<u8>]) -> Vec<u8> {
         0 => vec![random.byte().max(1)],
         _ => random.pick(words).clone(),
     };
-    match random.below(8) {
+    match random.below(12) {
         // A prefix.
         0 => word.truncate(random.range(1, word.len().max(1))),
         // Continuations.
@@ -54,8 +55,16 @@ pub fn near(random: &mut Random, words: &[Vec<u8>]) -> Vec<u8> {
                 *last = last.wrapping_sub(1).max(1);
             }
         }
+        // A character of Shift JIS more, or one in the place of the last byte, which may be the
+        // second of a pair.
+        6 if word.len() + 1 < MOST_HEADWORD => KANA.put(random, &mut word),
+        7 if word.len() + 1 < MOST_HEADWORD => LEADS.put(random, &mut word),
+        8 | 9 => {
+            word.pop();
+            BOUNDS.put(random, &mut word);
+        }
         // Below and above all.
-        6 => word = vec![1],
+        10 => word = vec![1],
         _ => word = vec![0xFF; random.range(1, MOST_HEADWORD)],
     }
     word

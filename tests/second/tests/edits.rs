@@ -157,6 +157,172 @@ fn p1_shared_fronts() {
     }
 }
 
+/// F-4: an earlier headword, a later one, and its front.
+const FRONTS: &[(&[u8], &[u8], usize)] = &[
+    (b"\x81\x40", b"\x81\x41", 0),
+    (b"A\x81\x40", b"A\x81\x41", 1),
+    (b"A\x81\x40B", b"A\x81\x40C", 3),
+    // The second byte of a pair may be a lead byte.
+    (b"\x81\x81\x81", b"\x81\x81\x82", 2),
+    (b"\x81\x9F\x81\x40", b"\x81\x9F\x81\x41", 2),
+    (b"\x81\x81\x40", b"\x81\x81\x41", 2),
+    (b"A\x81\x81\x40", b"A\x81\x81\x41", 3),
+    (b"\x81\x81\x81\x40", b"\x81\x81\x81\x41", 2),
+    // A lone lead byte at the end.
+    (b"A\x81", b"A\x82", 1),
+    (b"\x81\x40\x81", b"\x81\x40\x82", 2),
+    // The earlier headword's last byte stands alone there, and begins a pair here.
+    (b"\x81", b"\x81\x40", 0),
+    (b"A\xFC", b"A\xFC\xFC", 1),
+    (b"\x81\x81\x81", b"\x81\x81\x81\x81", 2),
+    // It ends with a pair there, and so it does here.
+    (b"\x81\x81", b"\x81\x81\x81", 2),
+    // Half-width kana.
+    (b"\xB1\xB2", b"\xB1\xB3", 1),
+    (b"\x82\xA0\xB1\x83\x41", b"\x82\xA0\xB1\x83\x42", 3),
+];
+
+/// The stored fronts after headwords are inserted in this order.
+fn fronts_of(file: &File, headwords: &[&[u8]]) -> Vec<usize> {
+    let mut book = Book::new(file, 1_024);
+    for headword in headwords {
+        assert_eq!(book.insert(headword, b""), 0);
+    }
+    let image = book.image();
+    image.entries().map(|entry| entry.front).collect()
+}
+
+/// "the largest front, up to the common one, that ends inside no pair of the later headword"
+#[test]
+fn f4_fronts_end_inside_no_pair() {
+    for file in &FILES {
+        for (earlier, later, front) in FRONTS {
+            assert_eq!(fronts_of(file, &[earlier, later]), [0, *front]);
+            assert_eq!(fronts_of(file, &[later, earlier]), [0, *front]);
+        }
+    }
+}
+
+/// "A pair is a byte 0x81 to 0x9F or 0xE0 to 0xFC with the byte after it".
+#[test]
+fn f4_lead_bytes() {
+    for byte in 1..=255 {
+        let front = match byte {
+            0x81..=0x9F | 0xE0..=0xFC => 0,
+            _ => 1,
+        };
+        let (earlier, later) = ([byte, 0x40], [byte, 0x41]);
+        let fronts = fronts_of(&FILES[0], &[&earlier, &later]);
+        assert_eq!(fronts, [0, front], "byte {:#x}", byte);
+    }
+    for (byte, front) in [
+        (0x80, 1),
+        (0x81, 0),
+        (0x9F, 0),
+        (0xA0, 1),
+        (0xDF, 1),
+        (0xE0, 0),
+        (0xFC, 0),
+        (0xFD, 1),
+        (0xFF, 1),
+    ] {
+        let fronts = fronts_of(&FILES[1], &[&[byte, 0x40], &[byte, 0x41]]);
+        assert_eq!(fronts, [0, front], "byte {:#x}", byte);
+    }
+}
+
+#[test]
+fn f4_bytes() {
+    for file in &FILES {
+        let mut book = Book::new(file, 768);
+        assert_eq!(book.insert(b"A\x82\xA0", b"one"), 0);
+        assert_eq!(book.insert(b"A\x82\xA2", b"two"), 0);
+        let run = b"\x01\x00\x08\x00\x00A\x82\xA0\x00\x80one\x07\x00\x01\x82\xA2\x00\x80two";
+        let mut bytes = vec![0; 256];
+        put(&mut bytes, 0, run);
+        assert_eq!(book.bytes()[512..], bytes);
+    }
+}
+
+/// "cuts and places follow its sizes": with the common front 1,024 bytes, with this one 1,025.
+#[test]
+fn f4_cuts() {
+    for file in &FILES {
+        for (lead, size, places) in [
+            (0x81, 506, vec![(2, 4)]),
+            (0x81, 507, vec![(0, 2), (2, 3)]),
+            (0x41, 507, vec![(2, 4)]),
+            (0x41, 508, vec![(0, 2), (2, 3)]),
+        ] {
+            let mut book = Book::new(file, 4_096);
+            assert_eq!(book.insert(&[lead, 0x40], &t(500)), 0);
+            assert_eq!(book.insert(&[lead, 0x41], &t(size)), 0);
+            assert_eq!(book.places(), places, "lead byte {:#x}, t({})", lead, size);
+        }
+    }
+}
+
+/// A file of another program: in its first run the front of 81 41 ends inside the pair.
+fn with_cut_pair(file: &File) -> Book {
+    let mut bytes = empty(file);
+    bytes.resize(1_024, 0);
+    for (place, byte) in [(148, 1), (160, 3), (file.nindex2, 2), (file.nblock2, 2)] {
+        bytes[place] = byte;
+    }
+    put(&mut bytes, 256, b"\x00\x00\x81\x40\x00\x01\x00\x82\x00");
+    put(&mut bytes, 512, CUT_PAIR);
+    put(&mut bytes, 768, b"\x01\x00\x03\x00\x00\x82\x00\x80");
+    bytes.resize(2_048, 0);
+    Book {
+        both: Both::new(&bytes, Random::of(1, 1)),
+        len: 1_024,
+    }
+}
+
+const CUT_PAIR: &[u8] = b"\x01\x00\x05\x00\x00\x81\x40\x00\x80t\x04\x00\x01\x41\x00\x80u";
+
+/// "Reading is as before." Optimise and changes of another run keep the bytes.
+#[test]
+fn f4_stored_fronts_are_read_and_kept() {
+    for file in &FILES {
+        let mut book = with_cut_pair(file);
+        let read = read(book.bytes(), book.len);
+        assert_eq!(book.both.check(&read, book.len), Ok(0));
+        assert_eq!(book.both.look_up(&read, book.len, b"\x81\x41", 1), Ok(0));
+        assert_eq!(
+            book.both.walk(&read, book.len, b"\x81\x40", 1, (2, 1)),
+            Ok(0)
+        );
+        let kept = |book: &Book| book.bytes()[512..512 + CUT_PAIR.len()] == *CUT_PAIR;
+        assert_eq!((book.optimise(), kept(&book)), (0, true));
+        assert_eq!((book.insert(b"\x82\x40", b""), kept(&book)), (0, true));
+        assert_eq!((book.delete(b"\x82"), kept(&book)), (0, true));
+        assert_eq!((book.optimise(), kept(&book)), (0, true));
+    }
+}
+
+/// A change of its run writes the front anew.
+#[test]
+fn f4_stored_fronts_are_written_anew() {
+    for file in &FILES {
+        let written = |mut book: Book, change: fn(&mut Book) -> u32| {
+            assert_eq!(change(&mut book), 0);
+            let image = book.image();
+            let fronts = |run: usize| image.runs[run].entries.iter().map(|entry| entry.front);
+            fronts(0).collect::<Vec<usize>>()
+        };
+        let book = || with_cut_pair(file);
+        assert_eq!(written(book(), |b| b.insert(b"\x81\x41", b"v")), [0, 0]);
+        assert_eq!(written(book(), |b| b.insert(b"\x81\x40", b"v")), [0, 0]);
+        assert_eq!(written(book(), |b| b.insert(b"\x81", b"")), [0, 0, 0]);
+        assert_eq!(
+            written(book(), |b| b.insert(b"\x81\x41\x81", b"")),
+            [0, 0, 2]
+        );
+        assert_eq!(written(book(), |b| b.delete(b"\x81\x40")), [0]);
+    }
+}
+
 #[test]
 fn p2_p3_bytes() {
     FILES.iter().for_each(p2_p3_bytes_of);

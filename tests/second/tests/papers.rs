@@ -219,6 +219,32 @@ fn p1_shared_fronts_of(file: &File) {
     assert_eq!(step(b"AGDE"), Err(100));
 }
 
+/// F-4: "Reading is as before." 81 40, 81 41, 81 41 82: the fronts end inside a pair.
+#[test]
+fn fronts_inside_pairs() {
+    for file in &FILES {
+        let mut bytes = p2(file);
+        put(&mut bytes, 160, &[3]);
+        put(&mut bytes, 256, b"\x00\x00\x81\x40\x00\x00");
+        bytes[512..].fill(0);
+        put(&mut bytes, 512, b"\x01\x00\x05\x00\x00\x81\x40\x00\x80t");
+        put(&mut bytes, 522, b"\x04\x00\x01\x41\x00\x80u");
+        put(&mut bytes, 529, b"\x05\x00\x01\x41\x82\x00\x80v");
+        assert_eq!(both_check(&bytes, 768), Ok([3, 1, 1, 0]));
+        let fronts: Vec<usize> = values(&bytes).entries().map(|entry| entry.front).collect();
+        assert_eq!(fronts, [0, 1, 1]);
+        assert_eq!(
+            both_look_up(&bytes, b"\x81\x41", 1),
+            Ok((128, b"u".to_vec()))
+        );
+        assert_eq!(both_look_up(&bytes, b"\x41", 1), Err(100));
+        let next = |word: &[u8]| both_walk(&bytes, word, 1, ROOM).map(|(word, _)| word);
+        assert_eq!(next(b"\x81"), Ok(b"\x81\x40".to_vec()));
+        assert_eq!(next(b"\x81\x40"), Ok(b"\x81\x41".to_vec()));
+        assert_eq!(next(b"\x81\x41"), Ok(b"\x81\x41\x82".to_vec()));
+    }
+}
+
 #[test]
 fn p2_p3_bytes() {
     FILES.iter().for_each(p2_p3_bytes_of);

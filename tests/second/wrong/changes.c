@@ -124,6 +124,95 @@ static void shorten_front(uint8_t *run) {
     }
 }
 
+/* Wrong engines that take one byte for a lead byte, or do not. */
+static const struct { const char *name; uint8_t byte; } other_leads[] = {
+    { "80-leads", 0x80 }, { "lead-from-82", 0x81 }, { "lead-to-9e", 0x9F }, { "a0-leads", 0xA0 },
+    { "df-leads", 0xDF }, { "lead-from-e1", 0xE0 }, { "lead-to-fb", 0xFC }, { "fd-leads", 0xFD },
+};
+enum { OTHER_LEADS = sizeof other_leads / sizeof other_leads[0] };
+
+static int leads(uint8_t byte) {
+    int right = (byte >= 0x81 && byte <= 0x9F) || (byte >= 0xE0 && byte <= 0xFC);
+    for (int i = 0; i < OTHER_LEADS; i++)
+        if (byte == other_leads[i].byte && is(other_leads[i].name)) return !right;
+    return right;
+}
+
+/* Whether a place of a headword, which a zero ends, is inside a pair; read from a byte of it on. */
+static int inside_pair(const uint8_t *word, size_t place, size_t from) {
+    while (from < place) from += leads(word[from]) && word[from + 1] ? 2 : 1;
+    return from > place;
+}
+
+/* Whether WRONG names a front that an insertion writes. */
+static int writes_front(void) {
+    for (int i = 0; i < OTHER_LEADS; i++)
+        if (is(other_leads[i].name)) return 1;
+    return is("front-in-a-pair") || is("pairs-of-the-earlier") || is("pairs-from-second-byte") ||
+           is("pairs-by-the-byte-before") || is("front-a-pair-shorter");
+}
+
+/* The front that WRONG gives a headword behind another; where it names none, the one stored, but half a pair. */
+static size_t wrong_front(const uint8_t *earlier, const uint8_t *later, size_t stored) {
+    size_t front = 0, from = is("pairs-from-second-byte");
+    while (earlier[front] && earlier[front] == later[front]) front++;
+    if (is("front-in-a-pair")) return front;
+    if (!writes_front()) front = stored;
+    if (is("pairs-by-the-byte-before"))
+        while (front > 0 && leads(later[front - 1])) front--;
+    size_t common = front;
+    while (front > 0 && inside_pair(is("pairs-of-the-earlier") ? earlier : later, front, from)) front--;
+    if (is("front-a-pair-shorter") && 0 < front && front < common)
+        while (--front > 0 && inside_pair(later, front, 0)) continue;
+    return front;
+}
+
+/* The entries of a run with the fronts that WRONG gives, if it keeps its number of blocks. */
+static int rewrite_fronts(uint8_t *run) {
+    size_t size = (size_t)(run_end(run) - run), old = (size_t)(behind_marks(run) - run), used = 2;
+    uint8_t word[256] = { 0 }, earlier[256], *to = calloc(2 * size + 256, 1);
+    memcpy(to, run, 2);
+    for (uint8_t *at = run + 2; two(at) && used < size; at += 3 + two(at)) {
+        memcpy(earlier, word, sizeof word);
+        strcpy((char *)word + at[2], (char *)at + 3);
+        uint8_t *zero = at + 3 + strlen((char *)at + 3);
+        size_t front = wrong_front(earlier, word, at[2]), rest = strlen((char *)word + front);
+        size_t behind = (size_t)(at + 3 + two(at) - zero);
+        put_two(to + used, (uint32_t)(rest + behind));
+        to[used + 2] = (uint8_t)front;
+        memcpy(to + used + 3, word + front, rest);
+        memcpy(to + used + 3 + rest, zero, behind);
+        used += 3 + rest + behind;
+    }
+    int keeps = used + 2 <= size && !(writes_front() && used + 2 <= size - 256);
+    if (keeps) memcpy(run, to, used + 2 < old ? old : used + 2);
+    free(to);
+    return keeps;
+}
+
+/* Whether something holds of a run of an image, or could be done with one; all are taken. */
+static int each_run(uint8_t *image, int (*with)(uint8_t *run)) {
+    int some = 0;
+    uint8_t *at = image + 256;
+    for (uint32_t left = four(nindex2(image)); left > 0; left--) {
+        some |= with(block(image, two(at)));
+        at += 2 + strlen((char *)at + 2) + 1;
+    }
+    return some;
+}
+
+static int run_inside_pair(uint8_t *run) {
+    uint8_t word[256];
+    for (uint8_t *at = run + 2; two(at); at += 3 + two(at)) {
+        strcpy((char *)word + at[2], (char *)at + 3);
+        if (inside_pair(word, at[2], 0)) return 1;
+    }
+    return 0;
+}
+
+/* Whether a stored front of an image ends inside a pair. */
+int front_inside_pair(uint8_t *image) { return each_run(image, run_inside_pair); }
+
 /* The deleted headword stands in the index again, where the one in its place is as long. */
 static void old_headword(call *c) {
     uint32_t place = concerned(c->image_before, c->headword, c->headword_size);
@@ -227,6 +316,7 @@ static uint32_t done_wrong(call *c) {
         if (is("touch-behind-new-L") && *c->new_len < c->image_size) image[*c->new_len] ^= 1;
         if (is("byte-past-image")) image[c->image_size] ^= 1;
         if (is("highest-of-equals")) place_highest(c);
+        if (writes_front() && run) rewrite_fronts(run);
         if (is("full-slice-refused") && *c->new_len == c->image_size) {
             take_back(c);
             return 15;
@@ -235,6 +325,7 @@ static uint32_t done_wrong(call *c) {
     if (c->kind == DELETE && is("old-headword-in-index")) old_headword(c);
     if (c->kind != OPTIMISE) {
         if (is("front-shorter") && run) shorten_front(run);
+        if (is("change-mends-fronts")) each_run(image, rewrite_fronts);
         if (is("chain-not-renumbered") && grown > 0) shift_chain(image, grown);
         if (is("moved-run-trimmed") && grown > 0)
             for (uint32_t i = 0; (at = element(image, i)); i++) {
@@ -247,6 +338,7 @@ static uint32_t done_wrong(call *c) {
                 memset(block(image, n) + 6, 0, 250);
     }
     if (c->kind == OPTIMISE) {
+        if (is("optimise-mends-fronts")) each_run(image, rewrite_fronts);
         if (is("optimise-zeroes-too-far")) memset(image + *c->new_len, 0, c->image_size - *c->new_len);
         if (is("optimise-keeps-old-bytes"))
             memcpy(image + *c->new_len, c->image_before + *c->new_len, c->len - *c->new_len);

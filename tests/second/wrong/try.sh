@@ -45,7 +45,8 @@ try() {
 try compare 20000 absent-always text-length-one-more 14-for-absent zero-behind-text byte-past-slice \
     attribute-on-absent argument-first headword-8-bits count-by-guess refuse-all accept-10 9-as-10 \
     chain-16-bits touch-behind-L number-on-refusal length-32-bits skip-run-start above-low-bit \
-    write-before-14 walk-empty-12 crash version-6-read os-at-171 os-at-167-too nblock2-at-194
+    write-before-14 walk-empty-12 crash version-6-read os-at-171 os-at-167-too nblock2-at-194 \
+    8-for-front-in-a-pair
 try histories 500 15-without-placing image-untouched first-call-only same-entry-ignored replaced-counted \
     L-one-block-more behind-end-marks touch-behind-new-L byte-past-image highest-of-equals full-slice-refused \
     old-headword-in-index front-shorter chain-not-renumbered moved-run-trimmed chain-descending \
@@ -58,5 +59,7 @@ try histories 500 15-without-placing image-untouched first-call-only same-entry-
     attribute-high-bit-only version-16-changed counts-at-version-4 version-5-becomes-4 identifier-altered \
     identifier-altered-on-15 optimise-zeroes-identifier identifier-high-byte-first identifier-32-bits \
     identifier-in-version-4 version-6-created create-low-bits create-3-before-1 create-clears-on-3 L-on-3 \
-    empty_block2-at-186
+    empty_block2-at-186 front-in-a-pair front-a-pair-shorter pairs-of-the-earlier pairs-from-second-byte \
+    pairs-by-the-byte-before 80-leads lead-from-82 lead-to-9e a0-leads df-leads lead-from-e1 lead-to-fb fd-leads \
+    optimise-mends-fronts change-mends-fronts
 exit $failed

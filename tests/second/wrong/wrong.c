@@ -16,6 +16,9 @@ uint32_t right_pdic_walk(const uint8_t *image, size_t image_size, size_t len, co
                          size_t headword_out_size, uint8_t *text, size_t text_size, uint8_t *attribute,
                          size_t *headword_len, size_t *text_len);
 
+/* Whether a stored front of an accepted image ends inside a pair (changes.c). */
+int front_inside_pair(uint8_t *image);
+
 static const char *way(void) {
     const char *name = getenv("WRONG");
     return name ? name : "";
@@ -68,6 +71,8 @@ uint32_t pdic_check(const uint8_t *image, size_t image_size, size_t len, uint64_
     }
     if (is("9-as-10") && number == 9)
         return 10;
+    if (is("8-for-front-in-a-pair") && number == 0 && front_inside_pair((uint8_t *)image))
+        return 8;
     if (is("chain-16-bits") && number == 9) {
         /* A chain whose first number is right in its low half. */
         uint8_t *other = malloc(image_size);

@@ -13,9 +13,10 @@ use second::calls::{self, Answer, Read, ABSENT};
 use second::cases::{case, Case, Expected};
 use second::damage::DAMAGES;
 use second::drive::{self, add_each, drive, Found, Plan};
-use second::make::KINDS;
+use second::make::{Kind, KINDS};
+use second::pairs::cuts_pair;
 use second::random::Random;
-use second::reader::{read, FORMATS, MOST_HEADWORD, MOST_TEXT};
+use second::reader::{read, Entry, FORMATS, MOST_HEADWORD, MOST_TEXT};
 use second::words::{bad, lengths_to_try, near};
 
 /// The calls compared; those that change an image are compared by `histories`.
@@ -51,8 +52,11 @@ struct Tally {
     bytes: u64,
     /// By kind, version made in, call and answer.
     seen: Vec<[[[u64; ANSWERS]; CALLS.len()]; FORMATS.len()]>,
-    /// By kind and version made in: images, accepted ones, and accepted among those made good.
-    kinds: Vec<[[u64; 3]; FORMATS.len()]>,
+    /// By kind and version made in: images, accepted ones, accepted among those made good, and
+    /// accepted with a stored front that ends inside a pair.
+    kinds: Vec<[[u64; 4]; FORMATS.len()]>,
+    /// By version made in and call: answers 0 about an entry with such a front.
+    in_pairs: [[u64; CALLS.len()]; FORMATS.len()],
     /// By damage and version made in: images that have it alone, and with others.
     damages: Vec<[[u64; 2]; FORMATS.len()]>,
     longest_run: usize,
@@ -66,7 +70,8 @@ impl drive::Tally for Tally {
             calls: 0,
             bytes: 0,
             seen: vec![[[[0; ANSWERS]; CALLS.len()]; FORMATS.len()]; KINDS.len()],
-            kinds: vec![[[0; 3]; FORMATS.len()]; KINDS.len()],
+            kinds: vec![[[0; 4]; FORMATS.len()]; KINDS.len()],
+            in_pairs: [[0; CALLS.len()]; FORMATS.len()],
             damages: vec![[[0; 2]; FORMATS.len()]; DAMAGES.len()],
             longest_run: 0,
             most_blocks: 0,
@@ -86,6 +91,10 @@ impl drive::Tally for Tally {
         for (ours, theirs) in self.kinds.iter_mut().zip(&other.kinds) {
             add_each(ours.as_flattened_mut(), theirs.as_flattened());
         }
+        add_each(
+            self.in_pairs.as_flattened_mut(),
+            other.in_pairs.as_flattened(),
+        );
         for (ours, theirs) in self.damages.iter_mut().zip(&other.damages) {
             add_each(ours.as_flattened_mut(), theirs.as_flattened());
         }
@@ -102,9 +111,9 @@ impl Tally {
         self.seen.iter().map(each).sum()
     }
 
-    /// The images made in a version, accepted ones, and accepted among those made good.
-    fn of_version(&self, version: usize) -> [u64; 3] {
-        let mut sum = [0; 3];
+    /// The images made in a version, as `kinds` counts them.
+    fn of_version(&self, version: usize) -> [u64; 4] {
+        let mut sum = [0; 4];
         for kind in &self.kinds {
             add_each(&mut sum, &kind[version]);
         }
@@ -118,6 +127,8 @@ struct Bench<'a> {
     random: Random,
     kind: usize,
     version: usize,
+    /// A stored front of the image ends inside a pair.
+    cuts_pair: bool,
     tally: &'a mut Tally,
 }
 
@@ -127,9 +138,16 @@ impl Bench<'_> {
         self.tally.seen[self.kind][self.version][call][answer_place(number)] += 1;
     }
 
+    fn count_pair(&mut self, call: usize, answer: Answer<&Entry>) {
+        if let Answer::Done(entry) = answer {
+            self.tally.in_pairs[self.version][call] += cuts_pair(entry) as u64;
+        }
+    }
+
     fn check(&mut self, read: &Read, len: usize) -> Result<(), Differs> {
         let number = self.both.check(read, len)?;
         self.count(CHECK, number);
+        self.tally.in_pairs[self.version][CHECK] += (self.cuts_pair && number == 0) as u64;
         Ok(())
     }
 
@@ -142,6 +160,9 @@ impl Bench<'_> {
     ) -> Result<(), Differs> {
         let number = self.both.look_up(read, len, word, text_size)?;
         self.count(LOOK_UP, number);
+        if self.cuts_pair {
+            self.count_pair(LOOK_UP, calls::look_up(read, word, text_size));
+        }
         Ok(())
     }
 
@@ -155,6 +176,9 @@ impl Bench<'_> {
     ) -> Result<(), Differs> {
         let number = self.both.walk(read, len, word, above, sizes)?;
         self.count(WALK, number);
+        if self.cuts_pair {
+            self.count_pair(WALK, calls::walk(read, word, above != 0, sizes.0, sizes.1));
+        }
         Ok(())
     }
 
@@ -254,7 +278,10 @@ fn compare_case(case: Case, tally: &mut Tally) -> Result<(), Differs> {
     for damage in &case.damages {
         tally.damages[*damage][version][(case.damages.len() > 1) as usize] += 1;
     }
+    let mut has_cut = false;
     if let Ok(image) = &result {
+        has_cut = image.entries().any(cuts_pair);
+        tally.kinds[kind][version][3] += has_cut as u64;
         let longest = image.runs.iter().map(|run| run.blocks).max().unwrap_or(0);
         tally.longest_run = tally.longest_run.max(longest);
         tally.most_blocks = tally.most_blocks.max(image.data_blocks);
@@ -265,6 +292,7 @@ fn compare_case(case: Case, tally: &mut Tally) -> Result<(), Differs> {
         random: Random::of(random.next(), 0),
         kind,
         version,
+        cuts_pair: has_cut,
         tally,
     };
     let big = slice.len() > 1 << 20;
@@ -373,10 +401,15 @@ fn main() {
         total.bytes >> 20
     );
     for (version, format) in FORMATS.iter().enumerate() {
-        let [images, accepted, _] = total.of_version(version);
+        let [images, accepted, _, cut] = total.of_version(version);
         println!(
-            "version {}: {} images, {} accepted",
-            format.version, images, accepted
+            "version {}: {} images, {} accepted, {} of these with a stored front inside a pair",
+            format.version, images, accepted, cut
+        );
+        let [check, look_up, walk] = total.in_pairs[version];
+        println!(
+            "  answers about such fronts: check {}, look up {}, walk {}",
+            check, look_up, walk
         );
     }
     println!(
@@ -428,11 +461,20 @@ fn missing_in(total: &Tally, version: usize) -> Vec<String> {
             }
         }
     }
-    for ((_, name), kind) in KINDS.iter().zip(&total.kinds) {
+    for ((kind, name), counts) in KINDS.iter().zip(&total.kinds) {
         // About 7 in 20 images of a kind are made good.
-        let [made, accepted, good] = kind[version];
+        let [made, accepted, good, cut] = counts[version];
         if good == 0 || accepted * 10 < made {
             missing.push(format!("TOO FEW ACCEPTED: {}", name));
+        }
+        // Giants have headwords of letters and digits alone.
+        if !matches!(kind, Kind::Empty | Kind::Giant) && cut * 20 < accepted {
+            missing.push(format!("TOO FEW WITH A FRONT INSIDE A PAIR: {}", name));
+        }
+    }
+    for (call, count) in CALLS.iter().zip(&total.in_pairs[version]) {
+        if *count == 0 {
+            missing.push(format!("NOT SEEN: {} about a front inside a pair", call));
         }
     }
     // Half of them are of each version.
@@ -493,9 +535,10 @@ fn print_answers(total: &Tally) {
 }
 
 fn print_kinds(total: &Tally) {
-    println!("By kind of image: images of version 4 and 5, accepted ones, then calls by answer:");
+    println!("By kind of image: images of version 4 and 5, accepted ones, accepted ones with a");
+    println!("stored front inside a pair, then calls by answer:");
     print!("{:>51}", "");
-    for head in ["4", "5", "acc. 4", "acc. 5"] {
+    for head in ["4", "5", "acc. 4", "acc. 5", "pair 4", "pair 5"] {
         print!("{:>7}", head);
     }
     for place in 0..ANSWERS - 1 {
@@ -507,7 +550,9 @@ fn print_kinds(total: &Tally) {
     for (kind, (_, name)) in KINDS.iter().enumerate() {
         let [four, five] = total.kinds[kind];
         print!("{:>51}", name);
-        print!("{:>7}{:>7}{:>7}{:>7}", four[0], five[0], four[1], five[1]);
+        for column in [0, 1, 3] {
+            print!("{:>7}{:>7}", four[column], five[column]);
+        }
         for place in 0..ANSWERS {
             if !ONLY_CHANGING.contains(&(place as u32)) {
                 let calls = total.seen[kind].as_flattened();
