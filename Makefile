@@ -32,7 +32,7 @@ all: $(library) $(programs) target/bin/list
 
 $(engine): $(proved)
 	@tools/setup.sh demo
-	@echo 'The engine is proved, then compiled. The first time takes about six minutes on two processors.'
+	@echo 'The engine is proved, then compiled. The first time takes about five minutes on two processors.'
 	@tools/engine.sh
 
 target/bin/list: $(engine)

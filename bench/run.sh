@@ -2,7 +2,7 @@
 # run.sh [SECONDS [-m MODE]...]: the engine against the C baseline, call by call in turn: first without the baseline's SSE2
 # scans (libc's memchr instead), then with them. Three tables each, SECONDS (30) for a table: the glossary with images in
 # rotation, with one image, and long entries in rotation; or those that -m names, such as pairs, the glossary with headwords in
-# Shift JIS, and parts, with parts in half of its entries. Then come the tables of docs/BENCH.md. At the end, but for -m, the engine on the glossary in version 5 beside itself
+# Shift JIS. Then come the tables of docs/BENCH.md. At the end, but for -m, the engine on the glossary in version 5 beside itself
 # on that in version 4, in rotation. PDIC_LIB names another folder with a libpdic.a to measure. PDIC_BEFORE names a folder with
 # that of another landing, and is measured in the baseline's place.
 set -eu
@@ -14,17 +14,8 @@ trap 'rm -rf "$work"' EXIT
 lib=${PDIC_LIB:-$here/../target/staticlib}
 [ -n "${PDIC_LIB:-}" ] || "$here/../tools/engine.sh"
 
-# shared FOLDER NAME: the folder's library as a shared one; one from before F-5 under the interface of today
-shared() {
-    archive=$1/libpdic.a shim=
-    if ! nm "$archive" 2>/dev/null | grep -q ' T pdic_part_step$'; then
-        shim="-O2 -fPIC -Wall -Wextra -Werror $here/before.c"
-        objcopy --redefine-sym pdic_look_up=before_pdic_look_up --redefine-sym pdic_walk=before_pdic_walk \
-            --redefine-sym pdic_insert=before_pdic_insert "$archive" "$work/$2.a"
-        archive=$work/$2.a
-    fi
-    gcc -shared -o "$work/$2.so" $shim -Wl,--whole-archive "$archive" -Wl,--no-whole-archive
-}
+# shared FOLDER NAME: the folder's library as a shared one
+shared() { gcc -shared -o "$work/$2.so" -Wl,--whole-archive "$1/libpdic.a" -Wl,--no-whole-archive; }
 
 shared "$lib" engine
 if [ -n "${PDIC_BEFORE:-}" ]; then

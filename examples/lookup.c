@@ -1,4 +1,4 @@
-/* lookup.c - prints a headword's text from a dictionary file, and its example and pronunciation, each on a line of its own.
+/* lookup.c - prints a headword's text from a dictionary file.
  *
  *   cc lookup.c $(pkg-config --cflags --libs pdic) -o lookup && ./lookup FILE HEADWORD
  */
@@ -22,16 +22,13 @@ int main(int argc, char **argv)
         return 2;
     }
 
-    uint8_t text[PDIC_MAX_TEXT], parts[PDIC_MAX_PARTS], attribute, kind;
-    size_t text_len, parts_len, place, part_len, at = 0;
+    uint8_t text[PDIC_MAX_TEXT], attribute;
+    size_t text_len;
     uint32_t number = pdic_look_up(image, len, len, (const uint8_t *)argv[2], strlen(argv[2]),
-                                   text, sizeof text, parts, sizeof parts, &attribute, &text_len, &parts_len);
+                                   text, sizeof text, &attribute, &text_len);
     if (number == PDIC_DONE)
         printf("%.*s\n", (int)text_len, (const char *)text);
     else
         fprintf(stderr, "%s: %s: %s\n", argv[1], argv[2], pdic_strerror(number));
-    while (number == PDIC_DONE && attribute & PDIC_PARTS
-           && pdic_part_step(parts, parts_len, at, &kind, &place, &part_len, &at) == PDIC_DONE)
-        printf("%s: %.*s\n", kind == PDIC_EXAMPLE ? "example" : "pronunciation", (int)part_len, (const char *)parts + place);
     return number == PDIC_DONE ? 0 : number == PDIC_ABSENT ? 1 : 2;
 }

@@ -15,14 +15,11 @@ const char *pdic_strerror(uint32_t number)
     case PDIC_BAD_INDEX: return "its index breaks a rule";
     case PDIC_BAD_PLACE: return "a run's place or number of blocks is wrong";
     case PDIC_BAD_RUN: return "an entry or a run breaks a rule";
-    case PDIC_BAD_PARTS: return "a part list breaks a rule, or the offset is none of its parts";
     case PDIC_BAD_BLOCKS: return "its free list breaks a rule, or a block is used twice or not at all";
     case PDIC_BAD_COUNTS: return "its header counts entries or blocks wrongly";
     case PDIC_READ_ONLY: return "this version may be read but not changed";
     case PDIC_BAD_HEADWORD: return "a headword has 1 to 248 bytes, none of them zero";
-    case PDIC_BAD_TEXT:
-        return "a text has at most 3,000 bytes, an example 20,000 and a pronunciation 1,000, none of them zero, and an attribute has "
-               "0x80 set, and 0x10 exactly with parts";
+    case PDIC_BAD_TEXT: return "a text has at most 3,000 bytes, none of them zero, and an attribute has 0x80 set and 0x10 clear";
     case PDIC_SHORT_OUTPUT: return "an output slice is too short for the answer";
     case PDIC_FULL: return "the dictionary is full";
     default: return "no number of these calls";

@@ -7,11 +7,6 @@
 
 enum { FIRST_SIZE = 65536 };
 
-const part_kind part_kinds[PART_KINDS] = {
-    [EXAMPLE] = { "example", PDIC_EXAMPLE, PDIC_MAX_EXAMPLE },
-    [PRONUNCIATION] = { "pronunciation", PDIC_PRONUNCIATION, PDIC_MAX_PRONUNCIATION },
-};
-
 void print_refused(FILE *out, bytes headword, uint32_t number)
 {
     print_quoted(out, headword);
@@ -26,36 +21,6 @@ bytes headword_of(const entry *e)
 bytes text_of(const entry *e)
 {
     return (bytes){ e->text, e->text_len };
-}
-
-/* The part of a kind that an entry's part list has. */
-static part part_of(const entry *e, uint8_t kind)
-{
-    uint8_t found;
-    size_t at = 0, place, len;
-    while (pdic_part_step(e->parts, e->parts_len, at, &found, &place, &len, &at) == PDIC_DONE)
-        if (found == kind) return (part){ THERE, { e->parts + place, len } };
-    return (part){ .is = NOT_THERE };
-}
-
-body body_of(const entry *e)
-{
-    body b = { .attribute = e->attribute & ~PDIC_PARTS, .text = text_of(e) };
-    for (int i = 0; i < PART_KINDS; i++) b.parts[i] = part_of(e, part_kinds[i].kind);
-    return b;
-}
-
-int is_same_part(part a, part b)
-{
-    if (a.is != THERE || b.is != THERE) return a.is != THERE && b.is != THERE;
-    return compare_bytes(a.bytes, b.bytes) == 0;
-}
-
-int is_same_body(const body *a, const body *b)
-{
-    int is_same = a->attribute == b->attribute && compare_bytes(a->text, b->text) == 0;
-    for (int i = 0; i < PART_KINDS; i++) is_same = is_same && is_same_part(a->parts[i], b->parts[i]);
-    return is_same;
 }
 
 int begins_with(const entry *e, bytes front)
@@ -202,8 +167,7 @@ uint32_t book_check(const book *b, figures *f)
 uint32_t book_look_up(const book *b, bytes headword, entry *found)
 {
     uint32_t number = pdic_look_up(b->image, b->size, b->len, headword.at, headword.len, found->text,
-                                   sizeof found->text, found->parts, sizeof found->parts, &found->attribute,
-                                   &found->text_len, &found->parts_len);
+                                   sizeof found->text, &found->attribute, &found->text_len);
     if (number == PDIC_DONE) {
         memcpy(found->headword, headword.at, headword.len);
         found->headword_len = headword.len;
@@ -217,22 +181,15 @@ uint32_t book_walk(const book *b, bytes from, int above, entry *found)
     if (from.len > sizeof start) return PDIC_BAD_HEADWORD;
     memcpy(start, from.at, from.len);
     return pdic_walk(b->image, b->size, b->len, start, from.len, above != 0, found->headword, sizeof found->headword,
-                     found->text, sizeof found->text, found->parts, sizeof found->parts, &found->attribute,
-                     &found->headword_len, &found->text_len, &found->parts_len);
+                     found->text, sizeof found->text, &found->attribute, &found->headword_len, &found->text_len);
 }
 
-uint32_t book_insert(book *b, bytes headword, const body *x)
+uint32_t book_insert(book *b, bytes headword, uint8_t attribute, bytes text)
 {
-    static const bytes none = { (const uint8_t *)"", 0 }; /* a slice is not null */
-    uint8_t has_example = x->parts[EXAMPLE].is == THERE, has_pronunciation = x->parts[PRONUNCIATION].is == THERE;
-    uint8_t attribute = x->attribute | (has_example || has_pronunciation ? PDIC_PARTS : 0);
-    bytes example = has_example ? x->parts[EXAMPLE].bytes : none;
-    bytes pronunciation = has_pronunciation ? x->parts[PRONUNCIATION].bytes : none;
     uint32_t number;
     book_writable(b);
     do number = pdic_insert(b->image, b->size, b->len, b->work, b->size, headword.at, headword.len, attribute,
-                            x->text.at, x->text.len, has_example, example.at, example.len,
-                            has_pronunciation, pronunciation.at, pronunciation.len, &b->len);
+                            text.at, text.len, &b->len);
     while (number == PDIC_FULL && book_grow(b));
     return number;
 }

@@ -23,33 +23,11 @@ typedef struct {
 /* The exit status of the programs. */
 enum { STATUS_DONE = 0, STATUS_ABSENT = 1, STATUS_REFUSED = 2, STATUS_IN_USE = 3 };
 
-/* An entry that was found, with its part list as it is stored. */
+/* An entry that was found. */
 typedef struct {
-    uint8_t headword[PDIC_MAX_HEADWORD], text[PDIC_MAX_TEXT], parts[PDIC_MAX_PARTS], attribute;
-    size_t headword_len, text_len, parts_len;
+    uint8_t headword[PDIC_MAX_HEADWORD], text[PDIC_MAX_TEXT], attribute;
+    size_t headword_len, text_len;
 } entry;
-
-/* The parts that an entry can have. */
-enum { EXAMPLE, PRONUNCIATION, PART_KINDS };
-typedef struct {
-    const char *name;
-    uint8_t kind; /* as a part list has it */
-    size_t most;  /* bytes */
-} part_kind;
-extern const part_kind part_kinds[PART_KINDS];
-
-/* A part: nothing is told of it, or it is not there, or it is there, with its bytes. */
-typedef struct {
-    enum { NOT_TOLD, NOT_THERE, THERE } is;
-    bytes bytes;
-} part;
-
-/* What an entry has beside its headword. PDIC_PARTS is not in the attribute: it follows from the parts. */
-typedef struct {
-    uint8_t attribute;
-    bytes text;
-    part parts[PART_KINDS];
-} body;
 
 typedef struct {
     uint64_t headwords, index_blocks, data_blocks, free_blocks;
@@ -83,7 +61,7 @@ uint64_t book_ident(const book *b);
 uint32_t book_check(const book *b, figures *f);
 uint32_t book_look_up(const book *b, bytes headword, entry *found);
 uint32_t book_walk(const book *b, bytes from, int above, entry *found);
-uint32_t book_insert(book *b, bytes headword, const body *x);
+uint32_t book_insert(book *b, bytes headword, uint8_t attribute, bytes text);
 uint32_t book_delete(book *b, bytes headword);
 uint32_t book_optimise(book *b);
 
@@ -92,9 +70,6 @@ void print_refused(FILE *out, bytes headword, uint32_t number);
 
 bytes headword_of(const entry *e);
 bytes text_of(const entry *e);
-body body_of(const entry *e);
-int is_same_part(part a, part b);
-int is_same_body(const body *a, const body *b);
 int begins_with(const entry *e, bytes front);
 
 #endif

@@ -22,8 +22,7 @@ enum { WAIT = 30, LONGEST_WAIT = 86400, IDENT_DIGITS = 16 };
 
 /* What the options say. */
 typedef struct {
-    int dry_run, text_alone, attribute; /* attribute: -1 where none is told */
-    part parts[PART_KINDS];
+    int dry_run, attribute; /* attribute: -1 where none is told */
     const char *from;
     unsigned wait;
     kind made; /* what a new dictionary is to be */
@@ -94,63 +93,44 @@ static int save(task *t)
     return t->is_saved ? print_figures(t) : status;
 }
 
-/* Prints what an entry has: its text, and of attribute and parts what the other one has not so. */
-static void print_body(const body *b, const body *other)
+/* Prints a text, and its attribute if that is to be seen. */
+static void print_text(bytes text, int attribute, int is_shown)
 {
-    print_quoted(stdout, b->text);
-    if (b->attribute != other->attribute) printf(" (0x%02X)", (unsigned)b->attribute);
-    for (int i = 0; i < PART_KINDS; i++) {
-        if (is_same_part(b->parts[i], other->parts[i])) continue;
-        printf(", %s%s", b->parts[i].is == THERE ? "" : "no ", part_kinds[i].name);
-        if (b->parts[i].is != THERE) continue;
-        putchar(' ');
-        print_quoted(stdout, b->parts[i].bytes);
-    }
+    print_quoted(stdout, text);
+    if (is_shown) printf(" (0x%02X)", (unsigned)attribute);
 }
 
-/* Says what a merging would do with an entry. */
-static void print_plan(bytes headword, const body *b, const body *stored)
+/* Says what a merging would do with an entry; attributes only where they differ. */
+static void print_plan(const item *x, int attribute, const entry *stored)
 {
-    body none = { .attribute = b->attribute };
+    int is_shown = stored && stored->attribute != attribute;
     fputs(stored ? "would replace " : "would add ", stdout);
-    print_quoted(stdout, headword);
+    print_quoted(stdout, x->headword);
     fputs(": ", stdout);
     if (stored) {
-        print_body(stored, b);
+        print_text(text_of(stored), stored->attribute, is_shown);
         fputs(" by ", stdout);
     }
-    print_body(b, stored ? stored : &none);
+    print_text(x->text, attribute, is_shown);
     putchar('\n');
 }
 
-/* A list's entry over the stored one, or over a plain one: what the list does not tell stays. */
-static body told_over(const item *x, const body *stored)
-{
-    body b = stored ? *stored : (body){ .attribute = PDIC_PLAIN };
-    b.text = x->text;
-    if (x->attribute >= 0) b.attribute = (uint8_t)x->attribute;
-    for (int i = 0; i < PART_KINDS; i++)
-        if (x->parts[i].is != NOT_TOLD) b.parts[i] = x->parts[i];
-    return b;
-}
-
-/* Adds an entry or replaces the stored one, which keeps what is not told. What is stored already is left alone. Gives the
- * engine's number. */
+/* Adds an entry or replaces the stored one; its attribute is the one told, else the stored one's. What is stored already
+ * is left alone. Gives the engine's number. */
 static uint32_t put(task *t, const item *x, tally *n)
 {
-    entry found;
-    uint32_t number = t->is_new ? PDIC_ABSENT : book_look_up(&t->b, x->headword, &found);
+    entry stored;
+    uint32_t number = t->is_new ? PDIC_ABSENT : book_look_up(&t->b, x->headword, &stored);
     if (number != PDIC_DONE && number != PDIC_ABSENT) return number;
     int is_stored = number == PDIC_DONE;
-    body stored = is_stored ? body_of(&found) : (body){ 0 };
-    body b = told_over(x, is_stored ? &stored : NULL);
-    if (is_stored && is_same_body(&stored, &b)) {
+    int attribute = x->attribute >= 0 ? x->attribute : is_stored ? stored.attribute : PDIC_PLAIN;
+    if (is_stored && stored.attribute == attribute && compare_bytes(text_of(&stored), x->text) == 0) {
         n->same++;
         return PDIC_DONE;
     }
-    number = book_insert(&t->b, x->headword, &b);
+    number = book_insert(&t->b, x->headword, (uint8_t)attribute, x->text);
     if (number != PDIC_DONE) return number;
-    if (t->told.dry_run) print_plan(x->headword, &b, is_stored ? &stored : NULL);
+    if (t->told.dry_run) print_plan(x, attribute, is_stored ? &stored : NULL);
     if (is_stored) n->replaced++;
     else n->added++;
     return PDIC_DONE;
@@ -195,8 +175,7 @@ static int add(task *t)
 {
     tally n = { 0 };
     item x = { .headword = string_bytes(t->args[0]), .text = string_bytes(t->args[1]), .attribute = t->told.attribute };
-    memcpy(x.parts, t->told.parts, sizeof x.parts);
-    const char *unseen = unseen_in(&x);
+    const char *unseen = unseen_in(x.headword, x.text);
     if (unseen) {
         fprintf(stderr, "%s: ", t->path);
         print_exact(stderr, x.headword);
@@ -257,18 +236,6 @@ static void print_line(const entry *e)
     putchar('\n');
 }
 
-/* Prints an entry's parts, each on a line behind a tab. */
-static void print_parts(const entry *e)
-{
-    body b = body_of(e);
-    for (int i = 0; i < PART_KINDS; i++) {
-        if (b.parts[i].is != THERE) continue;
-        printf("\t%s:%s", part_kinds[i].name, b.parts[i].bytes.len > 0 ? " " : "");
-        print_plain(b.parts[i].bytes);
-        putchar('\n');
-    }
-}
-
 static int look_one(task *t, bytes headword)
 {
     entry e;
@@ -281,7 +248,6 @@ static int look_one(task *t, bytes headword)
     } else {
         print_line(&e);
     }
-    if (!t->told.text_alone) print_parts(&e);
     return STATUS_DONE;
 }
 
@@ -348,7 +314,7 @@ static int seal(task *t)
  * what they are, what it does with the file, and its options. */
 enum { READS, CHANGES, MAKES };
 enum { WORDS, A_LIST, HEADWORD_LIST };
-enum { DRY_RUN = 1, ATTRIBUTE = 2, FROM = 4, KIND = 8, PARTS = 16, TEXT_ALONE = 32 };
+enum { DRY_RUN = 1, ATTRIBUTE = 2, FROM = 4, KIND = 8 };
 typedef struct {
     const char *name, *also, *takes, *purpose;
     int least, most, arguments, use, options;
@@ -358,9 +324,9 @@ typedef struct {
 static const command commands[] = {
     { "make", NULL, "FILE LIST", "a new dictionary from a list", 1, 1, A_LIST, MAKES, KIND, merge },
     { "merge", NULL, "FILE LIST", "add a list's entries, replace those that are there", 1, 1, A_LIST, CHANGES, DRY_RUN, merge },
-    { "add", NULL, "FILE HEADWORD TEXT", "add an entry or replace it", 2, 2, WORDS, CHANGES, ATTRIBUTE | PARTS, add },
+    { "add", NULL, "FILE HEADWORD TEXT", "add an entry or replace it", 2, 2, WORDS, CHANGES, ATTRIBUTE, add },
     { "delete", NULL, "FILE HEADWORD..", "remove entries, all of them or none", 1, -1, HEADWORD_LIST, CHANGES, 0, delete },
-    { "look", "find", "FILE HEADWORD..", "print an entry, or a list of several", 1, -1, HEADWORD_LIST, READS, TEXT_ALONE, look },
+    { "look", "find", "FILE HEADWORD..", "print an entry's text, or a list of several", 1, -1, HEADWORD_LIST, READS, 0, look },
     { "list", NULL, "FILE [PREFIX]", "print the entries, or those that begin so, to read", 0, 1, WORDS, READS, FROM, print_list },
     { "dump", NULL, "FILE", "print all entries as a table for make and merge", 0, 0, WORDS, READS, 0, dump },
     { "check", NULL, "FILE", "print what it holds, its version and its identifier", 0, 0, WORDS, READS, 0, check },
@@ -375,11 +341,6 @@ static const struct {
 } option_words[] = {
     { DRY_RUN, "--dry-run", "say what would be added and replaced, and write nothing" },
     { ATTRIBUTE, "--attribute=N", "the entry's attribute, as 0xA0; else the stored one, or 0x80" },
-    { PARTS, "--example=TEXT", "the entry's example; else the stored one, or none" },
-    { PARTS, "--pronunciation=TEXT", "the entry's pronunciation; else the stored one, or none" },
-    { PARTS, "--no-example", "the entry is to have no example" },
-    { PARTS, "--no-pronunciation", "the entry is to have no pronunciation" },
-    { TEXT_ALONE, "--text", "print no example and no pronunciation" },
     { FROM, "--from=HEADWORD", "begin at this headword" },
     { KIND, "--format=N", "the file's version, 4 or 5 (4)" },
     { KIND, "--identifier=DIGITS", "for version 5, 16 hexadecimal digits; else drawn at random" },
@@ -402,14 +363,12 @@ static void print_help(const command *only)
         if (!only || only == &commands[i]) print_command(stdout, &commands[i]);
     puts("\n"
          "LIST has one entry on each line, headword and text with one tab between; or it\n"
-         "is a table: a first line of column names, %headword, attribute, text, example,\n"
-         "pronunciation, and %XX for a byte, such as %09 for a tab and %25 for a percent\n"
-         "sign. With nothing in its column an entry has no example or no pronunciation;\n"
-         "%empty is one without a byte. dump prints such a table. What is not told of an\n"
-         "entry that is replaced stays. - as LIST, or as the only HEADWORD, is standard\n"
-         "input. -- ends the options, whose values may also stand behind a blank. find is\n"
-         "another word for look. Examples, pronunciations and what list and look print of\n"
-         "several entries are to be read: control bytes are spaces.\n\n"
+         "is a table: a first line of column names, %headword, attribute, text, and %XX\n"
+         "for a byte, such as %09 for a tab and %25 for a percent sign. dump prints such\n"
+         "a table. - as LIST, or as the only HEADWORD, is standard input. -- ends the\n"
+         "options, whose values may also stand behind a blank. find is another word for\n"
+         "look. What list and look print of several entries is to be read: control\n"
+         "bytes are spaces.\n\n"
          "A sealed dictionary, with FILE.sha256 beside it, is read only while its bytes\n"
          "are those that were sealed, and is not changed. Remove FILE.sha256 to change it.\n\n"
          "Exit status: 0 done, 1 a headword is absent, 2 the file, the list or an\n"
@@ -467,21 +426,6 @@ static int read_ident(const char *digits, kind *k)
     return 0;
 }
 
-/* Is a word, with the one behind it, an option that tells a part, or that there is none? Then it is read, and its words are
- * counted. */
-static int is_part_told(char **words, part parts[PART_KINDS], int *taken)
-{
-    for (int i = 0; i < PART_KINDS; i++) {
-        char name[32];
-        snprintf(name, sizeof name, "--no-%s", part_kinds[i].name);
-        if (strcmp(words[0], name) == 0) return parts[i] = (part){ .is = NOT_THERE }, 1;
-        snprintf(name, sizeof name, "--%s", part_kinds[i].name);
-        const char *value = value_of(words, name, taken);
-        if (value) return parts[i] = (part){ THERE, string_bytes(value) }, 1;
-    }
-    return 0;
-}
-
 /* Reads an option of a command and counts the words that it takes. Gives NULL, or what is wrong with it. */
 static const char *read_option(const command *c, char **words, options *o, int *taken)
 {
@@ -489,8 +433,6 @@ static const char *read_option(const command *c, char **words, options *o, int *
     const char *value;
     *taken = 1;
     if (c->options & DRY_RUN && strcmp(words[0], "--dry-run") == 0) return o->dry_run = 1, NULL;
-    if (c->options & TEXT_ALONE && strcmp(words[0], "--text") == 0) return o->text_alone = 1, NULL;
-    if (c->options & PARTS && is_part_told(words, o->parts, taken)) return NULL;
     if (c->options & FROM && (value = value_of(words, "--from", taken))) return o->from = value, NULL;
     if (c->options & ATTRIBUTE && (value = value_of(words, "--attribute", taken)))
         return (o->attribute = read_attribute(string_bytes(value))) < 0 ? none : NULL;

@@ -3,29 +3,21 @@
 #include <string.h>
 #include "alike.h"
 
-enum { LONGEST_LIST = 1 << 30, MOST_TOLD = 20 };
+enum { LONGEST_LIST = 1 << 30, MOST_COLUMNS = 3, MOST_TOLD = 20 };
 
 /* What is wrong with a line: words, behind the bytes that are shown if there are any, and in front of another line's number;
- * or the engine's refusal of the bytes shown, or of a column beside them. */
+ * or the engine's refusal of the bytes shown. */
 typedef struct {
     size_t line, other;
-    const char *words, *column;
+    const char *words;
     uint32_t number;
     bytes shown;
     size_t found; /* how many were found before it */
 } fault;
 
-/* The columns of a list, in order; the parts come last. */
-typedef enum { HEADWORD, ATTRIBUTE, TEXT, FIRST_PART, MOST_COLUMNS = FIRST_PART + PART_KINDS } column;
-
-static const char *column_name(column c)
-{
-    static const char *const names[FIRST_PART] = { [HEADWORD] = "headword", [ATTRIBUTE] = "attribute", [TEXT] = "text" };
-    return c < FIRST_PART ? names[c] : part_kinds[c - FIRST_PART].name;
-}
-
-/* What a table has for a part without a byte. */
-static const char empty_part[] = "%empty";
+/* The columns of a list, in order. */
+typedef enum { HEADWORD, ATTRIBUTE, TEXT } column;
+static const char *const column_names[] = { [HEADWORD] = "headword", [ATTRIBUTE] = "attribute", [TEXT] = "text" };
 
 /* A list while it is read. */
 typedef struct {
@@ -64,13 +56,6 @@ static void print_words(const fault *f)
     putc('\n', stderr);
 }
 
-/* Says that the headword shown, or a column beside it, is refused. */
-static void print_number(const fault *f)
-{
-    if (f->column) fprintf(stderr, "the %s of ", f->column);
-    print_refused(stderr, f->shown, f->number);
-}
-
 /* Tells the faults in the order of the lines. Gives 0 where there is none, else -1. */
 static int tell_faults(reading *r)
 {
@@ -79,7 +64,7 @@ static int tell_faults(reading *r)
     for (size_t i = 0; i < r->fault_count && i < MOST_TOLD; i++) {
         const fault *f = &r->faults[i];
         fprintf(stderr, "%s:%zu: ", r->l->path, f->line);
-        if (f->number) print_number(f);
+        if (f->number) print_refused(stderr, f->shown, f->number);
         else print_words(f);
     }
     if (r->fault_count > MOST_TOLD) fprintf(stderr, "%s: and %zu more faults\n", r->l->path, r->fault_count - MOST_TOLD);
@@ -97,22 +82,12 @@ static int has_control(bytes b)
 static const char blank_words[] = "begins or ends with a blank or a sign that nobody sees; a table can have it as %XX";
 static const char control_words[] = "has a control byte, in it or in its text; a table can have it as %XX";
 static const char empty_words[] = "has no text; a table can have that";
-static const char part_control_words[] = "has a control byte in its example or pronunciation; a table can have it as %XX";
-static const char part_empty_words[] = "has an example or a pronunciation without a byte; a table can have that as %empty";
 
-static const char *unseen_in_part(part p)
+const char *unseen_in(bytes headword, bytes text)
 {
-    if (p.is != THERE) return NULL;
-    return p.bytes.len == 0 ? part_empty_words : has_control(p.bytes) ? part_control_words : NULL;
-}
-
-const char *unseen_in(const item *x)
-{
-    if (has_control(x->headword) || has_control(x->text)) return control_words;
-    if (has_unseen_end(x->headword)) return blank_words;
-    const char *unseen = x->text.len == 0 ? empty_words : NULL;
-    for (int i = 0; !unseen && i < PART_KINDS; i++) unseen = unseen_in_part(x->parts[i]);
-    return unseen;
+    if (has_control(headword) || has_control(text)) return control_words;
+    if (has_unseen_end(headword)) return blank_words;
+    return text.len == 0 ? empty_words : NULL;
 }
 
 /* Cuts the next column off a line. */
@@ -137,8 +112,8 @@ static size_t split(bytes line, bytes columns[MOST_COLUMNS])
 /* The column with a name, or -1. */
 static int column_called(bytes name)
 {
-    for (int c = HEADWORD; c < MOST_COLUMNS; c++)
-        if (compare_bytes(name, string_bytes(column_name((column)c))) == 0) return c;
+    for (int c = HEADWORD; c <= TEXT; c++)
+        if (compare_bytes(name, string_bytes(column_names[c])) == 0) return c;
     return -1;
 }
 
@@ -155,7 +130,7 @@ static int read_columns(reading *r, bytes line, size_t number)
         if (is_good) seen |= 1u << (r->columns[i] = (column)c);
     }
     if (is_good && (r->what == HEADWORDS || seen & 1u << TEXT)) return 0;
-    add_fault(r, (fault){ .line = number, .words = "a table's columns are %headword, attribute, text, example and pronunciation" });
+    add_fault(r, (fault){ .line = number, .words = "a table's columns are %headword, attribute and text" });
     return -1;
 }
 
@@ -199,42 +174,19 @@ static void read_headword(reading *r, item *x, bytes written)
         add_fault(r, (fault){ .line = x->line, .shown = x->headword, .number = PDIC_BAD_HEADWORD });
 }
 
-/* A text or a part is refused that is over its length or has a zero byte. */
-static void test_column(reading *r, const item *x, column c, bytes b, size_t most)
-{
-    if (b.len > most || (b.len && memchr(b.at, 0, b.len)))
-        add_fault(r, (fault){ .line = x->line, .shown = x->headword, .column = column_name(c), .number = PDIC_BAD_TEXT });
-}
-
 static void read_text(reading *r, item *x, bytes written)
 {
     if (written.len == 0 && !r->is_table) add_fault(r, (fault){ .line = x->line, .shown = x->headword, .words = empty_words });
     x->text = column_bytes(r, written, x->line);
-    test_column(r, x, TEXT, x->text, PDIC_MAX_TEXT);
-}
-
-static void read_part(reading *r, item *x, column c, bytes written)
-{
-    int kind = c - FIRST_PART, is_empty = compare_bytes(written, string_bytes(empty_part)) == 0;
-    part *p = &x->parts[kind];
-    p->is = written.len > 0 ? THERE : NOT_THERE;
-    p->bytes = is_empty ? (bytes){ written.at, 0 } : column_bytes(r, written, x->line);
-    test_column(r, x, c, p->bytes, part_kinds[kind].most);
+    if (x->text.len > PDIC_MAX_TEXT || (x->text.len && memchr(x->text.at, 0, x->text.len)))
+        add_fault(r, (fault){ .line = x->line, .shown = x->headword, .number = PDIC_BAD_TEXT });
 }
 
 static void read_number(reading *r, item *x, bytes written)
 {
     x->attribute = read_attribute(written);
     if (x->attribute < 0)
-        add_fault(r, (fault){ .line = x->line, .shown = written, .words = "is no attribute: 0x80 set, 0x10 clear (parts set it)" });
-}
-
-static void read_column(reading *r, item *x, column c, bytes written)
-{
-    if (c == HEADWORD) read_headword(r, x, written);
-    else if (c == ATTRIBUTE) read_number(r, x, written);
-    else if (c == TEXT) read_text(r, x, written);
-    else read_part(r, x, c, written);
+        add_fault(r, (fault){ .line = x->line, .shown = written, .words = "is no attribute: 0x80 set, 0x10 clear" });
 }
 
 /* Reads one line that is not empty. */
@@ -250,11 +202,14 @@ static void read_line(reading *r, bytes line, size_t number)
     }
     for (size_t i = 0; i < r->column_count; i++) {
         if (!has_control(columns[i])) continue;
-        add_fault(r, (fault){ .line = number, .shown = columns[0],
-                              .words = r->columns[i] < FIRST_PART ? control_words : part_control_words });
+        add_fault(r, (fault){ .line = number, .shown = columns[0], .words = control_words });
         return;
     }
-    for (size_t i = 0; i < r->column_count; i++) read_column(r, &x, r->columns[i], columns[i]);
+    for (size_t i = 0; i < r->column_count; i++) {
+        if (r->columns[i] == HEADWORD) read_headword(r, &x, columns[i]);
+        else if (r->columns[i] == TEXT) read_text(r, &x, columns[i]);
+        else read_number(r, &x, columns[i]);
+    }
     if (l->count == r->items_size)
         l->items = take_memory(l->items, (r->items_size = 2 * r->items_size + 256) * sizeof *l->items);
     l->items[l->count++] = x;
@@ -338,8 +293,7 @@ void free_list(list *l)
 
 void print_columns(FILE *out)
 {
-    for (column c = HEADWORD; c < MOST_COLUMNS; c++) fprintf(out, "%c%s", c == HEADWORD ? '%' : '\t', column_name(c));
-    putc('\n', out);
+    fprintf(out, "%%%s\t%s\t%s\n", column_names[HEADWORD], column_names[ATTRIBUTE], column_names[TEXT]);
 }
 
 /* Prints bytes with control bytes and percent signs as %XX, and so many first and last ones. */
@@ -354,15 +308,8 @@ static void print_column(FILE *out, bytes b, size_t first, size_t last)
 void print_row(FILE *out, const entry *e)
 {
     bytes headword = headword_of(e);
-    body b = body_of(e);
     print_column(out, headword, unseen_bytes(headword, 0), unseen_bytes(headword, 1));
-    fprintf(out, "\t0x%02X\t", (unsigned)b.attribute);
-    print_column(out, b.text, 0, 0);
-    for (int i = 0; i < PART_KINDS; i++) {
-        putc('\t', out);
-        if (b.parts[i].is != THERE) continue;
-        if (b.parts[i].bytes.len == 0) fputs(empty_part, out);
-        print_column(out, b.parts[i].bytes, 0, 0);
-    }
+    fprintf(out, "\t0x%02X\t", (unsigned)e->attribute);
+    print_column(out, text_of(e), 0, 0);
     putc('\n', out);
 }

@@ -1,11 +1,10 @@
 /* lists.h - lists of entries as they come in files.
  *
  * A plain list has one entry on each line, headword and text with one tab between. A table begins with a line that names
- * its columns, "%headword", "attribute", "text", "example", "pronunciation", with tabs between; in it %XX, a percent sign and
- * two hexadecimal digits, stands for a byte, so that it can hold every entry. An entry has no part for which its line has
- * nothing; %empty, which is no such escape, is a part without a byte. Lines end in LF or CR LF, empty ones are passed over,
- * and so is a UTF-8 mark at the front. Nothing is stored that nobody sees: a headword with a blank at one of its ends, a
- * control byte or an entry without a text is a fault, unless a table has it. So is a headword that stands there twice. */
+ * its columns, "%headword", "attribute", "text", with tabs between; in it %XX, a percent sign and two hexadecimal digits,
+ * stands for a byte, so that it can hold every entry. Lines end in LF or CR LF, empty ones are passed over, and so is a
+ * UTF-8 mark at the front. Nothing is stored that nobody sees: a headword with a blank at one of its ends, a control byte or
+ * an entry without a text is a fault, unless a table has it. So is a headword that stands there twice. */
 #ifndef LISTS_H
 #define LISTS_H
 
@@ -14,8 +13,7 @@
 /* An entry of a list. */
 typedef struct {
     bytes headword, text;
-    int attribute;          /* -1 where the list names none */
-    part parts[PART_KINDS]; /* not told where the list has no such column */
+    int attribute; /* -1 where the list names none */
     size_t line;
 } item;
 
@@ -37,10 +35,10 @@ int read_list(list *l, const char *path, wanted what);
 void free_list(list *l);
 
 /* What of an entry that stands plainly would be stored though nobody sees it, in words, or NULL: a control byte, a blank or
- * the like at one of the headword's ends, no text, a part without a byte. */
-const char *unseen_in(const item *x);
+ * the like at one of the headword's ends, no text. */
+const char *unseen_in(bytes headword, bytes text);
 
-/* An attribute as a number, 0x and hexadecimal digits or decimal; -1 where it is none that an entry without parts may have. */
+/* An attribute as a number, 0x and hexadecimal digits or decimal; -1 where it is none that an entry may have. */
 int read_attribute(bytes written);
 
 /* Writes the first line of a table, and an entry as a line of it. */

@@ -30,10 +30,9 @@ static void keep_text(term_list *terms, term *t, const entry *found)
     if (terms->texts_size - terms->texts_len < PDIC_MAX_TEXT)
         terms->texts = take_memory(terms->texts, terms->texts_size = 2 * terms->texts_size + PDIC_MAX_TEXT);
     t->text_at = terms->texts_len;
-    bytes text = text_of(found);
-    t->text_len = text.len;
-    append(terms->texts + terms->texts_len, text);
-    terms->texts_len += text.len;
+    t->text_len = found->text_len;
+    append(terms->texts + terms->texts_len, text_of(found));
+    terms->texts_len += found->text_len;
 }
 
 static void look_up_term(const book *b, const mark *first, term_list *terms)

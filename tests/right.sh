@@ -4,7 +4,7 @@
 set -eu
 lib=${PDIC_LIB:-$(dirname "$0")/../target/staticlib}
 renamed=
-for call in check look_up walk part_step create insert delete optimise; do
+for call in check look_up walk create insert delete optimise; do
     renamed="$renamed --redefine-sym pdic_$call=right_pdic_$call"
 done
 objcopy $renamed "$lib/libpdic.a" "$1"

@@ -6,7 +6,7 @@
     entry = glossary.look_up(b'bleed screw')
     print(entry.text.decode('cp932') if entry else 'absent')
 
-Headwords, texts, examples and pronunciations are bytes. The format means Shift JIS (Python's cp932) with CR LF between lines; the library tests neither.
+Headwords and texts are bytes. The format means Shift JIS (Python's cp932) with CR LF between lines; the library tests neither.
 
 A Dictionary is an image in memory. Nothing here writes a file: the program `glossary` does, under a lock, as a new file that is renamed
 over the old one.
@@ -24,7 +24,7 @@ import secrets
 from typing import Iterator, NamedTuple, Optional
 
 # the interface of the library: later ones have other calls, so that libpdic.so is not good enough
-SONAME = 'libpdic.so.0.3'
+SONAME = 'libpdic.so.0.2'
 
 # what a call returns
 DONE = 0
@@ -37,7 +37,6 @@ BAD_AREAS = 5
 BAD_INDEX = 6
 BAD_PLACE = 7
 BAD_RUN = 8
-BAD_PARTS = 16
 BAD_BLOCKS = 9
 BAD_COUNTS = 10
 READ_ONLY = 11
@@ -55,9 +54,6 @@ AT_IDENT = 216
 # limits, in bytes
 MAX_HEADWORD = 248
 MAX_TEXT = 3000
-MAX_EXAMPLE = 20000
-MAX_PRONUNCIATION = 1000
-MAX_PARTS = 21005
 MAX_IMAGE = 25165824
 
 # the bits of an attribute
@@ -66,11 +62,6 @@ PARTS = 0x10
 LEARN = 0x20
 CHANGED = 0x40
 PLAIN = 0x80
-
-# the kinds of a part, and the end of a part list
-EXAMPLE = 0x01
-PRONUNCIATION = 0x02
-PARTS_END = 0x80
 
 
 class PdicError(Exception):
@@ -90,12 +81,9 @@ class SealError(Exception):
 
 
 class Entry(NamedTuple):
-    """An entry; a part that is None is not there, and one may be empty. PARTS is set in the attribute where a part is there."""
     headword: bytes
     attribute: int
     text: bytes
-    example: Optional[bytes] = None
-    pronunciation: Optional[bytes] = None
 
 
 class Counts(NamedTuple):
@@ -111,14 +99,13 @@ def _load() -> ctypes.CDLL:
     size, byte, slice_of = ctypes.c_size_t, ctypes.c_uint8, [ctypes.c_void_p, ctypes.c_size_t]
     given, length = [ctypes.c_char_p, size], ctypes.POINTER(size)
     attribute, count = ctypes.POINTER(byte), ctypes.POINTER(ctypes.c_uint64)
-    image, part = slice_of + [size], [byte] + given
+    image = slice_of + [size]
     calls = {
         'check': image + 4 * [count],
-        'look_up': image + given + slice_of + slice_of + [attribute, length, length],
-        'walk': image + given + [byte] + slice_of + slice_of + slice_of + [attribute, length, length, length],
-        'part_step': given + [size, attribute, length, length, length],
+        'look_up': image + given + slice_of + [attribute, length],
+        'walk': image + given + [byte] + slice_of + slice_of + [attribute, length, length],
         'create': slice_of + [byte, ctypes.c_uint64, length],
-        'insert': image + slice_of + given + [byte] + given + part + part + [length],
+        'insert': image + slice_of + given + [byte] + given + [length],
         'delete': image + slice_of + given + [length],
         'optimise': image + slice_of + [length],
     }
@@ -135,13 +122,8 @@ _library = _load()
 def _given(data: bytes) -> tuple[bytes, int]:
     """A headword or text as the calls take it."""
     if not isinstance(data, bytes):
-        raise TypeError(f'headwords, texts and parts are bytes, not {type(data).__name__}')
+        raise TypeError(f'headwords and texts are bytes, not {type(data).__name__}')
     return data, len(data)
-
-
-def _given_part(data: Optional[bytes]) -> tuple[bool, bytes, int]:
-    """A part as insert takes it."""
-    return data is not None, *_given(b'' if data is None else data)
 
 
 def _done(number: int) -> bool:
@@ -149,34 +131,6 @@ def _done(number: int) -> bool:
     if number not in (DONE, ABSENT):
         raise PdicError(number)
     return number == DONE
-
-
-def part_step(parts: bytes, offset: int = 0) -> Optional[tuple[int, bytes, int]]:
-    """Steps through a part list, one part per call: the kind of the part at the offset, its bytes and the next offset; None at the
-    list's end. Bytes that are no part list, or an offset where none of its parts begins, raise PdicError 16."""
-    kind, place, length, after = ctypes.c_uint8(), ctypes.c_size_t(), ctypes.c_size_t(), ctypes.c_size_t()
-    if not 0 <= offset < 1 << 64:
-        raise ValueError('an offset is eight bytes')
-    if not _done(_library.pdic_part_step(*_given(parts), offset, kind, place, length, after)):
-        return None
-    return kind.value, parts[place.value:place.value + length.value], after.value
-
-
-class _Answer:
-    """What a reading call is lent for an entry, and the entry that it wrote there."""
-
-    def __init__(self):
-        text, parts = ctypes.create_string_buffer(MAX_TEXT), ctypes.create_string_buffer(MAX_PARTS)
-        self.slices = text, MAX_TEXT, parts, MAX_PARTS
-        self.attribute, self.lengths = ctypes.c_uint8(), (ctypes.c_size_t(), ctypes.c_size_t())
-
-    def entry(self, headword: bytes) -> Entry:
-        text, parts = (self.slices[2 * i].raw[:length.value] for i, length in enumerate(self.lengths))
-        found, offset = {}, 0
-        while parts and (step := part_step(parts, offset)):
-            kind, part, offset = step
-            found[kind] = part
-        return Entry(headword, self.attribute.value, text, found.get(EXAMPLE), found.get(PRONUNCIATION))
 
 
 class Dictionary:
@@ -259,20 +213,21 @@ class Dictionary:
 
     def look_up(self, headword: bytes) -> Optional[Entry]:
         """The entry with this headword, or None."""
-        answer = _Answer()
-        found = _done(_library.pdic_look_up(*self._slice(), *_given(headword), *answer.slices, answer.attribute, *answer.lengths))
-        return answer.entry(headword) if found else None
+        text, attribute, length = ctypes.create_string_buffer(MAX_TEXT), ctypes.c_uint8(), ctypes.c_size_t()
+        found = _done(_library.pdic_look_up(*self._slice(), *_given(headword), text, MAX_TEXT, attribute, length))
+        return Entry(headword, attribute.value, text.raw[:length.value]) if found else None
 
     def walk(self, start: bytes = b'', above: bool = False) -> Iterator[Entry]:
         """The entries in headword order (unsigned bytes): those not below `start`, or those above it.
 
         Each step is a call that tests the whole image and finds the next headword in the dictionary as it then is.
         """
-        headword, length, answer = ctypes.create_string_buffer(MAX_HEADWORD), ctypes.c_size_t(), _Answer()
-        while _done(_library.pdic_walk(*self._slice(), *_given(start), above, headword, MAX_HEADWORD, *answer.slices,
-                                       answer.attribute, length, *answer.lengths)):
-            start, above = headword.raw[:length.value], True
-            yield answer.entry(start)
+        headword, text = ctypes.create_string_buffer(MAX_HEADWORD), ctypes.create_string_buffer(MAX_TEXT)
+        attribute, headword_len, text_len = ctypes.c_uint8(), ctypes.c_size_t(), ctypes.c_size_t()
+        while _done(_library.pdic_walk(*self._slice(), *_given(start), above, headword, MAX_HEADWORD, text, MAX_TEXT, attribute,
+                                       headword_len, text_len)):
+            start, above = headword.raw[:headword_len.value], True
+            yield Entry(start, attribute.value, text.raw[:text_len.value])
 
     def _call(self, call, *arguments) -> int:
         """Makes a changing call in the memory that there is; gives its number."""
@@ -291,16 +246,11 @@ class Dictionary:
             self._lend(min(2 * len(self._image), self._most), bytes(self))
         return _done(number)
 
-    def insert(self, headword: bytes, text: bytes, attribute: int = PLAIN, example: Optional[bytes] = None,
-               pronunciation: Optional[bytes] = None) -> None:
-        """Adds an entry, or replaces the one with this headword, its parts too. PARTS is set in the attribute where a part is given; with
-        PARTS and no part it is refused."""
+    def insert(self, headword: bytes, text: bytes, attribute: int = PLAIN) -> None:
+        """Adds an entry, or replaces the one with this headword."""
         if not 0 <= attribute <= 255:
             raise ValueError('an attribute is one byte')
-        if example is not None or pronunciation is not None:
-            attribute |= PARTS
-        self._change(_library.pdic_insert, *_given(headword), attribute, *_given(text), *_given_part(example),
-                     *_given_part(pronunciation))
+        self._change(_library.pdic_insert, *_given(headword), attribute, *_given(text))
 
     def delete(self, headword: bytes) -> bool:
         """Removes the entry with this headword; False where there is none."""

@@ -88,8 +88,6 @@ class Examples(Case):
             self.assertRaises(ValueError, d.insert, b'a', b'', attribute)
         self.assertRaises(TypeError, d.look_up, 'a')
         self.assertRaises(TypeError, d.insert, b'a', 'text')
-        self.assertRaises(TypeError, d.insert, b'a', b'', example='text')
-        self.assertRaises(TypeError, d.insert, b'a', b'', pronunciation='text')
 
     def test_absent(self):
         self.assertIsNone(self.dictionary.look_up(b'a'))
@@ -101,57 +99,6 @@ class Examples(Case):
         self.dictionary.insert(b'a', b'one')
         self.dictionary.insert(b'a', b'', pdic.PLAIN | pdic.LEARN | 3)
         self.assertEqual(list(self.dictionary), [pdic.Entry(b'a', 0xA3, b'')])
-
-
-class Parts(Case):
-    """Examples and pronunciations."""
-    LIST = b'\x01an example\0\x02\0\x80'
-
-    def setUp(self):
-        self.dictionary = pdic.Dictionary(**self.KIND)
-
-    def test_stored(self):
-        self.dictionary.insert(b'ABC', b'one', example=b'an example', pronunciation=b'')
-        self.assertEqual(bytes(self.dictionary)[514:539], b'\x18\0\0ABC\0\x90one\0' + self.LIST[:13])
-        self.assertEqual(self.dictionary.look_up(b'ABC'), pdic.Entry(b'ABC', 0x90, b'one', b'an example', b''))
-
-    def test_each(self):
-        for example in None, b'', b'e', letters(pdic.MAX_EXAMPLE):
-            for pronunciation in None, b'', b'p', letters(pdic.MAX_PRONUNCIATION):
-                self.dictionary.insert(b'b', b'before')
-                self.dictionary.insert(b'c', b'text', 0xA3, example, pronunciation)
-                self.dictionary.insert(b'd', b'behind', example=b'of d')
-                attribute = 0xA3 if example is None and pronunciation is None else 0xB3
-                entries = [pdic.Entry(b'b', pdic.PLAIN, b'before'), pdic.Entry(b'c', attribute, b'text', example, pronunciation),
-                           pdic.Entry(b'd', pdic.PLAIN | pdic.PARTS, b'behind', b'of d')]
-                self.assertEqual(list(self.dictionary), entries)
-                self.assertEqual(self.dictionary.look_up(b'c'), entries[1])
-                self.dictionary.optimise()
-                self.assertEqual(list(self.dictionary), entries)
-
-    def test_refused(self):
-        d = self.dictionary
-        for parts in (letters(pdic.MAX_EXAMPLE + 1), None), (b'\0', None), (None, letters(pdic.MAX_PRONUNCIATION + 1)), (b'', b'a\0'):
-            self.refused(pdic.BAD_TEXT, d, d.insert, b'a', b'', pdic.PLAIN, *parts)
-
-    def test_steps(self):
-        self.assertEqual(pdic.part_step(self.LIST), (pdic.EXAMPLE, b'an example', 12))
-        self.assertEqual(pdic.part_step(self.LIST, 12), (pdic.PRONUNCIATION, b'', 14))
-        self.assertIsNone(pdic.part_step(self.LIST, 14))
-        backwards = b'\x02p\0\x01\0\x80'
-        self.assertEqual(pdic.part_step(backwards), (pdic.PRONUNCIATION, b'p', 3))
-        wrong = [(self.LIST, offset) for offset in (1, 11, 13, 15, (1 << 64) - 1)]
-        wrong += [(parts, 0) for parts in (b'', b'\x80', b'\x01\0', b'\x03\0\x80', b'\x01\0\x01\0\x80', self.LIST + b'\0')]
-        for parts, offset in wrong:
-            with self.assertRaises(pdic.PdicError) as refused:
-                pdic.part_step(parts, offset)
-            self.assertEqual(refused.exception.number, pdic.BAD_PARTS)
-        self.assertRaises(ValueError, pdic.part_step, self.LIST, -1)
-        self.assertRaises(TypeError, pdic.part_step, 'x')
-
-
-class Parts5(Parts):
-    KIND = {'version': pdic.FORMAT_5, 'ident': IDENT}
 
 
 class Examples5(Examples):
@@ -252,20 +199,16 @@ class Images(Case):
         dictionary = pdic.Dictionary(**self.KIND)
         dictionary.insert(b'ABC', b'one')
         self.image = bytes(dictionary)
-        dictionary.insert(b'ABC', b'one', example=b'e')
-        self.listed = bytes(dictionary)
 
-    def changed(self, at, byte, image=None):
-        image = image or self.image
-        return image[:at] + bytes([byte]) + image[at + 1:]
+    def changed(self, at, byte):
+        return self.image[:at] + bytes([byte]) + self.image[at + 1:]
 
     def test_damaged(self):
         for image, number in ((b'', pdic.BAD_LENGTH), (self.image[:700], pdic.BAD_LENGTH), (self.changed(141, 6), pdic.BAD_VERSION),
                               (self.changed(164, 1), pdic.LEFT_OUT), (self.changed(148, 9), pdic.BAD_AREAS),
                               (self.changed(258, 0), pdic.BAD_INDEX), (self.changed(256, 1), pdic.BAD_PLACE),
                               (self.changed(521, 0), pdic.BAD_RUN), (self.changed(self.EMPTY_BLOCK2, 0), pdic.BAD_BLOCKS),
-                              (self.changed(160, 2), pdic.BAD_COUNTS), (self.changed(526, 3, self.listed), pdic.BAD_PARTS),
-                              (self.changed(521, 0x10, self.listed), pdic.BAD_RUN)):
+                              (self.changed(160, 2), pdic.BAD_COUNTS)):
             with self.subTest(number=number):
                 self.refused(number, image, pdic.Dictionary.from_bytes, image)
 
@@ -307,7 +250,7 @@ class Header(unittest.TestCase):
             declared = []
             for parameter in re.split(r',\s*', parameters):
                 kind, parameter = re.fullmatch(r'(.*?[ *])(\w+)', parameter).groups()
-                special = {'image': 'c_void_p', 'kind': 'LP_c_ubyte', 'attribute': 'LP_c_ubyte' if '*' in kind else 'c_ubyte'}
+                special = {'image': 'c_void_p', 'attribute': 'LP_c_ubyte' if '*' in kind else 'c_ubyte'}
                 declared.append(special.get(parameter, kinds[kind]))
             self.assertEqual([each.__name__ for each in getattr(pdic._library, name).argtypes], declared, name)
 

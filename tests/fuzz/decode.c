@@ -1,13 +1,13 @@
 /* What an input means: the slice and its length, and the calls with their arguments.
  *
  * A call's record, by byte: kind; where the headword is from; a number of two bytes for that; headword length; text
- * length; what the text is made of; attribute; sizes of the outputs, above, another L, another working slice; which parts are
- * there; their lengths. Create has its version, identifier and slice from the same bytes, a step its list and offset. */
+ * length; what the text is made of; attribute; sizes of the outputs, above, another L, another working slice. Create has
+ * its version, identifier and slice from the same bytes. */
 #include <string.h>
 
 #include "fuzz.h"
 
-enum { KIND, WORD_FROM, AT_LOW, AT_HIGH, WORD_SIZE, TEXT_SIZE, TEXT_OF, ATTRIBUTE, OUTPUTS, WITH, PART_SIZE };
+enum { KIND, WORD_FROM, AT_LOW, AT_HIGH, WORD_SIZE, TEXT_SIZE, TEXT_OF, ATTRIBUTE, OUTPUTS };
 
 static uint8_t byte_at(const uint8_t *data, size_t size, size_t at) { return at < size ? data[at] : 0; }
 
@@ -51,7 +51,7 @@ size_t decode_state(state *s, const uint8_t *data, size_t size) {
 }
 
 static int kind_of(uint8_t b, uint8_t more) {
-    static const uint8_t kinds[16] = {CHECK,  LOOK_UP, LOOK_UP, PART_STEP, WALK, WALK,   WALK,     INSERT,
+    static const uint8_t kinds[16] = {CHECK,  LOOK_UP, LOOK_UP, LOOK_UP, WALK,   WALK,   WALK,     INSERT,
                                       INSERT, INSERT,  INSERT,  DELETE,  DELETE, DELETE, OPTIMISE, CREATE};
     return kinds[b % 16] == CREATE && more % 4 ? DELETE : kinds[b % 16];
 }
@@ -126,73 +126,6 @@ static void decode_text(call *c, const uint8_t *r) {
     c->attribute = r[ATTRIBUTE] < 0xE0 ? (uint8_t)(0x80 | (r[ATTRIBUTE] & 0x6F)) : (uint8_t)(r[ATTRIBUTE] << 3);
 }
 
-/* Lengths from 0 to 99, a range up to 1,030, and some at limits. */
-static size_t part_size(uint8_t b) {
-    static const uint16_t limits[16] = {1000, 1001, 1000, 1001, 20000, 20001, 20000, 20001, 999, 19999, 0, 0, 0, 1, 1, 2};
-    if (b < 200) return b / 2;
-    if (b < 238) return (b - 199) * (size_t)27;
-    if (b < 240) return 65536 + 1000 * (b - 238u);
-    return limits[b - 240];
-}
-
-/* The parts: either, both or none there; with 0x10 in the attribute as they say, mostly; where none is there, anything. */
-static void decode_parts(call *c, const uint8_t *r) {
-    static const uint8_t marks[8][PARTS] = {{0, 0}, {0, 0}, {1, 0}, {0xFF, 0}, {0, 1}, {0, 0x80}, {1, 1}, {2, 0x10}};
-    const uint8_t *mark = marks[r[WITH] % 8];
-    for (int i = 0; i < PARTS; i++) {
-        given *p = &c->part[i];
-        p->there = mark[i];
-        p->size = c->kind == INSERT ? part_size(r[PART_SIZE + i]) : 0;
-        memset(p->bytes, i ? 'p' : r[WITH] >> 5 ? 'e' : PDIC_PARTS_END, p->size);
-        if ((r[WITH] >> 3 & 15) == 7 + (uint8_t)i && p->size > 0) p->bytes[r[AT_LOW] % p->size] = 0;
-    }
-    if (r[ATTRIBUTE] < 0xE0 && (mark[0] || mark[1])) c->attribute |= PDIC_PARTS;
-}
-
-/* An entry with parts, the first from a place on; NULL if there is none. */
-static const entry *some_listed(const state *s, size_t at) {
-    size_t count = s->entries->known ? s->entries->count : 0;
-    for (size_t i = 0; i < count; i++) {
-        const entry *e = &s->entries->entries[(at + i) % count];
-        if (e->parts_size > 0) return e;
-    }
-    return NULL;
-}
-
-/* A list to step through: that of an entry, bytes of the image, or few by chance; it may be changed in a byte or in its length. */
-static void decode_list(call *c, const state *s, const uint8_t *r) {
-    static const uint8_t bytes[8] = {0, 0, 1, 2, 0x80, 'a', 1, 3};
-    size_t at = r[AT_LOW] | (size_t)r[AT_HIGH] << 8;
-    const entry *e = r[WORD_FROM] < 0x80 ? some_listed(s, at) : NULL;
-    if (e != NULL) {
-        c->text_size = e->parts_size;
-        memcpy(c->text, e->parts, e->parts_size);
-    } else if (r[WORD_FROM] < 0xA0 && s->size > 0) {
-        c->text_size = less(r[TEXT_SIZE], s->size - at % s->size);
-        memcpy(c->text, s->slice + at % s->size, c->text_size);
-    } else {
-        c->text_size = r[TEXT_SIZE] % 10;
-        for (size_t i = 0; i < c->text_size; i++) c->text[i] = bytes[at >> 2 * i & 7];
-    }
-    if (r[TEXT_OF] < 0x20 && c->text_size > 0) c->text[r[WORD_SIZE] % c->text_size] = bytes[r[TEXT_OF] % 8];
-    if (r[TEXT_OF] >= 0xF0) c->text[c->text_size++] = bytes[r[TEXT_OF] % 8];
-    if (r[TEXT_OF] >> 4 == 0xE && c->text_size > 0) c->text_size--;
-}
-
-/* Where to step: at a part, at the end, next to these, or anywhere. */
-static void decode_offset(call *c, const uint8_t *r) {
-    part parts[PARTS];
-    size_t count = parts_of(c->text, c->text_size, parts), at = r[OUTPUTS] >> 3;
-    c->offset = count == 0 ? at % 4 : at % (count + 1) == 0 ? 0 : parts[at % (count + 1) - 1].next;
-    switch (r[OUTPUTS] & 7) {
-    case 0: c->offset += 1; break;
-    case 1: c->offset -= 1; break;
-    case 2: c->offset = c->text_size; break;
-    case 3: c->offset += (size_t)1 << 32; break;
-    default: break;
-    }
-}
-
 /* Outputs: long enough for every answer, just as long as this one, a byte too short, empty. */
 static size_t output_size(unsigned way, size_t most, size_t needed) {
     switch (way) {
@@ -205,12 +138,11 @@ static size_t output_size(unsigned way, size_t most, size_t needed) {
     }
 }
 
-static void decode_outputs(call *c, const state *s, uint8_t b, uint8_t with) {
+static void decode_outputs(call *c, const state *s, uint8_t b) {
     c->above = b & 0x20 ? b : 0;
     const entry *e = c->kind == LOOK_UP || c->kind == WALK ? answer(s, c) : NULL;
     c->text_out_size = output_size(b & 7, PDIC_MAX_TEXT, e ? e->text_size : PDIC_MAX_TEXT);
     c->word_out_size = output_size(b >> 3 & 3, PDIC_MAX_HEADWORD, e ? e->word_size : PDIC_MAX_HEADWORD);
-    c->parts_out_size = e ? output_size(with & 0x40 ? 1 : with & 7, PDIC_MAX_PARTS, e->parts_size) : with;
 }
 
 static size_t working_size(uint8_t setting, size_t slice) {
@@ -244,11 +176,6 @@ void decode_call(call *c, const state *s, const uint8_t *data, size_t size, size
     c->work_size = working_size((uint8_t)(byte_at(data, size, WORKING) + (r[KIND] >> 4)), s->size);
     decode_word(c, s, r);
     decode_text(c, r);
-    decode_parts(c, r);
-    decode_outputs(c, s, r[OUTPUTS], r[WITH]);
-    if (c->kind == PART_STEP) {
-        decode_list(c, s, r);
-        decode_offset(c, r);
-    }
+    decode_outputs(c, s, r[OUTPUTS]);
     if (c->kind == CREATE) decode_create(c, r);
 }

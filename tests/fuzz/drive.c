@@ -120,10 +120,6 @@ static int missing(int version) {
     some |= none(t->run_split, version, "a run more") | none(t->run_gone, version, "a run less");
     some |= none(t->full_packed, version, "an image that was optimised and filled its slice");
     some |= none(t->whole_fronts, version, "a written front shorter than the common one");
-    some |= none(t->parts_written, version, "an entry written with parts");
-    some |= none(t->parts_replaced, version, "parts that replace parts");
-    some |= none(t->turned_kept, version, "a list with the pronunciation first kept by a change");
-    some |= none(t->short_parts, version, "14 by the parts slice alone");
     return some | none(accepted_changed[version] >= LEAST_ACCEPTED, version, "enough changed images that were accepted");
 }
 
@@ -135,11 +131,8 @@ static void report_version(int version) {
     printf("; done");
     for (int kind = 0; kind < KINDS; kind++) printf(" %s %" PRIu64 ",", call_names[kind], t->returned[kind][0]);
     printf(" index grown %" PRIu64 " (%" PRIu64 " with runs), more runs %" PRIu64 ", fewer runs %" PRIu64
-           ", optimised in a full slice %" PRIu64 ", fronts shorter than the common one %" PRIu64,
+           ", optimised in a full slice %" PRIu64 ", fronts shorter than the common one %" PRIu64 "\n",
            t->index_grown, t->run_moved, t->run_split, t->run_gone, t->full_packed, t->whole_fronts);
-    printf(", parts written %" PRIu64 " (%" PRIu64 " over parts), lists with the pronunciation first kept %" PRIu64
-           ", 14 by the parts slice alone %" PRIu64 "\n",
-           t->parts_written, t->parts_replaced, t->turned_kept, t->short_parts);
 }
 
 static void report(void) {

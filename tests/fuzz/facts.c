@@ -31,37 +31,14 @@ static int bad_word(const call *c) {
            memchr(c->word, 0, c->word_size) != NULL;
 }
 
-static int is_text(const uint8_t *bytes, size_t size, size_t most) { return size <= most && memchr(bytes, 0, size) == NULL; }
-
-/* A part that is there and breaks its rule; one that is not there is not looked at. */
-static int bad_part(const given *p, size_t most) { return p->there && !is_text(p->bytes, p->size, most); }
-
 static int bad_text(const call *c) {
-    const given *example = &c->part[AN_EXAMPLE], *pronunciation = &c->part[A_PRONUNCIATION];
-    uint8_t wanted = example->there || pronunciation->there ? PDIC_PLAIN | PDIC_PARTS : PDIC_PLAIN;
-    return c->kind == INSERT &&
-           (!is_text(c->text, c->text_size, PDIC_MAX_TEXT) || bad_part(example, PDIC_MAX_EXAMPLE) ||
-            bad_part(pronunciation, PDIC_MAX_PRONUNCIATION) || (c->attribute & (PDIC_PLAIN | PDIC_PARTS)) != wanted);
-}
-
-/* The part at a step's offset: 0, the end (100), or 16. */
-static uint32_t step_at(const call *c, part *found) {
-    part parts[PARTS];
-    size_t count = parts_of(c->text, c->text_size, parts), at = 0;
-    if (count == 0) return 16;
-    for (size_t i = 0; i < count; at = parts[i++].next)
-        if (at == c->offset) {
-            *found = parts[i];
-            return 0;
-        }
-    return at == c->offset ? PDIC_ABSENT : 16;
+    return c->kind == INSERT && (c->text_size > PDIC_MAX_TEXT || memchr(c->text, 0, c->text_size) != NULL ||
+                                 !(c->attribute & 0x80) || c->attribute & 0x10);
 }
 
 /* The number that a call must return, by check's number for the image and by its list. Row 15 is not foretold. */
 uint32_t foretold(const state *s, const call *c) {
-    part found;
     if (c->kind == CREATE) return c->image_size < 256 ? 1 : c->version == 4 || c->version == 5 ? 0 : 3;
-    if (c->kind == PART_STEP) return step_at(c, &found);
     if (s->verdict == 1) return 1;
     if (changes(c) && c->work_size < c->image_size) return 2;
     if (s->verdict != 0) return s->verdict;
@@ -74,16 +51,16 @@ uint32_t foretold(const state *s, const call *c) {
     if (e == NULL) return PDIC_ABSENT;
     if (c->kind == DELETE) return 0;
     int short_word = c->kind == WALK && c->word_out_size < e->word_size;
-    return short_word || c->text_out_size < e->text_size || c->parts_out_size < e->parts_size ? 14 : 0;
+    return short_word || c->text_out_size < e->text_size ? 14 : 0;
 }
 
 int may_return(int kind, uint32_t number) {
-    static const uint32_t may[KINDS] = {0x0000B, 0x107FB, 0x10001, 0x157FB, 0x157FB, 0x1BFFF, 0x19FFF, 0x10FFF}; /* bit n: n */
-    if (number == PDIC_ABSENT) return kind == LOOK_UP || kind == WALK || kind == DELETE || kind == PART_STEP;
-    return number <= 16 && may[kind] >> number & 1;
+    static const uint32_t may[KINDS] = {0x000B, 0x07FB, 0x57FB, 0x57FB, 0xBFFF, 0x9FFF, 0x0FFF}; /* bit n: n */
+    if (number == PDIC_ABSENT) return kind == LOOK_UP || kind == WALK || kind == DELETE;
+    return number < 16 && may[kind] >> number & 1;
 }
 
-/* A number that the call may return: of optimise 0 to 11 and 16, and "15 is never given by optimise". */
+/* A number that the call may return: of optimise 0 to 11, and "15 is never given by optimise". */
 void hold_may_return(const call *c, uint32_t number) {
     hold(c->kind != OPTIMISE || number != 15, c, number, "15 is never given by optimise");
     hold(may_return(c->kind, number), c, number, "the call may not return this number");
@@ -94,35 +71,29 @@ void hold_number(const state *s, const call *c, uint32_t number) {
     hold_may_return(c, number);
     uint32_t wanted = foretold(s, c);
     int may_be_15 = number == 15 && (c->kind == INSERT || c->kind == DELETE) && (wanted == 0 || wanted == UNKNOWN);
-    int by_list = number == 0 || number == 14 || number == 15 || number == PDIC_ABSENT;
-    hold(number == wanted || may_be_15 || (wanted == UNKNOWN && by_list), c, number, "another number applies first");
+    hold(number == wanted || may_be_15 || (wanted == UNKNOWN && (number == 0 || number >= 14)), c, number,
+         "another number applies first");
 }
 
 static int buffers_kept_around(const lent *l) {
     int kept = only_lent_part_changed(&l->image) && only_lent_part_changed(&l->work) &&
                only_lent_part_changed(&l->word) && only_lent_part_changed(&l->text) &&
-               only_lent_part_changed(&l->word_out) && only_lent_part_changed(&l->text_out) &&
-               only_lent_part_changed(&l->parts_out);
-    for (int i = 0; i < PARTS; i++) kept = kept && only_lent_part_changed(&l->part[i]);
+               only_lent_part_changed(&l->word_out) && only_lent_part_changed(&l->text_out);
     for (int i = 0; i < NUMBERS; i++) kept = kept && only_lent_part_changed(&l->number[i]);
     return kept;
 }
 
 static int filled(const buffer *b, size_t from, uint8_t fill) { return all_bytes(b->at + from, b->size - from, fill); }
 
-static int slices_kept(const lent *l) {
-    return filled(&l->word_out, 0, l->fill) && filled(&l->text_out, 0, l->fill) && filled(&l->parts_out, 0, l->fill);
-}
-
 static int outputs_kept(const lent *l) {
-    int kept = slices_kept(l);
+    int kept = filled(&l->word_out, 0, l->fill) && filled(&l->text_out, 0, l->fill);
     for (int i = 0; i < NUMBERS; i++) kept = kept && filled(&l->number[i], 0, l->fill);
     return kept;
 }
 
 /* No call alters the identifier of a version 5 image. */
 static int ident_kept(const state *s, const lent *l, const call *c) {
-    if (c->kind == CREATE || c->kind == PART_STEP || s->verdict != 0 || !is_5(s->slice)) return 1;
+    if (c->kind == CREATE || s->verdict != 0 || !is_5(s->slice)) return 1;
     return memcmp(l->image.at + AT_IDENT, s->slice + AT_IDENT, 8) == 0;
 }
 
@@ -187,13 +158,11 @@ void hold_bytes(const state *s, const lent *l, const call *c, uint32_t number) {
     hold(buffers_kept_around(l), c, number, "a byte next to a lent slice or number changed");
     hold(memcmp(l->word.at, c->word, c->word_size) == 0, c, number, "the headword argument changed");
     hold(memcmp(l->text.at, c->text, c->text_size) == 0, c, number, "the text argument changed");
-    for (int i = 0; i < PARTS; i++)
-        hold(memcmp(l->part[i].at, c->part[i].bytes, c->part[i].size) == 0, c, number, "a part argument changed");
     hold_work(l, c, number);
     hold(ident_kept(s, l, c), c, number, "the identifier changed");
     if (number == 0 && (changes(c) || c->kind == CREATE)) {
         hold_slice(s, l, c);
-        hold(slices_kept(l), c, number, "a slice not lent changed");
+        hold(filled(&l->word_out, 0, l->fill) && filled(&l->text_out, 0, l->fill), c, number, "a slice not lent changed");
         return;
     }
     hold(memcmp(l->image.at, s->slice, c->image_size) == 0, c, number, "the image slice changed");
@@ -217,80 +186,25 @@ static void hold_output(const lent *l, const call *c, const buffer *b, const uin
     hold(filled(b, size, l->fill), c, 0, "an output byte past the answer changed");
 }
 
-/* The answer of a step. */
-static void hold_part(const lent *l, const call *c) {
-    part found = {0, 0, 0, 0};
-    step_at(c, &found);
-    hold(number_at(l, NUMBER_D) == found.kind, c, 0, "not the kind of this part");
-    hold(number_at(l, NUMBER_A) == found.place, c, 0, "not the place of this part's bytes");
-    hold(number_at(l, NUMBER_B) == found.size, c, 0, "not the length of this part");
-    hold(number_at(l, NUMBER_C) == found.next, c, 0, "not the offset behind this part");
-    hold(slices_kept(l), c, 0, "a slice not lent changed");
-}
-
-/* A length answered, and that nothing past it in its slice changed. */
-static void hold_past(const lent *l, const call *c, const buffer *b, size_t size) {
-    hold(size <= b->size && filled(b, size, l->fill), c, 0, "an output byte past the answer changed");
-}
-
-/* The list answered is one, exactly where the attribute says so. */
-static void hold_list(const lent *l, const call *c) {
-    part parts[PARTS];
-    size_t size = number_at(l, NUMBER_C);
-    int there = (number_at(l, NUMBER_D) & PDIC_PARTS) != 0;
-    hold(there ? parts_of(l->parts_out.at, size, parts) > 0 : size == 0, c, 0, "not a part list, or one without 0x10");
-}
-
 /* The answer of a reading call that was done. */
 void hold_answer(const state *s, const lent *l, const call *c) {
     if (c->kind == CHECK) {
         hold_counts(l, c);
         return;
     }
-    if (c->kind == PART_STEP) {
-        hold_part(l, c);
-        return;
-    }
     const entry *e = answer(s, c);
-    hold_past(l, c, &l->text_out, number_at(l, NUMBER_B));
-    hold_past(l, c, &l->parts_out, number_at(l, NUMBER_C));
-    hold_list(l, c);
+    size_t size = number_at(l, NUMBER_B);
+    hold(size <= c->text_out_size && filled(&l->text_out, size, l->fill), c, 0, "an output byte past the answer changed");
     if (e == NULL) return; /* the list is not known */
     hold(number_at(l, NUMBER_D) == e->attribute, c, 0, "not the attribute of this headword");
     hold_output(l, c, &l->text_out, e->text, e->text_size, number_at(l, NUMBER_B));
-    hold_output(l, c, &l->parts_out, e->parts, e->parts_size, number_at(l, NUMBER_C));
     if (c->kind == WALK) hold_output(l, c, &l->word_out, e->word, e->word_size, number_at(l, NUMBER_A));
     else hold(filled(&l->number[NUMBER_A], 0, l->fill), c, 0, "a number not lent changed");
 }
 
 int same_entry(const entry *a, const entry *b) {
-    return a->word_size == b->word_size && a->text_size == b->text_size && a->parts_size == b->parts_size &&
-           a->attribute == b->attribute && memcmp(a->word, b->word, a->word_size) == 0 &&
-           memcmp(a->text, b->text, a->text_size) == 0 && memcmp(a->parts, b->parts, a->parts_size) == 0;
-}
-
-/* An insertion "writes 0x01 first"; 0x80 ends the list. Without parts there is none. */
-size_t list_given(const call *c, uint8_t *to) {
-    static const uint8_t kinds[PARTS] = {PDIC_EXAMPLE, PDIC_PRONUNCIATION};
-    size_t size = 0;
-    for (int i = 0; i < PARTS; i++) {
-        const given *p = &c->part[i];
-        if (!p->there) continue;
-        to[size++] = kinds[i];
-        memcpy(to + size, p->bytes, p->size);
-        size += p->size;
-        to[size++] = 0;
-    }
-    if (size > 0) to[size++] = PDIC_PARTS_END;
-    return size;
-}
-
-/* Whether an entry is that of an insertion that was done. */
-static int is_inserted(const entry *e, const call *c) {
-    static uint8_t list[PDIC_MAX_PARTS];
-    size_t size = list_given(c, list);
-    return e->attribute == c->attribute && e->text_size == c->text_size && e->parts_size == size &&
-           memcmp(e->text, c->text, e->text_size) == 0 && memcmp(e->parts, list, size) == 0;
+    return a->word_size == b->word_size && a->text_size == b->text_size && a->attribute == b->attribute &&
+           memcmp(a->word, b->word, a->word_size) == 0 && memcmp(a->text, b->text, a->text_size) == 0;
 }
 
 static int concerned(const entry *e, const call *c) {
@@ -305,7 +219,8 @@ void hold_step(const list *before, const list *after, const call *c) {
         if (i < before->count && concerned(&before->entries[i], c)) i++;
         if (concerned(e, c)) {
             found++;
-            hold(c->kind == INSERT && is_inserted(e, c), c, 0, "the headword concerned has the wrong entry");
+            hold(c->kind == INSERT && e->attribute == c->attribute && e->text_size == c->text_size &&
+                     memcmp(e->text, c->text, e->text_size) == 0, c, 0, "the headword concerned has the wrong entry");
             continue;
         }
         hold(i < before->count && same_entry(&before->entries[i], e), c, 0, "an entry not concerned changed");

@@ -14,22 +14,19 @@
 enum {
     SETTINGS = 10,
     CALLS = 6,
-    CALL_BYTES = 12,
+    CALL_BYTES = 9,
     CONTROL = SETTINGS + CALLS * CALL_BYTES,
     MOST_IMAGE = 65536,     /* longest image of an input */
     MOST_SLICE = 524288,    /* longest image slice or working slice */
     MOST_WORD = 66000,      /* longest headword argument: over 65,535 */
-    MOST_TEXT = 67000,      /* longest text argument, and longest part */
+    MOST_TEXT = 67000,      /* longest text argument */
     MOST_ENTRIES = 200      /* most entries for which the whole list is read */
 };
 
 /* Settings, by byte. */
 enum { SIDES, SPARE, LENGTH, WORKING, CALL_COUNT, FILL, ANY_LOW, ANY_HIGH };
 
-enum { CREATE, CHECK, PART_STEP, LOOK_UP, WALK, INSERT, DELETE, OPTIMISE, KINDS };
-
-/* The parts of an entry, in the order in which an insertion writes them. */
-enum { AN_EXAMPLE, A_PRONUNCIATION, PARTS };
+enum { CREATE, CHECK, LOOK_UP, WALK, INSERT, DELETE, OPTIMISE, KINDS };
 
 /* Header fields that stand in one place, by offset. */
 enum {
@@ -55,27 +52,19 @@ static inline void put_four(uint8_t *p, uint32_t v) { put_two(p, v), put_two(p +
 static inline void put_eight(uint8_t *p, uint64_t v) { put_four(p, (uint32_t)v), put_four(p + 4, (uint32_t)(v >> 32)); }
 static inline size_t less(size_t a, size_t b) { return a < b ? a : b; }
 
-/* A part lent to an insertion. */
-typedef struct {
-    uint8_t there;
-    size_t size;
-    uint8_t bytes[MOST_TEXT];
-} given;
-
-/* A call with its arguments, apart from the image. A step's list stands in the place of the text. */
+/* A call with its arguments, apart from the image. */
 typedef struct {
     int kind;
-    size_t len, image_size, work_size, word_size, text_size, word_out_size, text_out_size, parts_out_size, offset;
+    size_t len, image_size, work_size, word_size, text_size, word_out_size, text_out_size;
     uint8_t attribute, above, version;
     uint64_t ident;
     uint8_t word[MOST_WORD], text[MOST_TEXT];
-    given part[PARTS];
 } call;
 
 /* An entry; its front as stored and its run's place in the index only where the harness's own reader gives it. */
 typedef struct {
-    size_t word_size, text_size, parts_size, front, run;
-    uint8_t attribute, word[PDIC_MAX_HEADWORD], text[PDIC_MAX_TEXT], parts[PDIC_MAX_PARTS];
+    size_t word_size, text_size, front, run;
+    uint8_t attribute, word[PDIC_MAX_HEADWORD], text[PDIC_MAX_TEXT];
 } entry;
 
 /* The entries of an image, where it is accepted and has no more than MOST_ENTRIES. */
@@ -103,15 +92,14 @@ typedef struct {
 } buffer;
 
 void make_buffer(buffer *b, size_t capacity);
-void lend(buffer *b, size_t size, int at_start, uint8_t fill);
-void lend_copy(buffer *b, const uint8_t *bytes, size_t size, int at_start, uint8_t fill);
+uint8_t *lend(buffer *b, size_t size, int at_start, uint8_t fill);
 int all_bytes(const uint8_t *p, size_t size, uint8_t value);
 int only_lent_part_changed(const buffer *b);
 
 /* lent.c: everything lent for one call, and the call itself. */
 enum { NUMBER_A, NUMBER_B, NUMBER_C, NUMBER_D, NUMBERS };
 typedef struct {
-    buffer image, work, word, text, part[PARTS], word_out, text_out, parts_out, number[NUMBERS];
+    buffer image, work, word, text, word_out, text_out, number[NUMBERS];
     uint8_t fill;
     unsigned sides;
 } lent;
@@ -135,8 +123,6 @@ typedef struct {
 } reading;
 uint32_t read_image(const uint8_t *slice, size_t size, size_t len, reading *to);
 extern const uint8_t moved_to[VERSIONS][MOVED]; /* offsets */
-typedef struct { uint8_t kind; size_t place, size, next; } part; /* of a part list */
-size_t parts_of(const uint8_t *bytes, size_t size, part *to); /* how many parts; 0: no part list */
 int is_5(const uint8_t *image);
 uint32_t moved(const uint8_t *image, int field);
 
@@ -150,7 +136,6 @@ void hold_bytes(const state *s, const lent *l, const call *c, uint32_t number);
 void hold_answer(const state *s, const lent *l, const call *c);
 int same_entry(const entry *a, const entry *b);
 void hold_step(const list *before, const list *after, const call *c);
-size_t list_given(const call *c, uint8_t *to); /* the list that an insertion writes, and its size */
 uint64_t hold_fronts(const list *read, const call *c);
 enum { UNKNOWN = 0xFFFF }; /* foretold: the list is not known */
 
@@ -160,8 +145,6 @@ typedef struct {
     uint64_t accepted, returned[KINDS][PDIC_ABSENT + 1];
     uint64_t index_grown, run_moved, run_split, run_gone, full_packed; /* changes in which this happened */
     uint64_t whole_fronts; /* written fronts that are shorter than the common one */
-    uint64_t parts_written, parts_replaced, turned_kept; /* insertions with parts, those over parts; lists with 0x02 first kept */
-    uint64_t short_parts; /* 14 by the parts slice alone */
 } tally;
 extern tally seen[VERSIONS]; /* by the image's version; for create by the one that it is given */
 

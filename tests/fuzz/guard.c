@@ -31,26 +31,16 @@ static uint8_t *neighbours(const buffer *b, size_t *count) {
     return b->at - *count;
 }
 
-/* A part of `size` bytes against the guard in front of the buffer or the one behind it. */
-static void set_part(buffer *b, size_t size, int at_start, uint8_t fill) {
+/* Lends `size` bytes, all `fill`, against the guard in front of the buffer or the one behind it. */
+uint8_t *lend(buffer *b, size_t size, int at_start, uint8_t fill) {
     size_t count;
     b->size = size;
     b->at = at_start ? b->low : b->high - size;
     b->around = (uint8_t)(fill ^ 0x5A);
     uint8_t *open_side = neighbours(b, &count);
     memset(open_side, b->around, count);
-}
-
-/* Lends `size` bytes, all `fill`. */
-void lend(buffer *b, size_t size, int at_start, uint8_t fill) {
-    set_part(b, size, at_start, fill);
     memset(b->at, fill, size);
-}
-
-/* Lends a copy of bytes; the fill byte is only for those around. */
-void lend_copy(buffer *b, const uint8_t *bytes, size_t size, int at_start, uint8_t fill) {
-    set_part(b, size, at_start, fill);
-    memcpy(b->at, bytes, size);
+    return b->at;
 }
 
 int all_bytes(const uint8_t *p, size_t size, uint8_t value) {

@@ -33,7 +33,6 @@ static uint32_t ask(int kind, const uint8_t *image, size_t size, size_t len) {
     asked.text_size = 0;
     asked.word_out_size = PDIC_MAX_HEADWORD;
     asked.text_out_size = PDIC_MAX_TEXT;
-    for (int i = 0; i < PARTS; i++) asked.part[i].size = 0;
     prepare(&second, &asked, image);
     return perform(&second, &asked);
 }
@@ -41,7 +40,7 @@ static uint32_t ask(int kind, const uint8_t *image, size_t size, size_t len) {
 /* Check's number, which must be that of the harness's own reader; with 0 the counts stand in the second set's lent
    numbers and the entries in `own`. */
 static uint32_t ask_check(const uint8_t *image, size_t size, size_t len) {
-    asked.word_size = asked.parts_out_size = 0;
+    asked.word_size = 0;
     uint32_t number = ask(CHECK, image, size, len);
     hold(number == read_image(image, size, len, &own), &asked, number, "the second reader has another number");
     if (number != 0) return number;
@@ -55,13 +54,11 @@ static void take_entry(list *to) {
     entry *e = &to->entries[to->count];
     e->word_size = number_at(&second, NUMBER_A);
     e->text_size = number_at(&second, NUMBER_B);
-    e->parts_size = number_at(&second, NUMBER_C);
     e->attribute = (uint8_t)number_at(&second, NUMBER_D);
-    hold(e->word_size >= 1 && e->word_size <= PDIC_MAX_HEADWORD && e->text_size <= PDIC_MAX_TEXT &&
-             e->parts_size <= second.parts_out.size, &asked, 0, "a length is outside its rule");
+    hold(e->word_size >= 1 && e->word_size <= PDIC_MAX_HEADWORD && e->text_size <= PDIC_MAX_TEXT, &asked, 0,
+         "a length is outside its rule");
     memcpy(e->word, second.word_out.at, e->word_size);
     memcpy(e->text, second.text_out.at, e->text_size);
-    memcpy(e->parts, second.parts_out.at, e->parts_size);
     hold(memchr(e->word, 0, e->word_size) == NULL && memchr(e->text, 0, e->text_size) == NULL, &asked, 0,
          "a zero byte in a headword or text");
     hold(order_of(e->word, e->word_size, asked.word, asked.word_size) > 0, &asked, 0, "headwords do not ascend");
@@ -76,8 +73,6 @@ static void read_list(list *to, const uint8_t *image, size_t size, size_t len, u
     asked.word_size = 0;
     asked.above = 1;
     while (to->known) {
-        /* Just as long as the second reader's list. */
-        asked.parts_out_size = to->count < own.entries.count ? own.entries.entries[to->count].parts_size : 0;
         uint32_t number = ask(WALK, image, size, len);
         hold(number == 0 || number == PDIC_ABSENT, &asked, number, "an accepted image is refused");
         if (number != 0) break;
@@ -119,26 +114,21 @@ static void hold_looked_up(const uint8_t *image, size_t len) {
     if (made.kind != INSERT && made.kind != DELETE) return;
     memcpy(asked.word, made.word, made.word_size);
     asked.word_size = made.word_size;
-    static uint8_t list[PDIC_MAX_PARTS];
-    size_t size = asked.parts_out_size = made.kind == INSERT ? list_given(&made, list) : 0;
     uint32_t number = ask(LOOK_UP, image, now.size, len);
     hold(number == (made.kind == INSERT ? 0 : PDIC_ABSENT), &made, 0, "look up after the change has the wrong number");
     if (number != 0) return;
     hold(number_at(&second, NUMBER_B) == made.text_size && number_at(&second, NUMBER_D) == made.attribute &&
              memcmp(second.text_out.at, made.text, made.text_size) == 0, &made, 0,
          "look up after the change has the wrong entry");
-    hold(number_at(&second, NUMBER_C) == size && memcmp(second.parts_out.at, list, size) == 0, &made, 0,
-         "look up after the change has the wrong parts");
 }
 
 /* Optimising again changes update_count alone. */
 static void hold_optimised(const uint8_t *image, size_t len) {
-    size_t given = made.len;
-    made.len = len;
-    prepare(&second, &made, image);
-    uint32_t number = perform(&second, &made);
-    made.len = given;
-    hold_may_return(&made, number);
+    asked = made;
+    asked.len = len;
+    prepare(&second, &asked, image);
+    uint32_t number = perform(&second, &asked);
+    hold_may_return(&asked, number);
     put_four(second.image.at + AT_UPDATE_COUNT, four(image + AT_UPDATE_COUNT));
     hold(number == 0 && number_at(&second, NUMBER_A) == len && memcmp(second.image.at, image, now.size) == 0, &made, 0,
          "optimising again changes the image");
@@ -157,20 +147,6 @@ static void count_change(const uint8_t *image) {
     t->run_gone += runs < runs_before;
 }
 
-/* Parts written, parts replaced, and lists with the pronunciation first that a change left as they were. */
-static void count_parts(const list *before, const list *after, int version) {
-    tally *t = &seen[version];
-    const entry *old = made.kind == INSERT ? answer(&now, &made) : NULL;
-    int with = made.kind == INSERT && made.attribute & PDIC_PARTS;
-    t->parts_written += with;
-    t->parts_replaced += with && old != NULL && old->parts_size > 0;
-    for (size_t i = 0; i < after->count && before->known && after->known; i++) {
-        const entry *e = &after->entries[i];
-        part parts[PARTS];
-        t->turned_kept += parts_of(e->parts, e->parts_size, parts) == 2 && parts[0].kind == PDIC_PRONUNCIATION;
-    }
-}
-
 /* The changed image in the first set of buffers becomes the state. */
 static void take_changed(void) {
     list *after = &lists[now.entries == &lists[0]];
@@ -184,7 +160,6 @@ static void take_changed(void) {
     if (made.kind == OPTIMISE) hold_optimised(image, len);
     read_list(after, image, now.size, len, headwords);
     if (made.kind != CREATE && now.entries->known && after->known) hold_step(now.entries, after, &made);
-    if (made.kind != CREATE) count_parts(now.entries, after, is_5(image));
     memcpy(now.slice, image, now.size);
     now.entries = after;
     now.len = len;
@@ -194,14 +169,12 @@ static void take_changed(void) {
 
 /* 15 is due: with room enough the change is done, and its image is longer than the slice. */
 static void hold_15(void) {
-    size_t image_size = made.image_size, work_size = made.work_size;
-    made.image_size = made.work_size = MOST_SLICE;
+    asked = made;
+    asked.image_size = asked.work_size = MOST_SLICE;
     memset(now.slice + now.size, 0, MOST_SLICE - now.size);
-    prepare(&second, &made, now.slice);
-    uint32_t number = perform(&second, &made);
-    made.image_size = image_size;
-    made.work_size = work_size;
-    hold(number == 0 && number_at(&second, NUMBER_A) > image_size, &made, 15, "the change has room in the slice");
+    prepare(&second, &asked, now.slice);
+    uint32_t number = perform(&second, &asked);
+    hold(number == 0 && number_at(&second, NUMBER_A) > made.image_size, &made, 15, "the change has room in the slice");
 }
 
 static int same_buffer(const buffer *a, const buffer *b, size_t size) { return memcmp(a->at, b->at, size) == 0; }
@@ -213,23 +186,14 @@ static void hold_same_again(uint32_t number) {
     hold(again == number, &made, again, "the same call returns another number");
     hold_bytes(&now, &second, &made, again);
     hold(same_buffer(&first.image, &second.image, made.image_size), &made, number, "the same call leaves another image");
-    if (number != 0 || made.kind == CHECK || made.kind == PART_STEP) return;
+    if (number != 0 || made.kind == CHECK) return;
     if (made.kind == LOOK_UP || made.kind == WALK) {
         hold(same_buffer(&first.text_out, &second.text_out, number_at(&first, NUMBER_B)), &made, 0,
              "the same call gives another text");
-        hold(same_buffer(&first.parts_out, &second.parts_out, number_at(&first, NUMBER_C)), &made, 0,
-             "the same call gives another part list");
         hold(number_at(&first, NUMBER_B) == number_at(&second, NUMBER_B), &made, 0, "the same call gives another length");
     } else {
         hold(number_at(&first, NUMBER_A) == number_at(&second, NUMBER_A), &made, 0, "the same call gives another L");
     }
-}
-
-/* 14 where headword and text had room. */
-static int parts_short(uint32_t number) {
-    const entry *e = number == 14 ? answer(&now, &made) : NULL;
-    return e != NULL && made.text_out_size >= e->text_size &&
-           (made.kind == LOOK_UP || made.word_out_size >= e->word_size);
 }
 
 static int version_concerned(void) {
@@ -245,7 +209,6 @@ static void run_call(void) {
     hold_bytes(&now, &first, &made, number);
     hold_same_again(number);
     seen[version_concerned()].returned[made.kind][number]++;
-    seen[version_concerned()].short_parts += parts_short(number);
     if (number == 15) hold_15();
     if (number == 0 && (made.kind >= INSERT || made.kind == CREATE)) take_changed();
     else if (now.len != len) take_len(len);

@@ -3,8 +3,7 @@
 
 #include "fuzz.h"
 
-const char *const call_names[KINDS] = {"create", "check", "part step", "look up", "walk", "insert",
-                                         "delete", "optimise"};
+const char *const call_names[KINDS] = {"create", "check", "look up", "walk", "insert", "delete", "optimise"};
 
 void make_lent(lent *l) {
     make_buffer(&l->image, MOST_SLICE);
@@ -13,28 +12,23 @@ void make_lent(lent *l) {
     make_buffer(&l->text, MOST_TEXT);
     make_buffer(&l->word_out, MOST_WORD);
     make_buffer(&l->text_out, MOST_TEXT);
-    make_buffer(&l->parts_out, MOST_TEXT);
-    for (int i = 0; i < PARTS; i++) make_buffer(&l->part[i], MOST_TEXT);
     for (int i = 0; i < NUMBERS; i++) make_buffer(&l->number[i], sizeof(uint64_t));
 }
 
-/* An attribute and a kind are one byte, every other lent number eight. */
+/* An attribute is one byte, every other lent number eight. */
 static size_t number_size(const call *c, int which) {
-    return which == NUMBER_D && (c->kind == LOOK_UP || c->kind == WALK || c->kind == PART_STEP) ? 1 : sizeof(uint64_t);
+    return which == NUMBER_D && (c->kind == LOOK_UP || c->kind == WALK) ? 1 : sizeof(uint64_t);
 }
 
 /* Image and arguments are copied to their buffers; all else gets the fill byte. */
 void prepare(lent *l, const call *c, const uint8_t *image) {
     unsigned sides = l->sides;
-    lend_copy(&l->image, image, c->image_size, sides & 1, l->fill);
+    memcpy(lend(&l->image, c->image_size, sides & 1, l->fill), image, c->image_size);
     lend(&l->work, c->work_size, sides >> 1 & 1, l->fill);
-    lend_copy(&l->word, c->word, c->word_size, sides >> 2 & 1, l->fill);
-    lend_copy(&l->text, c->text, c->text_size, sides >> 3 & 1, l->fill);
+    memcpy(lend(&l->word, c->word_size, sides >> 2 & 1, l->fill), c->word, c->word_size);
+    memcpy(lend(&l->text, c->text_size, sides >> 3 & 1, l->fill), c->text, c->text_size);
     lend(&l->word_out, c->word_out_size, sides >> 4 & 1, l->fill);
     lend(&l->text_out, c->text_out_size, sides >> 5 & 1, l->fill);
-    lend(&l->parts_out, c->parts_out_size, sides >> 7 & 1, l->fill);
-    for (int i = 0; i < PARTS; i++)
-        lend_copy(&l->part[i], c->part[i].bytes, c->part[i].size, sides >> (2 + i) & 1, l->fill);
     for (int i = 0; i < NUMBERS; i++) lend(&l->number[i], number_size(c, i), sides >> 6 & 1, l->fill);
 }
 
@@ -58,20 +52,15 @@ uint32_t perform(const lent *l, const call *c) {
         return pdic_check(image, size, len, number(l, NUMBER_A), number(l, NUMBER_B), number(l, NUMBER_C),
                           number(l, NUMBER_D));
     case LOOK_UP:
-        return pdic_look_up(image, size, len, word, word_size, l->text_out.at, l->text_out.size, l->parts_out.at,
-                            l->parts_out.size, number(l, NUMBER_D), number(l, NUMBER_B), number(l, NUMBER_C));
+        return pdic_look_up(image, size, len, word, word_size, l->text_out.at, l->text_out.size,
+                            number(l, NUMBER_D), number(l, NUMBER_B));
     case WALK:
         return pdic_walk(image, size, len, word, word_size, c->above, l->word_out.at, l->word_out.size,
-                         l->text_out.at, l->text_out.size, l->parts_out.at, l->parts_out.size, number(l, NUMBER_D),
-                         number(l, NUMBER_A), number(l, NUMBER_B), number(l, NUMBER_C));
-    case PART_STEP:
-        return pdic_part_step(l->text.at, l->text.size, c->offset, number(l, NUMBER_D), number(l, NUMBER_A),
-                              number(l, NUMBER_B), number(l, NUMBER_C));
+                         l->text_out.at, l->text_out.size, number(l, NUMBER_D), number(l, NUMBER_A),
+                         number(l, NUMBER_B));
     case INSERT:
-        return pdic_insert(image, size, len, work, work_size, word, word_size, c->attribute, l->text.at, l->text.size,
-                           c->part[AN_EXAMPLE].there, l->part[AN_EXAMPLE].at, l->part[AN_EXAMPLE].size,
-                           c->part[A_PRONUNCIATION].there, l->part[A_PRONUNCIATION].at, l->part[A_PRONUNCIATION].size,
-                           number(l, NUMBER_A));
+        return pdic_insert(image, size, len, work, work_size, word, word_size, c->attribute, l->text.at,
+                           l->text.size, number(l, NUMBER_A));
     case DELETE:
         return pdic_delete(image, size, len, work, work_size, word, word_size, number(l, NUMBER_A));
     default:

@@ -319,57 +319,6 @@ static void change_attribute(work *w) {
     if (zero && zero + 1 < w->bytes + w->size && zero[1] & 0x80) zero[1] ^= (uint8_t)(1 << below(w->random, 8));
 }
 
-/* One of the first entries of a run with parts, where its field ends inside its run: its list, and the list's end. */
-static uint8_t *some_list(const work *w, uint8_t **stop) {
-    uint8_t *end, *p = some_entry(w, &end);
-    if (p == NULL || (size_t)(end - p) < 3 + (size_t)two(p)) return NULL;
-    *stop = p + 3 + two(p);
-    uint8_t *zero = memchr(p + 3, 0, two(p));
-    if (zero == NULL || *stop - zero < 3 || !(zero[1] & PDIC_PARTS)) return NULL;
-    uint8_t *text_end = memchr(zero + 2, 0, (size_t)(*stop - zero - 2));
-    return text_end && text_end + 1 < *stop ? text_end + 1 : NULL;
-}
-
-/* A byte of a part list: its first, its last two, or any; one that means something there. */
-static void change_list(work *w) {
-    static const uint8_t bytes[8] = {0, PDIC_EXAMPLE, PDIC_PRONUNCIATION, PDIC_PARTS_END, 3, 'a', 0, PDIC_PARTS_END};
-    uint8_t *stop, *list = some_list(w, &stop);
-    if (list == NULL) return;
-    size_t size = (size_t)(stop - list), places[4] = {0, size - 1, size - less(2, size), below(w->random, size)};
-    list[places[below(w->random, 4)]] = bytes[below(w->random, 8)];
-}
-
-/* Two parts change places; of a list with one part its kind changes. */
-static void turn_list(work *w) {
-    static uint8_t turned[PDIC_MAX_PARTS];
-    part parts[PARTS];
-    uint8_t *stop, *list = some_list(w, &stop);
-    size_t size = list ? (size_t)(stop - list) : 0, count = list ? parts_of(list, size, parts) : 0;
-    if (count == 1) list[0] = PDIC_EXAMPLE + PDIC_PRONUNCIATION - list[0];
-    if (count < 2) return;
-    size_t first = parts[0].next, second = size - 1 - first;
-    memcpy(turned, list + first, second);
-    memcpy(turned + second, list, first);
-    memcpy(list, turned, first + second);
-}
-
-/* The end of a text becomes its zero and a list of one or two parts. */
-static void make_list(work *w) {
-    uint8_t *end, *p = some_entry(w, &end);
-    size_t size = 4 + below(w->random, 20);
-    if (p == NULL || (size_t)(end - p) < 3 + (size_t)two(p)) return;
-    uint8_t *zero = memchr(p + 3, 0, two(p)), *stop = p + 3 + two(p);
-    if (zero == NULL || (size_t)(stop - zero) < 2 + size || zero[1] & PDIC_PARTS) return;
-    zero[1] |= PDIC_PARTS;
-    uint8_t *list = stop - size + 1;
-    list[-1] = stop[-2] = 0;
-    list[0] = (uint8_t)(PDIC_EXAMPLE + below(w->random, 2));
-    stop[-1] = PDIC_PARTS_END;
-    if (size < 6 || below(w->random, 2)) return;
-    list[1] = 0;
-    list[2] = PDIC_EXAMPLE + PDIC_PRONUNCIATION - list[0];
-}
-
 /* The version's low byte: from 16 on the image may only be read. */
 static void set_version(work *w) {
     if (w->size >= 256) w->bytes[AT_VERSION] = (uint8_t)below(w->random, 32);
@@ -405,8 +354,7 @@ static change *const changes[] = {
     set_header,    set_header,  set_moved,      set_block_number, set_block_number, copy_range,    cut_range,
     double_range,  swap_blocks, splice,         change_length,   add_free_block, add_index_block,  turn_free_list,
     change_block_end, change_attribute, set_version, set_update_count, change_field, change_run_size, drop_free_block,
-    lengthen_word, cut_short,   set_moved,      set_high_version, turn_version,  change_list,      change_list,
-    turn_list,     turn_list,   make_list,
+    lengthen_word, cut_short,   set_moved,      set_high_version, turn_version,
 };
 
 /* One change of an input; returns its new size. An input without an image gets control bytes only. */

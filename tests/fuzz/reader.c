@@ -1,5 +1,5 @@
-/* A reader of the harness's own, written from document 01 and document 02's F-1 and F-5: rows 1, 3 to 10 and 16 in their order,
- * and the entries. Guided runs so compare two readers on every image that they find. */
+/* A reader of the harness's own, written from document 01 and document 02's F-1: rows 1 and 3 to 10 in their order, and
+ * the entries. Guided runs so compare two readers on every image that they find. */
 #include <string.h>
 
 #include "fuzz.h"
@@ -66,39 +66,8 @@ static uint32_t read_index(void) {
     return data_start - at >= 4 && all_bytes(image + at, data_start - at, 0) ? 0 : 6;
 }
 
-/* The longest part of a kind; 0: no kind. */
-static size_t most_of(uint8_t kind) {
-    return kind == PDIC_EXAMPLE ? PDIC_MAX_EXAMPLE : kind == PDIC_PRONUNCIATION ? PDIC_MAX_PRONUNCIATION : 0;
-}
-
-/* "A list has one or two parts, each kind at most once, in either order"; "0x80 ends the list". */
-size_t parts_of(const uint8_t *bytes, size_t size, part *to) {
-    size_t at = 0, count = 0;
-    while (at < size && bytes[at] != PDIC_PARTS_END) {
-        const uint8_t *zero = memchr(bytes + at, 0, size - at);
-        size_t most = most_of(bytes[at]);
-        if (most == 0 || zero == NULL || count == PARTS || (count == 1 && to[0].kind == bytes[at])) return 0;
-        to[count] = (part){bytes[at], at + 1, (size_t)(zero - bytes) - at - 1, (size_t)(zero - bytes) + 1};
-        if (to[count].size > most) return 0;
-        at = to[count++].next;
-    }
-    return at + 1 == size ? count : 0;
-}
-
-/* The text of an entry, from behind its attribute to its field's end; with 0x10 its zero ends it, and a list follows. */
-static int read_text(const uint8_t *text, const uint8_t *stop, entry *e, const uint8_t **parts) {
-    const uint8_t *zero = memchr(text, 0, (size_t)(stop - text));
-    if (!(e->attribute & PDIC_PLAIN) || (zero != NULL) != ((e->attribute & PDIC_PARTS) != 0)) return 0;
-    e->text_size = (size_t)((zero ? zero : stop) - text);
-    if (e->text_size > PDIC_MAX_TEXT) return 0;
-    *parts = zero ? zero + 1 : stop;
-    e->parts_size = (size_t)(stop - *parts);
-    memcpy(e->text, text, e->text_size);
-    return 1;
-}
-
-/* The entry at `at`, above the one before it in *e: its size with its front part; 0: a rule is broken. Its list is not tested. */
-static size_t read_entry(const uint8_t *at, const uint8_t *end, entry *e, const uint8_t **parts) {
+/* The entry at `at`, above the one before it in *e: its size with its front part; 0: a rule is broken. */
+static size_t read_entry(const uint8_t *at, const uint8_t *end, entry *e) {
     size_t field = two(at), front = end - at >= 3 ? at[2] : 0;
     if (end - at < 3 || (size_t)(end - at) - 3 < field || front > e->word_size) return 0;
     const uint8_t *rest = at + 3, *zero = memchr(rest, 0, field), *stop = rest + field;
@@ -108,20 +77,14 @@ static size_t read_entry(const uint8_t *at, const uint8_t *end, entry *e, const 
     memcpy(before, e->word, before_size);
     e->front = front;
     e->word_size = front + rest_size;
+    e->text_size = (size_t)(stop - zero) - 2;
     e->attribute = zero[1];
-    if (e->word_size < 1 || e->word_size > PDIC_MAX_HEADWORD || !read_text(zero + 2, stop, e, parts)) return 0;
+    if (e->word_size < 1 || e->word_size > PDIC_MAX_HEADWORD || e->text_size > PDIC_MAX_TEXT) return 0;
     memcpy(e->word + front, rest, rest_size);
+    memcpy(e->text, zero + 2, e->text_size);
+    if (!(e->attribute & 0x80) || e->attribute & 0x10 || memchr(e->text, 0, e->text_size)) return 0;
     if (order_of(before, before_size, e->word, e->word_size) >= 0) return 0;
     return 3 + field;
-}
-
-/* Row 16: the list of an entry, which is taken over. */
-static int read_parts(const uint8_t *parts, entry *e) {
-    part found[PARTS];
-    if (!(e->attribute & PDIC_PARTS)) return 1;
-    if (parts_of(parts, e->parts_size, found) == 0) return 0;
-    memcpy(e->parts, parts, e->parts_size);
-    return 1;
 }
 
 static void add_entry(reading *to, const entry *e) {
@@ -129,26 +92,23 @@ static void add_entry(reading *to, const entry *e) {
     entry *next = &to->entries.entries[to->entries.count++];
     next->word_size = e->word_size;
     next->text_size = e->text_size;
-    next->parts_size = e->parts_size;
     next->attribute = e->attribute;
     next->front = e->front;
     next->run = e->run;
     memcpy(next->word, e->word, e->word_size);
     memcpy(next->text, e->text, e->text_size);
-    memcpy(next->parts, e->parts, e->parts_size);
 }
 
 /* The entries of the run of element i, from its count's end to its last block's. */
 static uint32_t read_entries(size_t i, const uint8_t *at, const uint8_t *end, reading *to) {
     static entry e;
     size_t size, wanted_size, count = 0;
-    const uint8_t *wanted = element_word(i, &wanted_size), *parts;
+    const uint8_t *wanted = element_word(i, &wanted_size);
     e.word_size = 0;
     e.run = i;
     for (; end - at >= 2 && two(at) != 0; at += size, count++) {
-        if ((size = read_entry(at, end, &e, &parts)) == 0) return 8;
+        if ((size = read_entry(at, end, &e)) == 0) return 8;
         if (count == 0 && order_of(e.word, e.word_size, wanted, wanted_size) != 0) return 8;
-        if (!read_parts(parts, &e)) return 16;
         add_entry(to, &e);
     }
     if (end - at < 2 || count == 0) return 8;

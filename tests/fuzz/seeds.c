@@ -1,5 +1,4 @@
-/* Images made by the engine itself: created, filled, thinned out and optimised; each in version 4 and in version 5. Most have
- * parts in half of their entries. */
+/* Images made by the engine itself: created, filled, thinned out and optimised; each in version 4 and in version 5. */
 #include <stdio.h>
 #include <stdlib.h>
 #include <string.h>
@@ -26,7 +25,7 @@ static const recipe recipes[SEEDS / 2] = {
     {3, 1, 248, 3, 0, 1, 1},       {7, 1, 248, 500, 0, 1, 1},     {4, 1, 248, 400, 0, 1, 1},     {40, 248, 248, 3, 2, 3, 0},
 };
 
-static uint8_t image[ROOM], working[ROOM], example[PDIC_MAX_EXAMPLE];
+static uint8_t image[ROOM], working[ROOM];
 static size_t length;
 
 static void done(uint32_t number, const char *what) {
@@ -46,41 +45,24 @@ static size_t draw_word(source *r, const recipe *p, uint8_t *word) {
     return size;
 }
 
-/* Which parts an entry has: 1 an example, 2 a pronunciation, 3 both. Words of one letter have none, so that the sizes of the last
- * row's are what they must be. */
-static uint8_t draw_parts(source *r, const recipe *p) {
-    return p->letters > 1 && below(r, 2) ? (uint8_t)(1 + below(r, 3)) : 0;
-}
-
-/* The length of parts: beside the longest texts now and then the longest. */
-static size_t draw_size(source *r, const recipe *p) {
-    if (below(r, 8)) return below(r, 30);
-    return p->text_most == PDIC_MAX_TEXT ? sizeof example : 200;
-}
-
 static void insert(source *r, const recipe *p) {
     uint8_t word[256], text[PDIC_MAX_TEXT];
     size_t word_size = draw_word(r, p, word), text_size = below(r, p->text_most + 1u);
     if (below(r, 4) == 0) text_size = p->text_most;
     memset(text, 't', text_size);
-    uint8_t attribute = below(r, 4) ? 0x80 : 0xC3, parts = draw_parts(r, p);
-    size_t size = parts ? draw_size(r, p) : 0;
-    memset(example, 'e', size);
-    done(pdic_insert(image, ROOM, length, working, ROOM, word, word_size, parts ? attribute | PDIC_PARTS : attribute, text,
-                     text_size, parts & 1, example, size, parts & 2, example, less(size, PDIC_MAX_PRONUNCIATION), &length),
-         "insert");
+    done(pdic_insert(image, ROOM, length, working, ROOM, word, word_size, below(r, 4) ? 0x80 : 0xC3, text, text_size,
+                     &length), "insert");
 }
 
 /* Deletes the entry at or after a random headword, else the first of all. */
 static void delete(source *r, const recipe *p) {
-    static uint8_t parts[PDIC_MAX_PARTS];
     uint8_t word[256], found[PDIC_MAX_HEADWORD], text[PDIC_MAX_TEXT], attribute;
-    size_t size = draw_word(r, p, word), found_size, text_size, parts_size;
-    uint32_t number = pdic_walk(image, ROOM, length, word, size, 0, found, sizeof found, text, sizeof text, parts,
-                                sizeof parts, &attribute, &found_size, &text_size, &parts_size);
+    size_t size = draw_word(r, p, word), found_size, text_size;
+    uint32_t number = pdic_walk(image, ROOM, length, word, size, 0, found, sizeof found, text, sizeof text, &attribute,
+                                &found_size, &text_size);
     if (number == PDIC_ABSENT)
-        number = pdic_walk(image, ROOM, length, word, 0, 0, found, sizeof found, text, sizeof text, parts, sizeof parts,
-                           &attribute, &found_size, &text_size, &parts_size);
+        number = pdic_walk(image, ROOM, length, word, 0, 0, found, sizeof found, text, sizeof text, &attribute,
+                           &found_size, &text_size);
     done(number, "walk");
     if (number == PDIC_DONE)
         done(pdic_delete(image, ROOM, length, working, ROOM, found, found_size, &length), "delete");

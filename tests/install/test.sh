@@ -82,8 +82,7 @@ done
 PATH=$installed/usr/bin:$PATH
 cd "$work"
 printf 'ABC\tone\nABDEF\ttwo\n' >small.tsv
-printf '%%headword\ttext\texample\tpronunciation\nABC\tone\tAn example.\t%%empty\n' >parts.tsv
-glossary make small.dic small.tsv >made.txt && glossary make parts.dic parts.tsv >made.txt || wrong 'glossary'
+glossary make small.dic small.tsv >made.txt || wrong 'glossary'
 printf '<<ABDEF>>\n' >manual.txt
 [ "$(fill -q small.dic manual.txt)" = two ] || wrong 'fill'
 pdic-list <small.dic | cmp - "$root/tests/list/expected/p3.txt" || wrong 'pdic-list'
@@ -94,7 +93,6 @@ lookup() {
     [ "$status $said" = "$1 $2" ] || wrong "lookup $4"
 }
 lookup 0 one small.dic ABC
-lookup 0 "$(printf 'one\nexample: An example.\npronunciation: ')" parts.dic ABC
 lookup 1 '' small.dic AB
 lookup 2 '' small.tsv ABC
 

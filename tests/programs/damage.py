@@ -19,7 +19,7 @@ def damage(data, rng):
         elif kind == 1:
             out[at] ^= 1 << rng.randrange(8)
         elif kind == 2:
-            out[at] = rng.choice([0, 1, 2, 0x10, 0x7F, 0x80, 0x90, 0xFF])
+            out[at] = rng.choice([0, 1, 0x10, 0x7F, 0x80, 0x90, 0xFF])
         elif kind == 3 and len(out) > 256:
             del out[256 * rng.randrange(1, len(out) // 256):]
         elif kind == 4:

@@ -1,8 +1,7 @@
 #!/usr/bin/env python3
-"""exchange.py SEED NUMBER FOLDER [WRAPPER..]: dictionaries that travel. Random entries of any bytes, two of three with an example, a
-pronunciation or both, go through a table into a dictionary, every second one of version 5, and come out of dump as they were; a
-dictionary made from the dump, with the same identifier, is the same, byte for byte. A table without the columns of the parts
-leaves them as they are. Random lists are refused at the lines at which a model of the list's rules, written here
+"""exchange.py SEED NUMBER FOLDER [WRAPPER..]: dictionaries that travel. Random entries of any bytes go through a table into a
+dictionary, every second one of version 5, and come out of dump as they were; a dictionary made from the dump, with the same
+identifier, is the same, byte for byte. Random lists are refused at the lines at which a model of the list's rules, written here
 apart from the program, finds a fault. Works in the present folder, which must be empty."""
 import random
 import re
@@ -47,25 +46,11 @@ def unescaped(written):
     return re.sub(rb'%([0-9A-Fa-f]{2})', lambda m: bytes([int(m[1], 16)]), written)
 
 
-def part_written(rng, part):
-    """A part's column: nothing where the part is not there."""
-    return b'' if part is None else escaped(rng, part) or b'%empty'
-
-
-def part_read(column):
-    return None if column == b'' else b'' if column == b'%empty' else unescaped(column)
-
-
 def read_dump(dump):
     lines = dump.split(b'\n')
-    assert lines[0] == b'%headword\tattribute\ttext\texample\tpronunciation' and lines[-1] == b'', lines
+    assert lines[0] == b'%headword\tattribute\ttext' and lines[-1] == b'', lines
     rows = [line.split(b'\t') for line in lines[1:-1]]
-    return [(unescaped(h), int(a, 16), unescaped(t), part_read(e), part_read(p)) for h, a, t, e, p in rows]
-
-
-def random_part(rng, most):
-    """Often none; else one without a byte, of few bytes or of up to as many as it may have."""
-    return None if rng.random() < 0.6 else word(rng, 0, rng.choice([0, 5, 5, 300, most]))
+    return [(unescaped(h), int(a, 16), unescaped(t)) for h, a, t in rows]
 
 
 def kind_told(rng, is_five):
@@ -82,35 +67,15 @@ def test_kind(path, kind):
         sys.exit(f'exchange: {kind} gives {header.hex()}')
 
 
-def random_entries(rng):
-    entries = {}
-    for _ in range(rng.choice([0, 1, 3, 20, 60])):
-        entries[word(rng, 1, 248)] = (rng.randrange(256) & ~0x10 | 0x80, word(rng, 0, rng.choice([5, 300, 3000])),
-                                      random_part(rng, 20000), random_part(rng, 1000))
-    return [(h, *rest) for h, rest in sorted(entries.items())]
-
-
-def table_of(rng, rows):
-    """A table with its lines and columns in any order."""
-    written = {b'text': lambda row: escaped(rng, row[2]), b'attribute': lambda row: b'%d' % row[1],
-               b'example': lambda row: part_written(rng, row[3]), b'pronunciation': lambda row: part_written(rng, row[4])}
-    names = rng.sample(list(written), len(written))
-    lines = [[b'%headword', *names]] + [[escaped(rng, row[0])] + [written[name](row) for name in names]
-                                        for row in rng.sample(rows, len(rows))]
-    return b''.join(b'\t'.join(line) + rng.choice([b'\n', b'\r\n', b'\n\n']) for line in lines)
-
-
-def test_kept(rng, path, rows):
-    """Texts told by a table without the columns of the parts: the entries keep their parts, and those that are not told all they have."""
-    told = {row[0]: word(rng, 0, 300) for row in rng.sample(rows, len(rows) // 2)}
-    done('merge', path, '-', text=b'%headword\ttext\n' + b''.join(b'%s\t%s\n' % (escaped(rng, h), escaped(rng, t)) for h, t in told.items()))
-    if read_dump(done('dump', path)) != [(h, a, told.get(h, t), e, p) for h, a, t, e, p in rows]:
-        sys.exit('exchange: an entry has other parts after a merging of texts')
-
-
 def round_trip(rng, is_five):
-    rows, kind = random_entries(rng), kind_told(rng, is_five)
-    done('make', *kind, 'first.dic', '-', text=table_of(rng, rows))
+    entries, kind = {}, kind_told(rng, is_five)
+    for _ in range(rng.choice([0, 1, 3, 20, 60])):
+        entries[word(rng, 1, 248)] = (rng.randrange(256) & ~0x10 | 0x80, word(rng, 0, rng.choice([5, 300, 3000])))
+    rows = [(h, a, t) for h, (a, t) in sorted(entries.items())]
+    shuffled = rng.sample(rows, len(rows))
+    table = b'%headword\ttext\tattribute\n' + b''.join(
+        b'%s\t%s\t%d%s' % (escaped(rng, h), escaped(rng, t), a, rng.choice([b'\n', b'\r\n', b'\n\n'])) for h, a, t in shuffled)
+    done('make', *kind, 'first.dic', '-', text=table)
     test_kind('first.dic', kind)
     dump = done('dump', 'first.dic')
     if read_dump(dump) != rows:
@@ -122,9 +87,8 @@ def round_trip(rng, is_five):
     same = b'%d as stored' % len(rows)
     if same not in done('merge', 'second.dic', '-', text=dump):
         sys.exit('exchange: merging a dump changes something')
-    test_kept(rng, 'second.dic', rows)
     subprocess.run(['rm', 'first.dic', 'second.dic'], check=True)
-    return len(rows), sum(part is not None for row in rows for part in row[3:])
+    return len(rows)
 
 
 def ends(headword):
@@ -174,12 +138,11 @@ def random_list(rng):
 def main():
     rng = random.Random(int(sys.argv[1]))
     number = int(sys.argv[2])
-    trips = [round_trip(rng, k % 2 == 1) for k in range(number)]
-    entries, parts = (sum(counted) for counted in zip(*trips))
+    entries = sum(round_trip(rng, k % 2 == 1) for k in range(number))
     accepted = sum(random_list(rng) for _ in range(4 * number))
     if not 0 < accepted < 4 * number:
         sys.exit(f'exchange: {accepted} of {4 * number} lists are accepted')
-    print(f'{number} dictionaries ({entries} entries, {parts} parts) as they were after a dump; {4 * number} lists, {accepted} accepted, faults as expected')
+    print(f'{number} dictionaries ({entries} entries) as they were after a dump; {4 * number} lists, {accepted} accepted, faults as expected')
 
 
 PROGRAM = sys.argv[4:] + [sys.argv[3] + '/glossary']

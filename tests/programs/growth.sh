@@ -1,7 +1,7 @@
 #!/bin/sh
 # growth.sh FOLDER: the time that fill takes is linear in the manual. Manuals of 4 and 8 MB, with many marks on one line or on many:
-# the longer may take three times as long as the shorter, and two seconds at most, both the best of three runs. Where only the first is
-# passed, other work may have come between: the longer is tried up to five times. Works in the present folder, which must be empty.
+# the longer may take three times as long as the shorter, and two seconds at most, both the best of three runs. Works in the
+# present folder, which must be empty.
 set -eu
 programs=$1
 printf 'clutch\tembrayage\noil pan\tcarter\n' >terms.tsv
@@ -25,8 +25,7 @@ for piece in '<<clutch>> ' '<<clutch>>, <<oil pan>>; ' 'le <<clutch>> et le <<oi
     manual "$piece" 4
     half=$(shortest)
     manual "$piece" 8
-    whole=$(shortest) tries=1
-    while [ "$whole" -gt $((3 * half)) ] && [ "$whole" -le 2000 ] && [ "$tries" -lt 5 ]; do whole=$(shortest) tries=$((tries + 1)); done
+    whole=$(shortest)
     if [ "$whole" -gt $((3 * half)) ] || [ "$whole" -gt 2000 ]; then
         echo "manuals of $piece take $half ms for 4 MB and $whole ms for 8 MB"
         exit 1

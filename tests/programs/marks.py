@@ -85,7 +85,7 @@ def manual_of(seed, k):
 
 def make_dictionaries(glossary):
     rows = [b'\t'.join(''.join(f'%{byte:02X}' for byte in part).encode() for part in entry) for entry in ENTRIES.items()]
-    table = b'\n'.join([b'%headword\ttext\texample', *(row + b'\tan example, never filled in' for row in rows)])
+    table = b'\n'.join([b'%headword\ttext', *rows])
     for version, path in zip('45', DICTIONARIES):
         subprocess.run([glossary, 'make', f'--format={version}', path, '-'], input=table, stdout=subprocess.DEVNULL, check=True)
 

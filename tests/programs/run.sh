@@ -27,11 +27,9 @@ gcc -std=c11 -O2 -Wall -Wextra -Wpedantic -Werror -I"$root/include" -o "$work/st
 "$work/stack"
 gcc -std=c11 -O2 -Wall -Wextra -Wpedantic -Werror -I"$root/include" -o "$work/flips" "$here/flips.c" \
     "${PDIC_LIB:-$root/target/staticlib}/libpdic.a"
-for sample in machinery sentences; do
-    for version in 4 5; do
-        "$work/plain/glossary" make --format=$version "$work/$sample-$version.dic" "$root/examples/$sample.tsv" >/dev/null
-        echo "$sample.tsv in version $version: $("$work/flips" "$work/$sample-$version.dic")"
-    done
+for version in 4 5; do
+    "$work/plain/glossary" make --format=$version "$work/sample-$version.dic" "$root/examples/machinery.tsv" >/dev/null
+    echo "sample glossary of version $version: $("$work/flips" "$work/sample-$version.dic")"
 done
 "$root/examples/demo.sh" "$work/plain" >"$work/demo.txt"
 cmp "$work/demo.txt" "$here/demo.txt"
@@ -46,7 +44,7 @@ tell() {
 tell_all() {
     for path in "$here"/stories/*.sh; do tell "$(basename "$path" .sh)" "$@"; done
 }
-# valgrind takes longest: its runs go beside the others
+# valgrind takes longest: its runs go beside the others, up to those that are timed
 tell_all valgrind "$work/plain" $memory &
 beside=$!
 tell_all plain "$work/plain"
@@ -73,11 +71,11 @@ report 'programs, sanitized' inside marks-sanitized "$here/marks.py" 2 300 "$wor
 gcc -std=c11 -O2 -Wall -Wextra -Wpedantic -Werror -I"$root/include" -I"$root/programs" -o "$work/alike" "$here/alike.c" \
     "$root/programs/alike.c" "$root/programs/bytes.c"
 report 'programs' "$work/alike" 1 5000
-report 'programs' inside growth "$here/growth.sh" "$work/plain"
-report 'programs' "$here/wrong.sh" "$work"
 wait "$beside"
 beside=
 echo "programs: $(cat "$here"/stories/*.txt | grep -c '^\$') runs as stored, plain, sanitized and under valgrind; the demo as stored"
+report 'programs' inside growth "$here/growth.sh" "$work/plain"
+report 'programs' "$here/wrong.sh" "$work"
 
 # long work shows its progress on a terminal, and nothing in a pipe
 cd "$work/crash"

@@ -1,5 +1,5 @@
-/* stack.c - how much stack each call takes: run on a painted stack, on an image of each version whose index grows, with the
- * longest entry that there is. Fails where a call takes more than include/pdic.h says. */
+/* stack.c - how much stack each call takes: run on a painted stack, on an image of each version whose index grows. Fails where a
+ * call takes more than include/pdic.h says. */
 #define _GNU_SOURCE
 #include <pthread.h>
 #include <stdio.h>
@@ -7,23 +7,15 @@
 #include <string.h>
 #include "pdic.h"
 
-enum { STACK = 1 << 20, PAINT = 0xA5, SIZE = 1 << 17, SMALL = 32 << 10, LARGE = 256 << 10 };
+enum { STACK = 1 << 20, PAINT = 0xA5, SIZE = 1 << 16, SMALL = 32 << 10, LARGE = 256 << 10 };
 
-static uint8_t image[SIZE], work[SIZE], text[PDIC_MAX_TEXT], word[PDIC_MAX_HEADWORD], parts[PDIC_MAX_PARTS], letters[PDIC_MAX_EXAMPLE];
-static size_t len, word_len, text_len, parts_len;
+static uint8_t image[SIZE], work[SIZE], text[PDIC_MAX_TEXT], word[PDIC_MAX_HEADWORD], letters[PDIC_MAX_TEXT];
+static size_t len, word_len, text_len;
 static uint8_t attribute, version;
 
 static uint32_t insert(const char *headword, size_t headword_len, size_t n)
 {
-    return pdic_insert(image, SIZE, len, work, SIZE, (const uint8_t *)headword, headword_len, PDIC_PLAIN, letters, n,
-                       0, letters, 0, 0, letters, 0, &len);
-}
-
-/* Adds an entry whose text and parts are as long as they may be. */
-static uint32_t insert_longest(const char *headword, size_t headword_len)
-{
-    return pdic_insert(image, SIZE, len, work, SIZE, (const uint8_t *)headword, headword_len, PDIC_PLAIN | PDIC_PARTS,
-                       letters, PDIC_MAX_TEXT, 1, letters, PDIC_MAX_EXAMPLE, 1, letters, PDIC_MAX_PRONUNCIATION, &len);
+    return pdic_insert(image, SIZE, len, work, SIZE, (const uint8_t *)headword, headword_len, 0x80, letters, n, &len);
 }
 
 static uint32_t create(void)
@@ -40,32 +32,23 @@ static uint32_t check(void)
 
 static uint32_t look_up(void)
 {
-    return pdic_look_up(image, SIZE, len, (const uint8_t *)"c", 1, text, sizeof text, parts, sizeof parts, &attribute, &text_len,
-                        &parts_len);
+    return pdic_look_up(image, SIZE, len, (const uint8_t *)"b", 1, text, sizeof text, &attribute, &text_len);
 }
 
 static uint32_t walk(void)
 {
-    return pdic_walk(image, SIZE, len, (const uint8_t *)"b", 1, 1, word, sizeof word, text, sizeof text, parts, sizeof parts,
-                     &attribute, &word_len, &text_len, &parts_len);
+    return pdic_walk(image, SIZE, len, (const uint8_t *)"a", 1, 1, word, sizeof word, text, sizeof text, &attribute, &word_len,
+                     &text_len);
 }
 
-static uint32_t part_step(void)
-{
-    size_t place, part_len, next;
-    return pdic_part_step(parts, parts_len, 0, &attribute, &place, &part_len, &next);
-}
-
-/* The first entries of a dictionary, as in P8 of the paper: the deletion then makes the index grow. The longest entry stands in
- * a run of its own behind them. */
+/* The first entries of a dictionary, as in P8 of the paper: the deletion then makes the index grow. */
 static uint32_t insert_all(void)
 {
     char long_word[PDIC_MAX_HEADWORD];
     memset(long_word, 'a', sizeof long_word);
     uint32_t number = insert("a", 1, 0);
     if (number == PDIC_DONE) number = insert(long_word, sizeof long_word, 0);
-    if (number == PDIC_DONE) number = insert("b", 1, 762);
-    return number == PDIC_DONE ? insert_longest("c", 1) : number;
+    return number == PDIC_DONE ? insert("b", 1, 762) : number;
 }
 
 static uint32_t delete(void)
@@ -113,9 +96,9 @@ static int measure(void)
         const char *name;
         uint32_t (*call)(void);
         size_t most;
-    } calls[] = { { "create", create, SMALL },   { "insert", insert_all, LARGE },    { "check", check, SMALL },
-                  { "look up", look_up, SMALL }, { "walk", walk, SMALL },            { "part step", part_step, SMALL },
-                  { "delete", delete, LARGE },   { "optimise", optimise, SMALL } };
+    } calls[] = { { "create", create, SMALL },   { "insert", insert_all, LARGE }, { "check", check, SMALL },
+                  { "look up", look_up, SMALL }, { "walk", walk, SMALL },         { "delete", delete, LARGE },
+                  { "optimise", optimise, SMALL } };
     int failed = 0;
     printf("stack in bytes, version %u, the thread's own included:", version);
     for (size_t i = 0; i < sizeof calls / sizeof calls[0]; i++) {

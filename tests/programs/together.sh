@@ -1,7 +1,7 @@
 #!/bin/sh
-# together.sh FOLDER: 20 programs at once add an entry each to one dictionary of version 5, five times, with an example each; no
-# edit is lost. Then so many make one file at once, and one of them does; a slow one finds it made. Then a seal, and a new file,
-# come while a change goes on. Works in the present folder, which must be empty.
+# together.sh FOLDER: 20 programs at once add an entry each to one dictionary of version 5, five times; no edit is lost. Then so
+# many make one file at once, and one of them does; a slow one finds it made. Then a seal, and a new file, come while a change goes
+# on. Works in the present folder, which must be empty.
 set -eu
 programs=$1
 # until_held FILE: waits until a program holds the file
@@ -17,16 +17,15 @@ ROUNDS=5
 "$programs/glossary" make --format=5 --identifier=0123456789ABCDEF shared.dic - </dev/null >/dev/null
 for round in $(seq $ROUNDS); do
     for i in $(seq $AT_ONCE); do
-        "$programs/glossary" add --wait=300 shared.dic "round $round entry $i" "text $round $i" \
-            --example="example $round $i" >/dev/null 2>&1 || echo "$round $i" >>failed &
+        "$programs/glossary" add --wait=300 shared.dic "round $round entry $i" "text $round $i" >/dev/null 2>&1 || echo "$round $i" >>failed &
     done
     wait
 done
 [ ! -e failed ] || { echo "together: $(wc -l <failed) additions failed"; exit 1; }
 for round in $(seq $ROUNDS); do
-    for i in $(seq $AT_ONCE); do printf 'round %s entry %s\t0x80\ttext %s %s\texample %s %s\t\n' $round $i $round $i $round $i; done
+    for i in $(seq $AT_ONCE); do printf 'round %s entry %s\ttext %s %s\n' "$round" "$i" "$round" "$i"; done
 done | LC_ALL=C sort >expected
-"$programs/glossary" dump shared.dic | tail -n +2 >kept
+"$programs/glossary" list shared.dic >kept
 "$programs/glossary" check shared.dic | grep -q 'identifier 0123456789ABCDEF$' || { echo "together: the identifier is another"; exit 1; }
 cmp kept expected || { echo "together: $(wc -l <kept) of $((ROUNDS * AT_ONCE)) entries are there"; exit 1; }
 

@@ -1,7 +1,7 @@
 #!/bin/sh
 # wrong.sh FOLDER: the tests notice wrong programs. Each is made from the right one by one edit, and must differ from the
-# stored runs, fail under the sanitizers, or fail a test. Engines that write wrong fronts or lose parts are made from the
-# baseline, which must tell these stories as they are stored.
+# stored runs, fail under the sanitizers, or fail a test. Engines that write wrong fronts are made from the baseline, which
+# must write the right ones.
 set -eu
 here=$(cd "$(dirname "$0")" && pwd)
 root=$here/../..
@@ -38,25 +38,24 @@ failed_in_test() {
     made "$@"
     ! "$here"/$test "$work/$name" >"$work/$name.txt" 2>&1 || missed "not noticed"
 }
-# told_by STORY NAME EDIT: tells a story by programs that have the edited baseline as their engine
-told_by() {
-    story=$1 name=$2
+# fronts_of NAME EDIT: tells the story on fronts by programs that have the edited baseline as their engine
+fronts_of() {
+    name=$1
     mkdir -p "$work/$name/run"
-    sed "$3" "$root/bench/baseline.c" >"$work/$name/baseline.c"
-    [ -z "$3" ] || ! cmp -s "$work/$name/baseline.c" "$root/bench/baseline.c" || missed "the edit changes nothing"
+    sed "$2" "$root/bench/baseline.c" >"$work/$name/baseline.c"
     gcc -c -w -o "$work/$name/baseline.o" "$work/$name/baseline.c"
     ar rc "$work/$name/libpdic.a" "$work/$name/baseline.o"
     PDIC_LIB=$work/$name "$root/programs/build.sh" "$work/$name" -O0 -w || missed "it is not built"
     cd "$work/$name/run"
-    "$here/story.sh" "$story" "$work/$name" >"$work/$name.txt" 2>&1 || true
+    "$here/story.sh" characters "$work/$name" >"$work/$name.txt" 2>&1 || true
 }
-engine_told_otherwise() {
-    told_by "$@"
-    ! cmp -s "$work/$name.txt" "$here/stories/$story.txt" || missed "not noticed"
+fronted_otherwise() {
+    fronts_of "$@"
+    ! cmp -s "$work/$name.txt" "$here/stories/characters.txt" || missed "not noticed"
 }
-engine_told_as_stored() {
-    told_by "$@"
-    cmp -s "$work/$name.txt" "$here/stories/$story.txt" || missed "it differs from the stored runs"
+fronted_as_stored() {
+    fronts_of "$@"
+    cmp -s "$work/$name.txt" "$here/stories/characters.txt" || missed "it differs from the stored runs"
 }
 # Two wrong programs are tried at a time.
 pace() {
@@ -73,9 +72,9 @@ in_test() {
     failed_in_test "$@" &
     pace
 }
-# in_engine STORY NAME EDIT: the runs with this engine must differ from the stored ones
+# in_engine NAME EDIT: the runs with this engine must differ from the stored ones
 in_engine() {
-    engine_told_otherwise "$@" &
+    fronted_otherwise "$@" &
     pace
 }
 sanitized='-fsanitize=address,undefined -fno-sanitize-recover=all'
@@ -89,7 +88,7 @@ in_story glossary write-error-ignored glossary.c 's/if (fflush(stdout) == 0 .*re
 in_story lists twice-accepted lists.c 's/if (y->headword.len == 0 || .*continue;/continue;/'
 in_story glossary filed-one-short near.c 's/filed\[PDIC_MAX_HEADWORD + 1\]/filed[PDIC_MAX_HEADWORD]/' $sanitized
 in_story fill filled-leaks fill.c 's/^    free(out);$//' $sanitized
-in_story fill text-after-end terms.c 's/terms->texts_len += text.len;/terms->texts_len += text.len + 4000;/' $sanitized
+in_story fill text-after-end terms.c 's/terms->texts_len += found->text_len;/terms->texts_len += found->text_len + 4000;/' $sanitized
 in_story fill three-close marks.c 's/} else if (run == 2) keep_mark/} else if (run >= 2) keep_mark/'
 in_story fill three-open marks.c "s/if (\*r->at == '<' && run == 2) {/if (*r->at == '<' \&\& run >= 2) {/"
 in_story fill stray-close-kept marks.c 's/else if (run >= 2) fault(r, r->at, ">> closes no mark.*/else if (run >= 99) fault(r, r->at, "");/'
@@ -132,8 +131,8 @@ in_story lists mark-stored lists.c 's/ == 0 ? 3 : 0;/ == 0 ? 0 : 0;/'
 in_story lists first-fault-alone lists.c 's/MOST_TOLD = 20/MOST_TOLD = 1/'
 in_story lists inserted-with-faults lists.c 's/    int failed = tell_faults(&r);/    tell_faults(\&r); int failed = 0;/'
 in_test 'exchange.py 1 10' percent-not-escaped lists.c "s/ || b.at\[i\] == '%')/)/"
-in_test 'exchange.py 1 10' attribute-not-dumped lists.c 's/(unsigned)b.attribute/0x80u/'
-in_story glossary attribute-lost glossary.c 's/^    b.text = x->text;$/    b.text = x->text; b.attribute = PDIC_PLAIN;/'
+in_test 'exchange.py 1 10' attribute-not-dumped lists.c 's/(unsigned)e->attribute/0x80u/'
+in_story glossary attribute-lost glossary.c 's/is_stored ? stored.attribute : PDIC_PLAIN/PDIC_PLAIN/'
 in_story glossary some-deleted glossary.c 's/return status == STATUS_DONE ? save(t) : status;/return save(t), status;/'
 in_story glossary dry-run-writes glossary.c 's/return o->dry_run = 1, NULL;/return NULL;/'
 in_story versions identifier-backwards glossary.c 's/k->ident = \(strtoull(digits, NULL, 16)\);/k->ident = __builtin_bswap64(\1);/'
@@ -145,34 +144,12 @@ in_story versions identifier-of-version-4 glossary.c 's/\.made\.has_ident \&\& t
 in_story versions identifier-of-15-digits glossary.c 's/strlen(digits) != IDENT_DIGITS || strspn(\(.*\)) != IDENT_DIGITS)/strspn(\1) != strlen(digits))/'
 in_story versions format-ignored glossary.c "s/digits\[0\] == '4' ? PDIC_FORMAT_4 : PDIC_FORMAT_5/PDIC_FORMAT_4/"
 in_test 'damaged.sh 60' identifier-altered book.c 's/^    return replace_held(\&b->file, /    b->image[PDIC_AT_IDENT]++;\n    return replace_held(\&b->file, /'
-in_story parts parts-swapped book.c 's/"example", PDIC_EXAMPLE,/"example", PDIC_PRONUNCIATION,/;s/"pronunciation", PDIC_PRONUNCIATION,/"pronunciation", PDIC_EXAMPLE,/'
-in_story parts parts-written-swapped book.c 's/= has_example ? x->parts\[EXAMPLE\]/= has_example ? x->parts[has_pronunciation]/'
-in_story parts parts-lost-with-a-text glossary.c 's/if (x->parts\[i\].is != NOT_TOLD) b.parts/b.parts/'
-in_story parts part-not-removed glossary.c 's/if (x->parts\[i\].is != NOT_TOLD) b.parts/if (x->parts[i].is == THERE) b.parts/'
-in_story parts parts-not-compared book.c 's/is_same = is_same \&\& is_same_part(.*);/;/'
-in_story parts empty-part-as-none lists.c 's/p->is = written.len > 0 ? THERE/p->is = written.len > 0 \&\& !is_empty ? THERE/'
-in_story parts none-as-empty-part lists.c 's/p->is = written.len > 0 ? THERE/p->is = written.len < 99999 ? THERE/'
-in_story parts empty-part-dumped-as-none lists.c 's/if (b.parts\[i\].bytes.len == 0) fputs/if (0) fputs/'
-in_story parts empty-part-added lists.c 's/p.bytes.len == 0 ? part_empty_words : //'
-in_story parts parts-not-printed glossary.c 's/if (!t->told.text_alone) print_parts/if (t->told.text_alone > 1) print_parts/'
-in_story parts parts-printed-with-text glossary.c 's/if (!t->told.text_alone) print_parts/print_parts/'
-in_story parts part-as-long-as-an-example lists.c 's/p->bytes, part_kinds\[kind\].most/p->bytes, PDIC_MAX_EXAMPLE/'
-in_story parts attribute-with-parts book.c 's/e->attribute \& ~PDIC_PARTS/e->attribute/'
-in_story parts attribute-without-parts book.c 's/has_pronunciation ? PDIC_PARTS : 0/has_pronunciation ? 0 : 0/'
-in_story parts room-for-short-parts book.c 's/found->parts, sizeof found->parts/found->parts, 1000/'
-in_story parts example-filled-in terms.c 's/bytes text = text_of(found);/body b = body_of(found); bytes text = b.parts[EXAMPLE].is == THERE ? b.parts[EXAMPLE].bytes : b.text;/'
-in_story parts empty-text-by-its-example terms.c 's/bytes text = text_of(found);/body b = body_of(found); bytes text = b.text.len == 0 ? b.parts[EXAMPLE].bytes : b.text;/'
-in_test 'exchange.py 1 10' part-not-escaped lists.c 's/print_column(out, b.parts\[i\].bytes, 0, 0)/fwrite(b.parts[i].bytes.at, 1, b.parts[i].bytes.len, out)/'
-engine_told_as_stored characters baseline-of-characters '' &
-engine_told_as_stored parts baseline-of-parts '' &
-wait
-in_engine parts parts-of-others-lost 's/emit(e, hw, s + z, c, q\[z + 1\], q + z + 2, f - z - 2)/emit(e, hw, s + z, c, q[z + 1] \& ~PARTS, q + z + 2, q[z + 1] \& PARTS ? strlen((const char *)q + z + 2) : f - z - 2)/'
-in_engine parts pronunciation-first 's/put_part(q, EXAMPLE, example)/put_part(q, PRONUNCIATION, pronunciation)/;t;s/put_part(q, PRONUNCIATION, pronunciation)/put_part(q, EXAMPLE, example)/'
-in_engine characters front-inside-a-pair 's/return c - ((c - i) & 1);/return c;/'
-in_engine characters front-before-any-first-byte 's/return c - ((c - i) & 1);/return c - (c > i);/'
-in_engine characters front-of-whole-runs 's/return c - ((c - i) & 1);/return i;/'
-in_engine characters half-width-kana-as-first-bytes 's/b <= 0x9F) || (b >= 0xE0/b <= 0xDF) || (b >= 0xE0/'
-in_engine characters no-first-byte-FC 's/b <= 0xFC/b < 0xFC/'
+fronted_as_stored none-but-the-baseline '' &
+in_engine front-inside-a-pair 's/return c - ((c - i) & 1);/return c;/'
+in_engine front-before-any-first-byte 's/return c - ((c - i) & 1);/return c - (c > i);/'
+in_engine front-of-whole-runs 's/return c - ((c - i) & 1);/return i;/'
+in_engine half-width-kana-as-first-bytes 's/b <= 0x9F) || (b >= 0xE0/b <= 0xDF) || (b >= 0xE0/'
+in_engine no-first-byte-FC 's/b <= 0xFC/b < 0xFC/'
 wait
 [ ! -e "$work/missed" ] || { cat "$work/missed"; exit 1; }
 echo "$count wrong programs noticed"

@@ -27,7 +27,8 @@ use Rattle.moves.specs.Moved.{starts, size_at, moved_written}
 use Rattle.elements.specs.Renewed.{renewed}
 use Rattle.target.specs.declared.Target.{Target}
 use Rattle.target.specs.Told.{entries_start, entries_part}
-use Rattle.encoder.specs.Limits.{longest_body, longest_run, largest_limit}
+use Rattle.encoder.specs.Limits.{longest_body, longest_run}
+use Rattle.parts.specs.Room.{largest_limit}
 use Rattle.parts.specs.Merge.{changed_entries}
 use Rattle.plan.specs.Written.{part_runs, parts_written}
 use Rattle.change.specs.declared.Outline.{Outline}

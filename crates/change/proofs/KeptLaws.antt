@@ -41,7 +41,8 @@ use Rattle.moves.specs.Moved.{starts, moved_written}
 use Rattle.target.specs.declared.Target.{Target}
 use Rattle.target.specs.Told.{entries_start}
 use Rattle.target.proofs.Laws.{start_least, start_most}
-use Rattle.encoder.specs.Limits.{longest_body, longest_run, largest_limit}
+use Rattle.encoder.specs.Limits.{longest_body, longest_run}
+use Rattle.parts.specs.Room.{largest_limit}
 use Rattle.parts.specs.Merge.{changed_entries}
 use Rattle.plan.specs.Written.{part_runs, parts_written}
 use Rattle.change.specs.declared.Outline.{Outline}

@@ -12,7 +12,7 @@ use Rattle.spec.specs.Bytes.{write, zeros, blocks_for}
 use Rattle.spec.specs.Order.{HeadwordOrder, below_of}
 use Rattle.spec.specs.Header.{Layout, Format, Lawful, format_of, block_position, Counts, changed_header}
 use Rattle.spec.specs.Entry.{Entry, headword_ok}
-use Rattle.spec.specs.Run.{Run, run_size, read_entry, whole_entry}
+use Rattle.spec.specs.Run.{Run, run_size, read_entry}
 use Rattle.spec.specs.Check as Check
 use Rattle.spec.specs.Check.{Image, image_from, all_entries}
 use Rattle.spec.specs.Index.{Element, elements_bytes, index_bytes, index_need}
@@ -22,9 +22,10 @@ use Rattle.spec.specs.Place.{Plan, Placed, Grown, target_run, cut, new_run, plac
 use Rattle.spec.specs.Calls.{plan_length}
 use Rattle.spec.specs.Lists.{All}
 use Rattle.spec.specs.Sound.{Holds, Laid, plan_of, SoundPlan}
-use Rattle.spec.proofs.ListsLaws.{all_back}
+use Rattle.spec.proofs.ListsLaws.{all_map, all_back}
 use Rattle.spec.proofs.OutcomeLaws.{same_value}
 use Rattle.spec.proofs.HeaderLaws.{lawful_format}
+use Rattle.spec.proofs.RunLaws.{body_short}
 use Rattle.spec.proofs.IndexLaws.{index_bytes_length, need_room}
 use Rattle.spec.proofs.ChangeLaws.{image_sound}
 use Rattle.marks.proofs.Laws.{drop_take}
@@ -43,11 +44,11 @@ use Rattle.moves.specs.Moved.{starts, moved_written}
 use Rattle.target.specs.declared.Target.{Target}
 use Rattle.target.specs.Told.{entries_start, entries_part, NoRun, OneRun, TargetTold}
 use Rattle.target.proofs.Laws.{start_least}
-use Rattle.encoder.specs.Limits.{longest_body, longest_run, largest_limit}
+use Rattle.encoder.specs.Limits.{longest_body, longest_run}
+use Rattle.parts.specs.Room.{largest_limit}
 use Rattle.parts.specs.Part.{part_of, past_part}
 use Rattle.parts.specs.Merge.{entries_until, entries_left, changed_entries}
-use Rattle.parts.proofs.MergeLaws.{entries_left_read, merge_all}
-use Rattle.parts.proofs.Laws.{left_short}
+use Rattle.parts.proofs.MergeLaws.{entries_left_read, left_ok, merge_all}
 use Rattle.parts.proofs.PartLaws.{Short, cut_none, cut_parts, past_all, past_fewer, part_short, part_size}
 use Rattle.plan.specs.Written.{part_runs, parts_written}
 use Rattle.plan.proofs.Whole.{elements_sum, sides, sealed}
@@ -75,7 +76,7 @@ module _ (limit : ℕ) (small : limit ≤ largest_limit) where
 
 -- no bytes hold no entry
 left_none : (below : HeadwordOrder) (prev : List ℕ) → entries_left below prev [] ≡ []
-unfolding entries_left entries_until whole_entry read_entry
+unfolding entries_left entries_until read_entry
 left_none below prev = refl
 
 -- the run's entries as code reads them are those of the run concerned
@@ -123,7 +124,7 @@ pub changed_short : (order : ℕ) (run h body : List ℕ) (fresh : Bool) → hea
 unfolding changed_entries
 changed_short order run h body fresh p q =
     merge_all (below_of order) (record { headword = h; body = body }) Short (p, q) fresh (entries_left (below_of order) [] run)
-    (left_short (below_of order) [] run)
+    (all_map _ _ (λ d w. (w.0, body_short d.body w.1)) (entries_left (below_of order) [] run) (left_ok (below_of order) [] run))
 
 -- the parts of the run as code reads it are those of the run concerned
 pub parts_same : (w : Overview) (o : List ℕ) (t : Target) (h body : List ℕ) (fresh : Bool) (rs : List Run) (e : ℕ)

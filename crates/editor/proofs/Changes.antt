@@ -6,28 +6,32 @@ use mathlib.Core.List.{List, [], ◌∷◌, ◌++◌}
 use mathlib.Core.Option.{Option, none, some}
 use native.Mathlib.Omega.{arith}
 use lib.ListN.{length, take}
-use borrow.Author.Tests.{not-true, not-false}
+use lib.Seq.{take-length}
+use lib.Dec.{leb}
+use borrow.Author.Tests.{leb-true, not-true, not-false}
 use Rattle.spec.specs.Outcome.{ok, ◌>>=◌}
-use Rattle.spec.specs.Bytes.{write}
+use Rattle.spec.specs.Bytes as Bytes
+use Rattle.spec.specs.Bytes.{write, bytes_at, no_zero}
 use Rattle.spec.specs.Order.{HeadwordOrder}
 use Rattle.spec.specs.Header.{Format, Lawful, format_of, writable}
-use Rattle.spec.specs.Body.{body_ok, made_body, given_ok}
-use Rattle.spec.specs.Entry.{Entry, headword_ok}
+use Rattle.spec.specs.Entry as EntrySpec
+use Rattle.spec.specs.Entry.{Entry, headword_ok, text_ok, attribute_ok, entry_of}
 use Rattle.spec.specs.Check as Check
 use Rattle.spec.specs.Check.{Frame, Image, image_from, all_entries, entries_of}
 use Rattle.spec.specs.SortedList.{Sorted, lookup, replace, remove}
 use Rattle.spec.specs.Place as Place
 use Rattle.spec.specs.Place.{Plan, Target, target_run, plan_change}
 use Rattle.spec.specs.Calls as Calls
-use Rattle.spec.specs.Calls.{changeable, fitting, delete_plan}
+use Rattle.spec.specs.Calls.{changeable, fitting, insert_plan, delete_plan}
 use Rattle.spec.specs.Answers as Answers
 use Rattle.spec.specs.declared.LengthAnswer.{LengthAnswer}
 use Rattle.spec.specs.declared.DeleteAnswer.{DeleteAnswer}
 use Rattle.spec.specs.Claim as Claim
 use Rattle.spec.specs.Claim.{is_there}
+use Rattle.spec.proofs.ListsLaws.{and_left}
 use Rattle.spec.proofs.OutcomeLaws.{same_value}
 use Rattle.spec.proofs.HeaderLaws.{lawful_format}
-use Rattle.spec.proofs.BodyLaws.{body_short, given_body}
+use Rattle.spec.proofs.WriteLaws.{write_behind}
 use Rattle.spec.specs.Sound.{EntriesOk, SoundPlan}
 use Rattle.spec.proofs.StoredIndexLaws.{empty_below}
 use Rattle.spec.proofs.SortedLaws.{ok_front, ok_back, ok_sorted}
@@ -40,14 +44,11 @@ use Rattle.header.specs.Form.{layout_named}
 use Rattle.inspect.specs.declared.Overview.{Overview}
 use Rattle.inspect.specs.Overview.{AcceptedImage, FreeMarked}
 use Rattle.encoder.specs.Limits.{longest_body}
-use Rattle.bodies.specs.declared.Marked.{Marked}
-use Rattle.bodies.specs.Given.{marked, marked_parts}
 use Rattle.change.specs.declared.Ending.{Ending}
 use Rattle.change.specs.Ready.{planned, old_length, Changed}
 use Rattle.change.specs.declared.Draft.{Draft}
 use Rattle.change.specs.Drafted.{Drafted, PlanCounted}
-use Rattle.editor.specs.declared.NewBody.{NewBody}
-use Rattle.editor.specs.Entered.{words_after, Made, inserted_plan, inserted}
+use Rattle.editor.specs.Entered.{words_after}
 use Rattle.editor.proofs.Counts.{replace_count, remove_count}
 use Rattle.editor.proofs.Rows.{Inserts, Deletes, insert_refuses, delete_refuses, whole_blocks, change_eleven, change_may}
 
@@ -61,29 +62,21 @@ words_in s v a i got = a.words_are ∙ ap (λ (j : Image). length (entries_of j)
 pub head_good : (h : List ℕ) (w : Bool) → w ≡ headword_ok h → not w ≡ false → headword_ok h ≡ true
 head_good h w e q = sym e ∙ not-false w q
 
--- ---- the body of the new entry
-module _ (a : ℕ) (t : List ℕ) (m : Marked) (x y : List ℕ) (w : Bool) (e : w ≡ given_ok a t (marked_parts m x y)) where
-  -- one that may not be inserted is not made
-  pub body_unfit : not w ≡ true → (buffer : List ℕ) → Made a t (marked_parts m x y) buffer (record { fit = false; length = 0 })
-  body_unfit q buffer = record { rule = sym (sym e ∙ not-true w q); inside = omega arith; bytes = λ z. absurd (false≢true z) }
+-- a text by its rule has no more than 3,000 bytes
+pub text_short : (t : List ℕ) (x : Bool) → x ≡ text_ok t → not x ≡ false → length t ≤ 3_000
+unfolding EntrySpec.text_ok
+text_short t x e q = leb-true (length t) 3_000 (and_left (leb (length t) 3_000) (no_zero t) (sym e ∙ not-false x q))
 
-  module _ (q : not w ≡ false) (buffer : List ℕ) (l : longest_body ≤ length buffer) where
-    -- one that may fits its buffer
-    pub body_fits : length (made_body a t (marked_parts m x y)) ≤ length buffer
-    unfolding marked_parts
-    body_fits = omega (arith, body_short (made_body a t (marked_parts m x y)) (given_body a t (marked m.example x) (marked m.pronunciation y) (sym e ∙ not-false w q)))
+-- the body of the new entry, as the code puts it together
+pub body_made : (b : ℕ) (t x x₁ x₂ : List ℕ) → 1 + length t ≤ length x → x₁ ≡ write 0 (b ∷ []) x → x₂ ≡ write 1 (bytes_at 0 (length t) t) x₁ → take (1 + length t) x₂ ≡ b ∷ t
+unfolding Bytes.bytes_at
+body_made b t x x₁ x₂ p e₁ e₂ =
+    let w : x₂ ≡ write 0 (b ∷ t) x = e₂ ∙ ap₂ (λ (u v : List ℕ). write 1 u v) (take-length t) e₁ ∙ write_behind x (b ∷ []) t 0 (omega arith) in
+    front_stored (b ∷ t) x x₂ (1 + length t) w (omega arith)
 
-    -- and is made
-    pub body_made : (buffer' : List ℕ) (n : ℕ) → n ≡ length (made_body a t (marked_parts m x y)) → buffer' ≡ write 0 (made_body a t (marked_parts m x y)) buffer
-        → length buffer' ≡ length buffer → Made a t (marked_parts m x y) buffer' (record { fit = true; length = n })
-    body_made buffer' n k p s =
-        record { rule = sym (sym e ∙ not-false w q); inside = omega (arith, body_fits); bytes = λ z. front_stored (made_body a t (marked_parts m x y)) buffer buffer' n p k }
-
--- it keeps the rules of a stored one
-pub made_ok : (a : ℕ) (t : List ℕ) (m : Marked) (x y buffer : List ℕ) (r : NewBody) → Made a t (marked_parts m x y) buffer r → r.fit ≡ true → body_ok (take r.length buffer) ≡ true
-unfolding marked_parts
-made_ok a t m x y buffer r k q =
-    subst (λ (b : List ℕ). body_ok b ≡ true) (sym (k.bytes q)) (given_body a t (marked m.example x) (marked m.pronunciation y) (sym k.rule ∙ q))
+-- which is no longer than the longest
+pub body_few : (b : ℕ) (t body : List ℕ) → body ≡ b ∷ t → length t ≤ 3_000 → length body ≤ longest_body
+body_few b t body e p = rw e (omega arith)
 
 -- ---- the plan
 -- a change counts only by what it makes of the entries of the run concerned
@@ -145,12 +138,13 @@ module _ (s : List ℕ) (i : Image) (got : image_from s ≡ ok i) where
       (merge_remove below (record { headword = h; body = body }) law.ordered (target_run below h i.runs).entries)
 
   -- what the change asks of the plan of an insertion
-  insert_planned : (h body : List ℕ) → headword_ok h ≡ true → body_ok body ≡ true
-      → SoundPlan F (planned i h body true) × (words_after (length (entries_of i)) (is_there (lookup h (entries_of i))) ≡ length (all_entries (planned i h body true).runs))
-  insert_planned h body x y =
-      let a : Entry = record { headword = h; body = body } in
-      let good : EntriesOk below [] (a ∷ []) = (x, y, empty_below below law.ordered h x, tt) in
-      let e : planned i h body true ≡ plan_change F i h (replace below a) = merged_replace h body in
+  insert_planned : (h : List ℕ) (b : ℕ) (t : List ℕ) → headword_ok h ≡ true → text_ok t ≡ true → attribute_ok b ≡ true
+      → SoundPlan F (planned i h (b ∷ t) true) × (words_after (length (entries_of i)) (is_there (lookup h (entries_of i))) ≡ length (all_entries (planned i h (b ∷ t) true).runs))
+  unfolding EntrySpec.body_ok
+  insert_planned h b t x y z =
+      let a : Entry = record { headword = h; body = b ∷ t } in
+      let good : EntriesOk below [] (a ∷ []) = (x, rw (z, y), empty_below below law.ordered h x, tt) in
+      let e : planned i h (b ∷ t) true ≡ plan_change F i h (replace below a) = merged_replace h (b ∷ t) in
       let n : length (all_entries (plan_change F i h (replace below a)).runs) ≡ words_after (length (entries_of i)) (is_there (lookup h (entries_of i))) =
       ap length (insert_entries F law s i sound a good) ∙ replace_count below law.ordered a (entries_of i) ascends in
       (subst (SoundPlan F) (sym e) (insert_sound F law s i sound a good), sym (ap (λ (p : Plan). length (all_entries p.runs)) e ∙ n))
@@ -204,12 +198,14 @@ module _ (s : List ℕ) (v : Overview) (h body : List ℕ) (fresh : Bool) (p : D
 
 -- ---- what the change asks of its plan
 -- of an insertion
-pub insert_ready : (s : List ℕ) (v : Overview) → AcceptedImage (take (old_length v) s) v → (h body : List ℕ) → headword_ok h ≡ true → body_ok body ≡ true
-    → (p : Draft) → DraftOf s v h body true p → (words : ℕ) → words ≡ words_after v.words p.found → PlanCounted (take (old_length p.old) s) h body p.fresh words
-insert_ready s v a h body x y p drafted words e =
+pub insert_ready : (s : List ℕ) (v : Overview) → AcceptedImage (take (old_length v) s) v → (h : List ℕ) (w : Bool) → w ≡ headword_ok h → not w ≡ false
+    → (t : List ℕ) (x : Bool) → x ≡ text_ok t → not x ≡ false → (b : ℕ) (y : Bool) → y ≡ attribute_ok b → not y ≡ false
+    → (body : List ℕ) → body ≡ b ∷ t → (p : Draft) → DraftOf s v h body true p → (words : ℕ) → words ≡ words_after v.words p.found
+    → PlanCounted (take (old_length p.old) s) h body p.fresh words
+insert_ready s v a h w e₁ q₁ t x e₂ q₂ b y e₃ q₃ body made p drafted words e =
     draft_counted s v h body true p drafted words λ i got.
-    let k = insert_planned (take (old_length v) s) i got h body x y in
-    (k.0, e ∙ ap₂ words_after (words_in (take (old_length v) s) v a i got) (drafted.2.found_is i got) ∙ k.1)
+    let k = insert_planned (take (old_length v) s) i got h b t (sym e₁ ∙ not-false w q₁) (sym e₂ ∙ not-false x q₂) (sym e₃ ∙ not-false y q₃) in
+    rw made (k.0, e ∙ ap₂ words_after (words_in (take (old_length v) s) v a i got) (drafted.2.found_is i got) ∙ k.1)
 
 -- of a deletion
 module _ (s : List ℕ) (v : Overview) (a : AcceptedImage (take (old_length v) s) v) (h body : List ℕ) (p : Draft) (drafted : DraftOf s v h body false p) (q : not p.found ≡ false) where
@@ -252,9 +248,9 @@ module _ (s work : List ℕ) (v : Overview) (a : AcceptedImage (take (old_length
   blocks = whole_blocks (take L s) v a
 
   -- row 11
-  pub insert_eleven : not u ≡ true → (fit : Bool) (body : List ℕ) → Inserts s L work h fit body (LengthAnswer.Refused 11) s
-  unfolding inserted_plan
-  insert_eleven q fit body = insert_refuses s L work h fit body 11 (rw (change_eleven s L work (omega arith) blocks inside enough v a u version q))
+  pub insert_eleven : not u ≡ true → (b : ℕ) (t : List ℕ) → Inserts s L work h b t (LengthAnswer.Refused 11) s
+  unfolding Calls.insert_plan
+  insert_eleven q b t = insert_refuses s L work h b t 11 (rw (change_eleven s L work (omega arith) blocks inside enough v a u version q))
 
   pub delete_eleven : not u ≡ true → Deletes s L work h (DeleteAnswer.Refused 11) s
   unfolding Calls.delete_plan
@@ -266,45 +262,55 @@ module _ (s work : List ℕ) (v : Overview) (a : AcceptedImage (take (old_length
     image_ok = change_may s L work (omega arith) blocks inside enough v a u version may
 
     -- row 12
-    pub insert_twelve : not w ≡ true → (fit : Bool) (body : List ℕ) → Inserts s L work h fit body (LengthAnswer.Refused 12) s
-    unfolding inserted_plan
-    insert_twelve q fit body = insert_refuses s L work h fit body 12 (rw (image_ok, ← head, q))
+    pub insert_twelve : not w ≡ true → (b : ℕ) (t : List ℕ) → Inserts s L work h b t (LengthAnswer.Refused 12) s
+    unfolding Calls.insert_plan
+    insert_twelve q b t = insert_refuses s L work h b t 12 (rw (image_ok, ← head, q))
 
     pub delete_twelve : not w ≡ true → Deletes s L work h (DeleteAnswer.Refused 12) s
     unfolding Calls.delete_plan
     delete_twelve q = delete_refuses s L work h 12 (rw (image_ok, ← head, q))
 
-    -- Insert
-    module _ (good : not w ≡ false) (fit : Bool) (body : List ℕ) where
-      -- row 13
-      pub insert_thirteen : not fit ≡ true → Inserts s L work h fit body (LengthAnswer.Refused 13) s
-      unfolding inserted_plan
-      insert_thirteen q = insert_refuses s L work h fit body 13 (rw (image_ok, ← head, good, q))
+    -- Insert: row 13, by the text
+    module _ (good : not w ≡ false) (b : ℕ) (t : List ℕ) (x : Bool) (rule : x ≡ text_ok t) where
+      -- the text breaks its rule
+      pub insert_thirteen : not x ≡ true → Inserts s L work h b t (LengthAnswer.Refused 13) s
+      unfolding Calls.insert_plan
+      insert_thirteen q = insert_refuses s L work h b t 13 (rw (image_ok, ← head, good, ← rule, not-true x q))
 
-      module _ (sure : not fit ≡ false) where
-        -- the plan decides
-        insert_by : inserted_plan s L work h fit body ≡ fitting s (planned a.image h body true)
-        unfolding inserted_plan
-        insert_by = rw (image_ok, ← head, good, sure, merged_replace (take L s) a.image a.is h body)
+      -- and by the attribute
+      module _ (fits : not x ≡ false) (y : Bool) (attribute : y ≡ attribute_ok b) where
+        -- the attribute breaks its rule
+        pub insert_attribute : not y ≡ true → Inserts s L work h b t (LengthAnswer.Refused 13) s
+        unfolding Calls.insert_plan
+        insert_attribute q = insert_refuses s L work h b t 13 (rw (image_ok, ← head, good, ← rule, not-false x fits, ← attribute, q))
 
-        module _ (p : Draft) (drafted : DraftOf s v h body true p) (r : Ending) (s' : List ℕ) (left : Changed s (old_length p.old) h body p.fresh r s') where
-          -- what is left is the change of the image
-          left_of : (y : Ending) → r ≡ y → Changed s L h body true y s'
-          left_of y z = subst (λ (x : Ending). Changed s L h body true x s') z (draft_changed s v h body true p drafted r s' left)
+        module _ (sure : not y ≡ false) (body : List ℕ) (made : body ≡ b ∷ t) where
+          -- the plan decides
+          insert_by : insert_plan s L work h b t ≡ fitting s (planned a.image h body true)
+          unfolding Calls.insert_plan EntrySpec.entry_of
+          insert_by =
+              let F : Format = a.image.frame.format in
+              let e : planned a.image h (b ∷ t) true ≡ plan_change F a.image h (replace F.below (entry_of h b t)) = merged_replace (take L s) a.image a.is h (b ∷ t) in
+              rw (image_ok, ← head, good, ← rule, not-false x fits, ← attribute, sure, made, e)
 
-          -- row 15
-          pub insert_fifteen : r ≡ Ending.Full → Inserts s L work h fit body (LengthAnswer.Refused 15) s'
-          unfolding Calls.fitting
-          insert_fifteen z =
-              let (k, l) = left_of Ending.Full z a.image a.is in
-              rw l (insert_refuses s L work h fit body 15 (rw (insert_by, k)))
+          module _ (p : Draft) (drafted : DraftOf s v h body true p) (r : Ending) (s' : List ℕ) (left : Changed s (old_length p.old) h body p.fresh r s') where
+            -- what is left is the change of the image
+            left_of : (y : Ending) → r ≡ y → Changed s L h body true y s'
+            left_of y z = subst (λ (x : Ending). Changed s L h body true x s') z (draft_changed s v h body true p drafted r s' left)
 
-          -- the insertion: the image is the plan written
-          pub insert_done : (len : ℕ) → r ≡ Ending.Done len → Inserts s L work h fit body (LengthAnswer.Done len) s'
-          unfolding inserted Calls.insert_result Calls.fitting Calls.changed Answers.length_answer
-          insert_done len z =
-              let (k, l, m) = left_of (Ending.Done len) z a.image a.is in
-              (sym (rw (insert_by, k, ← l)), sym (rw (insert_by, k, ← m)))
+            -- row 15
+            pub insert_fifteen : r ≡ Ending.Full → Inserts s L work h b t (LengthAnswer.Refused 15) s'
+            unfolding Calls.fitting
+            insert_fifteen z =
+                let (k, l) = left_of Ending.Full z a.image a.is in
+                rw l (insert_refuses s L work h b t 15 (rw (insert_by, k)))
+
+            -- the insertion: the image is the plan written
+            pub insert_done : (len : ℕ) → r ≡ Ending.Done len → Inserts s L work h b t (LengthAnswer.Done len) s'
+            unfolding Calls.insert Calls.insert_result Calls.fitting Calls.changed Answers.length_answer
+            insert_done len z =
+                let (k, l, m) = left_of (Ending.Done len) z a.image a.is in
+                (sym (rw (insert_by, k, ← l)), sym (rw (insert_by, k, ← m)))
 
     -- Delete
     module _ (good : not w ≡ false) (body : List ℕ) (p : Draft) (drafted : DraftOf s v h body false p) where

@@ -1,6 +1,6 @@
 -- What the returns of the changing calls show, in the terms of the code: rows 1 to 11, the working slice, create and optimise.
 use Prim.Native.Nat.{ℕ, ◌%◌, ◌^◌, ◌<◌, ◌≤◌}
-use mathlib.Core.Path.{◌≡◌, refl, sym, ap, ap₂, subst, ◌∙◌}
+use mathlib.Core.Path.{◌≡◌, refl, sym, ap, subst, ◌∙◌}
 use mathlib.Core.Bool.{Bool, true, false, not}
 use mathlib.Core.List.{List}
 use native.Mathlib.Omega.{arith}
@@ -17,11 +17,7 @@ use Rattle.spec.specs.Check as Check
 use Rattle.spec.specs.Check.{Frame, Image, slice_ok, image_from, all_entries, entries_of}
 use Rattle.spec.specs.Place.{plan_packed, plan_written}
 use Rattle.spec.specs.Calls as Calls
-use Rattle.spec.specs.PartList.{EntryPart}
-use Rattle.spec.specs.Body.{made_body, given_ok}
-use Rattle.spec.specs.Entry as EntrySpec
-use Rattle.spec.specs.Entry.{NewEntry}
-use Rattle.spec.specs.Calls.{ChangeResult, create, changeable, insert, delete_plan, delete, optimise_plan, optimise, plan_length, given_up_zeroed}
+use Rattle.spec.specs.Calls.{ChangeResult, create, changeable, insert_plan, insert, delete_plan, delete, optimise_plan, optimise, plan_length, given_up_zeroed}
 use Rattle.spec.specs.Answers as Answers
 use Rattle.spec.specs.Answers.{length_answer, delete_answer}
 use Rattle.spec.specs.Rows as RowsSpec
@@ -42,11 +38,7 @@ use Rattle.inspect.specs.Overview.{AcceptedImage}
 use Rattle.inspect.specs.declared.Overview.{Overview}
 use Rattle.inspect.proofs.Accepted.{accepted_told, accepted_whole, front_header}
 use Rattle.parts.proofs.PartLaws.{copied_front}
-use Rattle.bodies.specs.Given.{marked_parts}
 use Rattle.change.specs.Ready.{old_length}
-use Rattle.editor.specs.declared.Given.{Given}
-use Rattle.editor.specs.declared.NewBody.{NewBody}
-use Rattle.editor.specs.Entered.{given_entry, Made, inserted_plan, inserted}
 
 -- ---- create
 module _ (s : List ℕ) (k : NewFile) where
@@ -72,8 +64,8 @@ module _ (s : List ℕ) (k : NewFile) where
 
 -- ---- answer and image of a changing call
 -- of an insertion
-abbrev pub Inserts : List ℕ → ℕ → List ℕ → List ℕ → Bool → List ℕ → LengthAnswer → List ℕ → Type 0
-Inserts s L work h fit body r s' = (length_answer r ≡ (inserted s L work h fit body).answer) × (s' ≡ (inserted s L work h fit body).image)
+abbrev pub Inserts : List ℕ → ℕ → List ℕ → List ℕ → ℕ → List ℕ → LengthAnswer → List ℕ → Type 0
+Inserts s L work h b t r s' = (length_answer r ≡ (insert s L work h b t).answer) × (s' ≡ (insert s L work h b t).image)
 
 -- of a deletion
 abbrev pub Deletes : List ℕ → ℕ → List ℕ → List ℕ → DeleteAnswer → List ℕ → Type 0
@@ -83,25 +75,10 @@ Deletes s L work h r s' = (delete_answer r ≡ (delete s L work h).answer) × (s
 abbrev pub Optimises : List ℕ → ℕ → List ℕ → LengthAnswer → List ℕ → Type 0
 Optimises s L work r s' = (length_answer r ≡ (optimise s L work).answer) × (s' ≡ (optimise s L work).image)
 
--- an insertion is the one by the body that was made of its entry
-inserted_is : (s : List ℕ) (L : ℕ) (work h : List ℕ) (g : Given) (t x y buffer : List ℕ) (r : NewBody) → Made g.attribute t (marked_parts g.parts x y) buffer r
-    → inserted s L work h r.fit (take r.length buffer) ≡ insert s L work (given_entry h g t x y)
-unfolding inserted inserted_plan marked_parts Calls.insert Calls.insert_plan EntrySpec.new_body_ok EntrySpec.entry_of
-inserted_is s L work h g t x y buffer r m = go r.fit m.rule m.bytes
-  where
-    ps : List EntryPart
-    ps = marked_parts g.parts x y
-
-    go : (fit : Bool) → fit ≡ given_ok g.attribute t ps → (fit ≡ true → take r.length buffer ≡ made_body g.attribute t ps)
-        → inserted s L work h fit (take r.length buffer) ≡ inserted s L work h (given_ok g.attribute t ps) (made_body g.attribute t ps)
-    go true e b = ap₂ (λ (f : Bool) (z : List ℕ). inserted s L work h f z) e (b refl)
-    go false e b = ap (λ (f : Bool). inserted s L work h f (made_body g.attribute t ps)) e
-
 -- where the plan is refused: its number, and the image as it was
-pub insert_refuses : (s : List ℕ) (L : ℕ) (work h : List ℕ) (fit : Bool) (body : List ℕ) (k : ℕ) → inserted_plan s L work h fit body ≡ refused k
-    → Inserts s L work h fit body (LengthAnswer.Refused k) s
-unfolding inserted Calls.insert_result Calls.changed Answers.length_answer
-insert_refuses s L work h fit body k e = (sym (rw e), sym (rw e))
+pub insert_refuses : (s : List ℕ) (L : ℕ) (work h : List ℕ) (b : ℕ) (t : List ℕ) (k : ℕ) → insert_plan s L work h b t ≡ refused k → Inserts s L work h b t (LengthAnswer.Refused k) s
+unfolding Calls.insert Calls.insert_result Calls.changed Answers.length_answer
+insert_refuses s L work h b t k e = (sym (rw e), sym (rw e))
 
 pub delete_refuses : (s : List ℕ) (L : ℕ) (work h : List ℕ) (k : ℕ) → delete_plan s L work h ≡ refused k → Deletes s L work h (DeleteAnswer.Refused k) s
 unfolding Calls.delete Calls.delete_result Calls.changed Answers.delete_answer
@@ -194,14 +171,15 @@ module _ (s : List ℕ) (L : ℕ) (work : List ℕ) where
     now_tested q l = let e = sym slice ∙ not-false t q in (slice_has_header s L e, slice_in_blocks s L e, slice_holds s L e, l)
 
     -- row 1 of an insertion
-    pub insert_slice : not t ≡ true → (new : NewEntry) → record { answer = length_answer (LengthAnswer.Refused 1); image = s; work = work } ≡ insert s L work new
+    pub insert_slice : not t ≡ true → (h : List ℕ) (a : ℕ) (x : List ℕ) → record { answer = length_answer (LengthAnswer.Refused 1); image = s; work = work } ≡ insert s L work h a x
     unfolding Calls.insert Calls.insert_plan Calls.insert_result Calls.changed Calls.work_after Answers.length_answer
-    insert_slice q new = sym (rw (change_slice q))
+    insert_slice q h a x = sym (rw (change_slice q))
 
     -- row 2 of an insertion
-    pub insert_short : not t ≡ false → length work < length s → (new : NewEntry) → record { answer = length_answer (LengthAnswer.Refused 2); image = s; work = work } ≡ insert s L work new
+    pub insert_short : not t ≡ false → length work < length s → (h : List ℕ) (a : ℕ) (x : List ℕ)
+        → record { answer = length_answer (LengthAnswer.Refused 2); image = s; work = work } ≡ insert s L work h a x
     unfolding Calls.insert Calls.insert_plan Calls.insert_result Calls.changed Calls.work_after Answers.length_answer
-    insert_short q l new = sym (rw (change_work q l))
+    insert_short q l h a x = sym (rw (change_work q l))
 
     -- row 1 of a deletion
     pub delete_slice : not t ≡ true → (h : List ℕ) → record { answer = delete_answer (DeleteAnswer.Refused 1); image = s; work = work } ≡ delete s L work h
@@ -235,20 +213,13 @@ module _ (s : List ℕ) (L : ℕ) (work : List ℕ) where
 
       module _ (bytes : (k : ℕ) → get_or s k 0 < 256) (w w' : List ℕ) (long : length w ≡ length work) (cleared : w' ≡ zeros (length w)) (s' : List ℕ) where
         -- an insertion by its answer and its image
-        insert_all : (new : NewEntry) (r : LengthAnswer) → length_answer r ≡ (insert s L work new).answer → s' ≡ (insert s L work new).image
-            → record { answer = length_answer r; image = s'; work = w' } ≡ insert s L work new
-        insert_all new r e f =
-            let z : w' ≡ (insert s L work new).work =
+        pub insert_whole : (h : List ℕ) (a : ℕ) (x : List ℕ) (r : LengthAnswer) → length_answer r ≡ (insert s L work h a x).answer → s' ≡ (insert s L work h a x).image
+            → record { answer = length_answer r; image = s'; work = w' } ≡ insert s L work h a x
+        insert_whole h a x r e f =
+            let z : w' ≡ (insert s L work h a x).work =
             cleared ∙ ap zeros long
-            ∙ sym (zeroed_by (insert s L work new) (first_numbers.insert_rows s L work new (all_bytes s bytes)).change_rows (work_after_calls.insert_work s L work new)) in
+            ∙ sym (zeroed_by (insert s L work h a x) (first_numbers.insert_rows s L work h a x (all_bytes s bytes)).change_rows (work_after_calls.insert_work s L work h a x)) in
             rw (e, f, z)
-
-        -- the same by the body that was made
-        pub insert_whole : (h : List ℕ) (g : Given) (text x y buffer : List ℕ) (made : NewBody) → Made g.attribute text (marked_parts g.parts x y) buffer made → (r : LengthAnswer)
-            → Inserts s L work h made.fit (take made.length buffer) r s' → record { answer = length_answer r; image = s'; work = w' } ≡ insert s L work (given_entry h g text x y)
-        insert_whole h g text x y buffer made m r (e, f) =
-            let i = inserted_is s L work h g text x y buffer made m in
-            insert_all (given_entry h g text x y) r (e ∙ ap (λ (c : ChangeResult ℕ). c.answer) i) (f ∙ ap (λ (c : ChangeResult ℕ). c.image) i)
 
         -- a deletion by its answer and its image
         pub delete_whole : (h : List ℕ) (r : DeleteAnswer) → delete_answer r ≡ (delete s L work h).answer → s' ≡ (delete s L work h).image
@@ -304,9 +275,9 @@ module _ (s : List ℕ) (L : ℕ) (work : List ℕ) where
 
     module _ (j : ℕ) (e : image_from (take L s) ≡ refused j) where
       -- rows 3 to 10 of an insertion
-      pub insert_refused : (h : List ℕ) (fit : Bool) (body : List ℕ) → Inserts s L work h fit body (LengthAnswer.Refused j) s
-      unfolding inserted_plan
-      insert_refused h fit body = insert_refuses s L work h fit body j (rw (change_refused j e))
+      pub insert_refused : (h : List ℕ) (b : ℕ) (t : List ℕ) → Inserts s L work h b t (LengthAnswer.Refused j) s
+      unfolding Calls.insert_plan
+      insert_refused h b t = insert_refuses s L work h b t j (rw (change_refused j e))
 
       -- of a deletion
       pub delete_refused : (h : List ℕ) → Deletes s L work h (DeleteAnswer.Refused j) s

@@ -1,41 +1,23 @@
 // The changing calls: create, insert, delete and optimise.
-ghost use Rattle.std.specs.Prelude.{◌≡◌, true, ℕ, ◌%◌, ◌<◌, ◌≤◌, length, take};
+ghost use Rattle.std.specs.Prelude.{◌≡◌, ℕ, ◌%◌, ◌<◌, ◌≤◌, length, take};
 ghost use Rattle.spec.specs.Outcome.{refused};
 ghost use Rattle.spec.specs.Lists.{◌∈◌};
-ghost use Rattle.spec.specs.Body.{body_ok};
 ghost use Rattle.spec.specs.Calls.{create, insert, delete, optimise};
 ghost use Rattle.spec.specs.Answers.{length_answer, delete_answer};
 ghost use Rattle.spec.specs.Rows.{No};
 ghost use Rattle.spec.specs.CallRows.{change_numbers};
 ghost use Rattle.marks.specs.Marks.{marks};
 ghost use Rattle.inspect.specs.Overview.{AcceptedImage, FreeMarked};
-ghost use Rattle.bodies.specs.Given.{marked_parts};
-ghost use Rattle.encoder.specs.Limits.{longest_body};
 ghost use Rattle.change.specs.Ready.{old_length};
-ghost use Rattle.editor.specs.Entered.{words_after, given_entry, Made, inserted};
+ghost use Rattle.editor.specs.Entered.{words_after};
 
-use bodies::Marked;
 use change::{CHANGE_WORDS, Ending};
 use header::HEADER;
 use inspect::{Inspected, MARK_WORDS, Overview};
 use spec::{DeleteAnswer, LengthAnswer, NewFile};
 
-// The most bytes of a body: an attribute, a text, its zero byte and a part list.
-const LONGEST_BODY: usize = 24007;
-
-// What an insertion is given beside its bytes: the attribute, and which parts are there.
-#[derive(Drop)]
-pub struct Given {
-    pub attribute: u8,
-    pub parts: Marked,
-}
-
-// A body at the front of a buffer: whether it may be inserted, and its length if so.
-#[derive(Drop)]
-struct NewBody {
-    fit: bool,
-    length: usize,
-}
+// The most bytes of a body: an attribute and a text.
+const LONGEST_BODY: usize = 3001;
 
 // Create: an empty image of a new file.
 pub fn create(image: &mut [u8], new: NewFile) -> LengthAnswer
@@ -62,48 +44,20 @@ fn words_after(words: usize, replaced: bool) -> usize
     words + 1
 }
 
-// Makes the body of a new entry at the front of `buffer`, if row 13 does not apply.
-fn make_body(
-    buffer: &mut [u8],
-    given: Given,
-    text: &[u8],
-    example: &[u8],
-    pronunciation: &[u8],
-) -> NewBody
-    requires { longest_body ≤ length buffer.old }
-    ensures made { Made given.attribute text.now (marked_parts given.parts example.now pronunciation.now) buffer.new result }
-    ensures buffer_len_unchanged { length buffer.new ≡ length buffer.old }
-{
-    let a = given.attribute;
-    let parts = given.parts;
-    if !bodies::given_ok(a, text, parts, example, pronunciation) {
-        return NewBody {
-            fit: false,
-            length: 0,
-        };
-    }
-    let n = bodies::put_body(buffer, a, text, parts, example, pronunciation);
-    NewBody {
-        fit: true,
-        length: n,
-    }
-}
-
-// Insert in an accepted image, of which `v` tells: rows 11, 12, 13 and 15, and the insertion. Row 13 applies where the body is not fit.
+// Insert in an accepted image, of which `v` tells: rows 11, 12, 13 and 15, and the insertion.
 fn insert_in(
     image: &mut [u8],
     work: &mut [u8],
     v: Overview,
     free: &mut [u64],
     headword: &[u8],
-    fit: bool,
-    body: &[u8],
+    attribute: u8,
+    text: &[u8],
 ) -> LengthAnswer
     requires accepted_image { AcceptedImage (take (old_length v) image.old) v × FreeMarked (take (old_length v) image.old) (marks free.old) }
     requires v_in_bounds { (old_length v ≤ length image.old) × (length image.old ≤ length work.old) × (length free.old ≡ 2560) × (v.words < 4294967296) }
-    requires body_value { fit ≡ true → body_ok body.now ≡ true }
-    ensures result_value { length_answer result ≡ (inserted image.old (old_length v) work.old headword.now fit body.now).answer }
-    ensures image_after { image.new ≡ (inserted image.old (old_length v) work.old headword.now fit body.now).image }
+    ensures result_value { length_answer result ≡ (insert image.old (old_length v) work.old headword.now attribute text.now).answer }
+    ensures image_after { image.new ≡ (insert image.old (old_length v) work.old headword.now attribute text.now).image }
     ensures work_len_unchanged { length work.new ≡ length work.old }
 {
     let len = header::position(v.form.extended, v.n, v.d);
@@ -113,12 +67,19 @@ fn insert_in(
     if !runs::headword_ok(headword) {
         return LengthAnswer::Refused(12);
     }
-    if !fit {
+    if !runs::text_ok(text) {
         return LengthAnswer::Refused(13);
     }
-    let p = change::measure_change(&image[..len], v, headword, body, true);
+    if !runs::attribute_ok(attribute) {
+        return LengthAnswer::Refused(13);
+    }
+    let mut body = [0u8; LONGEST_BODY];
+    byteops::write_u8(&mut body, 0, attribute);
+    byteops::copy(&mut body, 1, text, 0, text.len());
+    let new = &body[..1 + text.len()];
+    let p = change::measure_change(&image[..len], v, headword, new, true);
     let words = words_after(v.words, p.found);
-    let r = change::change(image, work, p, free, headword, body, words);
+    let r = change::change(image, work, p, free, headword, new, words);
     match r {
         Ending::Full => LengthAnswer::Refused(15),
         Ending::Done(l) => LengthAnswer::Done(l),
@@ -131,20 +92,19 @@ fn insert_tested(
     len: usize,
     work: &mut [u8],
     headword: &[u8],
-    fit: bool,
-    body: &[u8],
+    attribute: u8,
+    text: &[u8],
 ) -> LengthAnswer
-    requires le_len { (256 ≤ len) × (len % 256 ≡ 0) × (len ≤ length image.old) × (length image.old ≤ length work.old) }
-    requires body_value { fit ≡ true → body_ok body.now ≡ true }
-    ensures result_value { length_answer result ≡ (inserted image.old len work.old headword.now fit body.now).answer }
-    ensures image_after { image.new ≡ (inserted image.old len work.old headword.now fit body.now).image }
+    requires { (256 ≤ len) × (len % 256 ≡ 0) × (len ≤ length image.old) × (length image.old ≤ length work.old) }
+    ensures result_value { length_answer result ≡ (insert image.old len work.old headword.now attribute text.now).answer }
+    ensures image_after { image.new ≡ (insert image.old len work.old headword.now attribute text.now).image }
     ensures work_len_unchanged { length work.new ≡ length work.old }
 {
     let mut free = [0u64; CHANGE_WORDS];
     let r = inspect::inspect(&image[..len], &mut free);
     match r {
         Inspected::Refused(k) => LengthAnswer::Refused(k),
-        Inspected::Sound(v) => insert_in(image, work, v, &mut free, headword, fit, body),
+        Inspected::Sound(v) => insert_in(image, work, v, &mut free, headword, attribute, text),
     }
 }
 
@@ -154,14 +114,11 @@ pub fn insert(
     len: usize,
     work: &mut [u8],
     headword: &[u8],
-    given: Given,
+    attribute: u8,
     text: &[u8],
-    example: &[u8],
-    pronunciation: &[u8],
 ) -> LengthAnswer
     ensures { record { answer = length_answer result; image = image.new; work = work.new }
-        ≡ insert image.old len work.old
-        (given_entry headword.now given text.now example.now pronunciation.now) }
+        ≡ insert image.old len work.old headword.now attribute text.now }
 {
     if !header::slice_ok(image, len) {
         return LengthAnswer::Refused(1);
@@ -169,11 +126,7 @@ pub fn insert(
     if work.len() < image.len() {
         return LengthAnswer::Refused(2);
     }
-    let mut buffer = [0u8; LONGEST_BODY];
-    let made = make_body(&mut buffer, given, text, example, pronunciation);
-    let fit = made.fit;
-    let n = made.length;
-    let r = insert_tested(image, len, work, headword, fit, &buffer[..n]);
+    let r = insert_tested(image, len, work, headword, attribute, text);
     scans::clear(work);
     r
 }

@@ -12,8 +12,6 @@ use Rattle.spec.specs.Outcome.{ok}
 use Rattle.spec.specs.Bytes as BytesSpec
 use Rattle.spec.specs.Bytes.{write, bytes_at, no_zero}
 use Rattle.spec.specs.Lists as ListsSpec
-use Rattle.spec.specs.Body.{body_text}
-use Rattle.spec.specs.Entry as EntrySpec
 use Rattle.spec.specs.Entry.{Entry, attribute, text}
 use Rattle.spec.specs.Run.{Run, read_entry, entries_from}
 use Rattle.spec.specs.Listing as ListingSpec
@@ -22,7 +20,7 @@ use Rattle.spec.proofs.ReadLaws.{entries_unbroken, entries_ended, entries_more}
 use Rattle.spec.proofs.PartLaws.{length_bytes_at}
 use Rattle.runs.specs.Step.{step_entry, Inside}
 use Rattle.runs.specs.declared.Step.{Step}
-use Rattle.runs.proofs.Laws.{told_broken, told_end, told_entry, told_no_zero, attribute_in}
+use Rattle.runs.proofs.Laws.{told_broken, told_end, told_entry, told_no_zero, attribute_in, text_in}
 use Rattle.listing.specs.Lines as LinesSpec
 use Rattle.listing.specs.Lines.{fields_line, RunPrinted}
 use Rattle.listing.specs.declared.Fields.{Fields}
@@ -48,11 +46,6 @@ entry_lines_none : (k : ℕ) (r : Run) → entry_lines k r [] ≡ []
 unfolding ListingSpec.entry_lines
 entry_lines_none k r = refl
 
--- the length of a text by where it ends
-pub text_counted : (run : List ℕ) (i e end : ℕ) → e ≤ length run → bytes_at (i + 1) (end - (i + 1)) run ≡ body_text (bytes_at i (e - i) run) → (i + 1 ≤ end) × (end ≤ e)
-    → end - (i + 1) ≡ length (body_text (bytes_at i (e - i) run))
-text_counted run i e end q told (p₁, p₂) = sym (ap (λ (x : List ℕ). length x) (sym told) ∙ length_bytes_at run (i + 1) (end - (i + 1)) (omega arith))
-
 -- the entries from `pos` on: their lines, stored from `at` on in what stands there now, are all lines of the run
 pub record Coming (below : HeadwordOrder) (run word : List ℕ) (len pos : ℕ) (r : Run) (out₀ out : List ℕ) (start at k ordinal : ℕ) : Type 0 where
   pub fuel : ℕ
@@ -74,14 +67,17 @@ module _ (below : HeadwordOrder) (run word : List ℕ) (len pos : ℕ) (r : Run)
       let l : entry_lines ordinal r v.entries ≡ [] = ap (entry_lines ordinal r) e ∙ entry_lines_none ordinal r in
       (sym (write_none out at) ∙ (rw l at v.lines), omega (arith, v.place, ap (λ (x : List ℕ). length x) l), omega (arith, v.count, ap (λ (x : List Entry). length x) e))
 
-  module _ (n z e : ℕ) (q : st ≡ Step.Entry n z e) (body : z + 2 ≤ e) (within : e ≤ length run) (past : pos < e)
-      (t : ℕ) (text_size : t ≡ length (body_text (bytes_at (z + 1) (e - (z + 1)) run))) (at' : ℕ) (out' : List ℕ) (fits : at ≤ length out)
-      (stored : out' ≡ write at (fields_line (line_numbers ordinal r.block r.size (get_or run (z + 1) 0) t) (take n word')) out) (ends : at' ≡ at + 30 + length (take n word')) where
+  module _ (n z e : ℕ) (q : st ≡ Step.Entry n z e) (body : z + 2 ≤ e) (within : e ≤ length run) (past : pos < e) (at' : ℕ) (out' : List ℕ) (fits : at ≤ length out)
+      (stored : out' ≡ write at (fields_line (line_numbers ordinal r.block r.size (get_or run (z + 1) 0) (e - (z + 2))) (take n word')) out) (ends : at' ≡ at + 30 + length (take n word')) where
     found : Entry
     found = record { headword = take n word'; body = bytes_at (z + 1) (e - (z + 1)) run }
 
-    its_line : entry_line ordinal r found ≡ fields_line (line_numbers ordinal r.block r.size (get_or run (z + 1) 0) t) (take n word')
-    unfolding found EntrySpec.text
+    text_size : length (text found) ≡ e - (z + 2)
+    unfolding found
+    text_size = ap (λ (x : List ℕ). length x) (text_in run (take n word') z e body within) ∙ length_bytes_at run (z + 2) (e - (z + 2)) (omega arith)
+
+    its_line : entry_line ordinal r found ≡ fields_line (line_numbers ordinal r.block r.size (get_or run (z + 1) 0) (e - (z + 2))) (take n word')
+    unfolding found
     its_line = fields_entry ordinal r found ∙ rw (attribute_in run (take n word') z e body within, text_size)
 
     coming_next : Coming below run word' n e r out₀ out' start at' k (ordinal + 1)
@@ -89,8 +85,8 @@ module _ (below : HeadwordOrder) (run word : List ℕ) (len pos : ℕ) (r : Run)
     coming_next =
         let told : read_entry below (take len word) (drop pos run) ≡ ok (some (found, drop e run)) = told_entry below (take len word) (drop pos run) run word' st step n z e q in
         let (ds, u, w) = entries_more below v.fuel (take len word) (drop pos run) v.entries v.read found (drop e run) told in
-        let x : List ℕ = fields_line (line_numbers ordinal r.block r.size (get_or run (z + 1) 0) t) (take n word') in
-        let lx : length x ≡ 30 + length (take n word') = fields_length (line_numbers ordinal r.block r.size (get_or run (z + 1) 0) t) (take n word') in
+        let x : List ℕ = fields_line (line_numbers ordinal r.block r.size (get_or run (z + 1) 0) (e - (z + 2))) (take n word') in
+        let lx : length x ≡ 30 + length (take n word') = fields_length (line_numbers ordinal r.block r.size (get_or run (z + 1) 0) (e - (z + 2))) (take n word') in
         let one : ordinal + 1 ≡ suc ordinal = omega arith in
         let y : List ℕ = entry_lines (ordinal + 1) r ds in
         let all : entry_lines ordinal r v.entries ≡ x ++ y = ap (entry_lines ordinal r) w ∙ entry_lines_cons ordinal r found ds ∙ rw (its_line, one) in
@@ -144,7 +140,7 @@ module _ (below : HeadwordOrder) (run word : List ℕ) (len pos b n : ℕ) (out�
   printing_end q r i j h = coming_end below run word len pos r out₀ out start at k ordinal (v.coming r i j h) st word' step q
 
   module _ (l z e : ℕ) (q : st ≡ Step.Entry l z e) (places : Inside pos run st) where
-    told : (pos + 3 ≤ z) × (z + 2 ≤ e) × (e ≤ length run) × (1 ≤ l) × (l ≤ 248)
+    told : (pos + 3 ≤ z) × (z + 2 ≤ e) × (e ≤ length run) × (e ≤ z + 3002) × (1 ≤ l) × (l ≤ 248)
     told = places l z e q
 
     -- fewer bytes are left
@@ -154,7 +150,7 @@ module _ (below : HeadwordOrder) (run word : List ℕ) (len pos b n : ℕ) (out�
     module _ (same : length word' ≡ length word) where
       -- the headword fits its buffer
       pub printing_fits : l ≤ length word'
-      printing_fits = omega (arith, told.4, v.buffer)
+      printing_fits = omega (arith, told.5, v.buffer)
 
       -- and is so long
       pub printing_word : l ≡ length (take l word')
@@ -163,24 +159,22 @@ module _ (below : HeadwordOrder) (run word : List ℕ) (len pos b n : ℕ) (out�
       module _ (roomy : start + 56 * length run ≤ length out₀) where
         -- its line has room
         pub printing_room : at + 30 + length (take l word') ≤ length out
-        printing_room = omega (arith, printing_word, told.4, told.0, told.1, told.2, v.bound, v.kept)
+        printing_room = omega (arith, printing_word, told.5, told.0, told.1, told.2, v.bound, v.kept)
 
         -- one line more
-        pub printing_next : (a : ℕ) → a ≡ get_or run (z + 1) 0 → (t : ℕ) → t ≡ length (body_text (bytes_at (z + 1) (e - (z + 1)) run))
-            → (at' : ℕ) (out' : List ℕ) → at' ≡ at + 30 + length (take l word')
-            → out' ≡ write at (fields_line (line_numbers ordinal b n a t) (take l word')) out
+        pub printing_next : (a : ℕ) → a ≡ get_or run (z + 1) 0 → (at' : ℕ) (out' : List ℕ) → at' ≡ at + 30 + length (take l word')
+            → out' ≡ write at (fields_line (line_numbers ordinal b n a (e - (z + 2))) (take l word')) out
             → length out' ≡ length out → Printing below run word' l e b n out₀ out' start at' k (ordinal + 1)
-        printing_next a told-attribute t told_text at' out' ends stored same' =
+        printing_next a told-attribute at' out' ends stored same' =
             record {
               inside = told.2;
               buffer = same ∙ v.buffer;
-              short = told.4;
+              short = told.5;
               clean = told_no_zero below (take len word) (drop pos run) run word' st step l z e q;
               kept = same' ∙ v.kept;
-              bound = omega (arith, printing_word, told.4, told.0, told.1, v.bound);
+              bound = omega (arith, printing_word, told.5, told.0, told.1, v.bound);
               few = omega (arith, v.few);
               coming =
                   λ r i j h. coming_next below run word len pos r out₀ out start at k ordinal (v.coming r i j h) st word' step l z e q
-                  told.1 told.2 (omega (arith, told.0, told.1)) t told_text at' out' (omega (arith, v.bound, v.inside, v.kept))
-                  (rw (i, j, ← told-attribute) stored) ends;
+                  told.1 told.2 (omega (arith, told.0, told.1)) at' out' (omega (arith, v.bound, v.inside, v.kept)) (rw (i, j, ← told-attribute) stored) ends;
             }

@@ -1,8 +1,7 @@
 // The printed list of an image: one line of numbers, then one line for each entry.
-ghost use Rattle.std.specs.Prelude.{◌≡◌, false, cond, not, ◌+◌, ◌-◌, ◌*◌, ◌%◌, ◌≤◌, ◌<◌, length, eqb};
+ghost use Rattle.std.specs.Prelude.{◌≡◌, false, cond, not, ◌+◌, ◌*◌, ◌%◌, ◌≤◌, ◌<◌, length, eqb};
 ghost use Rattle.spec.specs.Order.{below_of};
-ghost use Rattle.spec.specs.Bytes.{write, bytes_at};
-ghost use Rattle.spec.specs.Body.{body_text};
+ghost use Rattle.spec.specs.Bytes.{write};
 ghost use Rattle.spec.specs.Outcome.{refused};
 ghost use Rattle.spec.specs.Check.{image_from};
 ghost use Rattle.spec.specs.Listing.{digits, column, first_line, image_lines, listing};
@@ -130,16 +129,6 @@ fn entry_line(out: &mut [u8], at: usize, fields: Fields, word: &[u8]) -> usize
     at + 30 + word.len()
 }
 
-// The length of the text of the entry whose body stands behind the zero byte at `zero`, up to `next`.
-fn text_length(run: &[u8], zero: usize, next: usize) -> usize
-    requires { (zero + 2 ≤ next) × (next ≤ length run.now) }
-    ensures { result ≡ length (body_text (bytes_at (zero + 1) (next - (zero + 1)) run.now)) }
-{
-    let body = zero + 1;
-    let end = bodies::text_end(run, body, next);
-    end - (body + 1)
-}
-
 // Stores the lines of the entries of a run of `blocks` blocks at `block`, behind those stored so far.
 fn run_lines(
     order: usize,
@@ -176,7 +165,7 @@ fn run_lines(
             }
             Step::Entry { length, zero, next } => {
                 let attribute = wide(run[zero + 1]);
-                let text = text_length(run, zero, next);
+                let text = next - (zero + 2);
                 let fields = Fields {
                     ordinal: ordinal,
                     block: block,

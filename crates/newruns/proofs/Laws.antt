@@ -1,29 +1,31 @@
 -- What a turn of planning or writing the parts shows, in the terms of the code.
 use Prim.Native.Nat.{ℕ, ◌+◌, ◌-◌, ◌*◌, ◌<◌, ◌≤◌, max}
 use mathlib.Core.Path.{◌≡◌, sym, ap, ap₂, ◌∙◌}
-use mathlib.Core.Bool.{Bool, false}
-use mathlib.Core.List.{List, [], ◌∷◌, ◌++◌, map}
+use mathlib.Core.Bool.{Bool, true, false}
+use mathlib.Core.List.{List, [], ◌∷◌, ◌++◌, map, append-nil}
 use native.Mathlib.Omega.{arith}
-use lib.ListN.{length, take, drop, length-append, length-take, length-drop}
-use Rattle.spec.specs.Bytes.{write, bytes_at, blocks_for}
+use lib.ListN.{length, take, drop, length-append, length-take, length-drop, take-append-drop, drop_of_length-le}
+use lib.Seq.{length-take-le, take_all, drop-drop}
+use Rattle.spec.specs.Bytes.{write, bytes_at, no_zero, blocks_for}
 use Rattle.spec.specs.Header.{block_position}
 use Rattle.spec.specs.Entry.{Entry, entry_bytes}
 use Rattle.spec.specs.Run.{entries_bytes, run_size, run_bytes}
 use Rattle.spec.specs.Index.{element_bytes, elements_bytes}
 use Rattle.spec.specs.Blocks.{best_fit}
 use Rattle.spec.specs.Place.{cut, first_headword, new_run, at_block, element_of}
-use Rattle.spec.proofs.PartLaws.{length_bytes_at}
-use Rattle.spec.proofs.RunLaws.{length_run_bytes}
-use Rattle.spec.proofs.WriteLaws.{bytes_at_within, bytes_at_write}
+use Rattle.spec.specs.Lists.{All}
+use Rattle.spec.proofs.IndexLaws.{headword_no_zero}
+use Rattle.spec.proofs.WriteLaws.{write_right}
 use Rattle.marks.specs.Marks.{with_range}
 use Rattle.placing.specs.Spread.{Spread, spread, placed_first, Within}
 use Rattle.placing.proofs.SpreadLaws.{spread_grows}
 use Rattle.encoder.specs.Limits.{longest_entry}
+use Rattle.encoder.specs.Framed.{framed_run}
+use Rattle.encoder.proofs.Laws.{run_framed, length_framed}
 use Rattle.elements.proofs.Laws.{element_size}
-use Rattle.parts.specs.declared.Load.{Load}
-use Rattle.parts.specs.Part.{part_of, past_part, Loaded}
-use Rattle.parts.proofs.PartLaws.{front_stored, write_lent, part_first, part_headword, part_size, part_taken, part_dropped, some_left, cut_next, run_holds}
-use Rattle.parts.proofs.Laws.{headword_in_run}
+use Rattle.parts.specs.Part.{part_of, past_part}
+use Rattle.parts.proofs.PartLaws.{Short, part_first, part_headword, part_size, front_stored, some_left, cut_next}
+use Rattle.parts.proofs.Laws.{headword_at}
 use Rattle.plan.specs.Written.{part_element, parts_written, part_runs}
 use Rattle.newruns.specs.Laid.{sizes_of, laid, elements_long}
 
@@ -71,19 +73,45 @@ module _ (limit g end : ℕ) (ms₀ : List Bool) (es₀ : List Entry) (last : �
       let q : ms ≡ (laid limit g end ms₀ es₀).free = sym (ap (λ (l : List Entry). (laid limit g last ms l).free) e) ∙ planning.free_all in
       (λ k. (p, q), λ k. omega arith)
 
--- ---- put_first
--- a headword that was copied from the slice stands at the front of the buffer
-pub head_copied : (image word word' : List ℕ) (from head : ℕ) → word' ≡ write 0 (bytes_at from head image) word → from + head ≤ length image → take head word' ≡ bytes_at from head image
-head_copied image word word' from head e h = front_stored (bytes_at from head image) word word' head e (sym (length_bytes_at image from head h))
+-- ---- a lent part
+-- what a callee left in the rest of a slice
+lent_rest : (i : ℕ) (s : List ℕ) (f : List ℕ → List ℕ) → f (take (length s - i) (drop i s)) ++ drop (length s - i) (drop i s) ≡ f (drop i s)
+lent_rest i s f =
+    let k : take (length s - i) (drop i s) ≡ drop i s = take_all (length s - i) (drop i s) (omega (arith, length-drop i s)) in
+    let n : drop (length s - i) (drop i s) ≡ [] = drop-drop (length s - i) i s ∙ drop_of_length-le s {i = i + (length s - i)} (omega arith) in
+    ap₂ (λ (x y : List ℕ). f x ++ y) k n ∙ append-nil (f (drop i s))
+
+-- bytes written to the front of the part from a on are written at a
+write_lent : (a k : ℕ) (x s s' : List ℕ) → k ≡ length s - a → a + length x ≤ length s → s' ≡ write 0 x (take k (drop a s)) → take a s ++ (s' ++ drop k (drop a s)) ≡ write a x s
+write_lent a k x s s' e h p =
+    let la : length (take a s) ≡ a = length-take-le a s (omega arith) in
+    let z : a - length (take a s) ≡ 0 = omega arith in
+    ap₂ (λ (l : List ℕ) (n : ℕ). take a s ++ (l ++ drop n (drop a s))) (p ∙ ap (λ (n : ℕ). write 0 x (take n (drop a s))) e) e
+    ∙ ap (λ (l : List ℕ). take a s ++ l) (lent_rest a s (write 0 x))
+    ∙ ap (λ (i : ℕ). take a s ++ write i x (drop a s)) (sym z)
+    ∙ sym (write_right a x (take a s) (drop a s) (omega arith))
+    ∙ ap (write a x) (take-append-drop a s)
+
+-- and leave the length
+pub length_lent : (a k : ℕ) (s s' : List ℕ) → k ≡ length s - a → a ≤ length s → length s' ≡ length (take k (drop a s)) → length (take a s ++ (s' ++ drop k (drop a s))) ≡ length s
+length_lent a k s s' e h p = simp (length-append, length-drop) (omega (arith, p, length-take-le a s h, length-take k (drop a s), length-drop a s))
+
+-- what `write_run` requires there
+pub run_room : (used size a k : ℕ) (part image : List ℕ) → used ≤ longest_entry → used ≤ length part → size ≡ blocks_for (2 + used + 2) → k ≡ length image - a
+    → a + 256 * size ≤ length image → (length (take used part) ≤ longest_entry) × (256 * blocks_for (2 + length (take used part) + 2) ≤ length (take k (drop a image)))
+run_room used size a k part image p q e ek h =
+    let l : length (take used part) ≡ used = length-take-le used part q in
+    let m : blocks_for (2 + length (take used part) + 2) ≡ size = sym (e ∙ ap (λ (x : ℕ). blocks_for (2 + x + 2)) (sym l)) in
+    (omega arith, omega (arith, length-take k (drop a image), length-drop a image))
 
 -- ---- the next part
 -- its element takes its number and a byte beside its headword
-element_long : (width number : ℕ) (p : List Entry) (head : ℕ) → head ≡ length (first_headword p) → length (element_bytes width (part_element number p)) ≡ width + 1 + head
+pub element_long : (width number : ℕ) (p : List Entry) (head : List ℕ) → head ≡ first_headword p → length (element_bytes width (part_element number p)) ≡ width + 1 + length head
 unfolding part_element
-element_long width number p head e = element_size width (part_element number p) ∙ ap (λ (n : ℕ). width + 1 + n) (sym e)
+element_long width number p head e = element_size width (part_element number p) ∙ ap (λ (l : List ℕ). width + 1 + length l) (sym e)
 
 -- it ends behind them
-pub element_past : (width out r number : ℕ) (p : List Entry) (head : ℕ) → head ≡ length (first_headword p) → r ≡ out + width + 1 + head
+pub element_past : (width out r number : ℕ) (p : List Entry) (head : List ℕ) → head ≡ first_headword p → r ≡ out + width + 1 + length head
     → r ≡ out + length (element_bytes width (part_element number p))
 element_past width out r number p head e q = omega (arith, element_long width number p head e)
 
@@ -114,12 +142,11 @@ module _ (limit : ℕ) (es : List Entry) (used : ℕ) (bytes : used ≡ length (
         ap₂ (λ (s : Spread) (l : List (List Entry)). length (elements_bytes width (map element_of (part_runs g s.places l)))) laid_next parts_next
         ∙ length-append (element_bytes width (part_element (b - g) (part_of limit 0 [] es))) (elements_bytes width (map element_of (part_runs g (laid limit g last' ms' Q).places (cut limit Q))))
 
-    -- its element fits the slice
-    pub element_fits : (width extended index at end : ℕ) (ms₀ : List Bool) (es₀ : List Entry) (image₀ : List ℕ) (out m head : ℕ) (image : List ℕ)
-        → head ≡ length (first_headword (part_of limit 0 [] es))
+    -- what `put_element` requires
+    pub element_fits : (width extended index at end : ℕ) (ms₀ : List Bool) (es₀ : List Entry) (image₀ : List ℕ) (out m : ℕ) (image head : List ℕ) → head ≡ first_headword (part_of limit 0 [] es)
         → Writing width limit extended index g at end ms₀ es₀ image₀ out last ms es image → at + elements_long width limit g (laid limit g end ms₀ es₀).places es₀ ≤ length image₀
-        → length image ≡ length image₀ → m ≡ length image → out + width + 1 + head ≤ m
-    element_fits width extended index at end ms₀ es₀ image₀ out m head image e w h l k = omega (arith, elements_next width, w.size, element_long width (b - g) (part_of limit 0 [] es) head e)
+        → length image ≡ length image₀ → m ≡ length image → out + width + 1 + length head ≤ m
+    element_fits width extended index at end ms₀ es₀ image₀ out m image head e w h l k = omega (arith, elements_next width, w.size, element_long width (b - g) (part_of limit 0 [] es) head e)
 
     -- it is written
     pub writing_more : (width extended index at end : ℕ) (ms₀ : List Bool) (es₀ : List Entry) (image₀ : List ℕ) (out out' start : ℕ) (image image' : List ℕ)
@@ -136,70 +163,44 @@ module _ (limit : ℕ) (es : List Entry) (used : ℕ) (bytes : used ≡ length (
         }
 
 -- ---- the bytes of the next part
-module _ (limit : ℕ) (es : List Entry) (load : Load) (loaded : Loaded (part_of limit 0 [] es) load) where
-  -- the entries that are written are the part
-  next_taken : take load.count es ≡ part_of limit 0 [] es
-  next_taken = part_taken limit es load.count loaded.count
+module _ (limit : ℕ) (es : List Entry) (used : ℕ) (part part' : List ℕ) (bytes : used ≡ length (entries_bytes [] (part_of limit 0 [] es)))
+    (there : part' ≡ write 0 (entries_bytes [] (part_of limit 0 [] es)) part) where
+  -- they stand at the front of the slice
+  pub entries_stand : take used part' ≡ entries_bytes [] (part_of limit 0 [] es)
+  entries_stand = front_stored (entries_bytes [] (part_of limit 0 [] es)) part part' used there bytes
 
-  -- its run takes its blocks
-  run_size_by : (size : ℕ) → size ≡ blocks_for (2 + load.used + 2) → run_size (part_of limit 0 [] es) ≡ size
-  run_size_by size e = part_size (part_of limit 0 [] es) ∙ sym (e ∙ ap (λ (k : ℕ). blocks_for (2 + k + 2)) loaded.used)
+  -- and are framed as its run
+  pub run_stands : framed_run (take used part') ≡ run_bytes (part_of limit 0 [] es)
+  run_stands = ap framed_run entries_stand ∙ run_framed (part_of limit 0 [] es)
 
-  -- what `write_part` requires of the slice from the run's place on
-  pub run_room : (size a k : ℕ) (image : List ℕ) → load.used ≤ longest_entry → size ≡ blocks_for (2 + load.used + 2) → k ≡ length image - a → a + 256 * size ≤ length image
-      → (length (entries_bytes [] (take load.count es)) ≤ longest_entry) × (256 * run_size (take load.count es) ≤ length (take k (drop a image)))
-  run_room size a k image p e ek h =
-      rw next_taken (omega (arith, loaded.used), omega (arith, run_size_by size e, length-take k (drop a image), length-drop a image))
+  -- its headword is found there
+  pub head_stands : (used ≡ 0 → ⊥) → All Short es → (r : ℕ)
+      → ((e : Entry) (ds : List Entry) → take used part' ≡ entries_bytes [] (e ∷ ds) → no_zero e.headword ≡ true → r ≡ length e.headword)
+      → (k : ℕ) → k ≡ r → take k (drop 3 part') ≡ first_headword (part_of limit 0 [] es)
+  unfolding bytes_at
+  head_stands some short r found k same =
+      let (e, ds, p) = some_left limit es used bytes some in
+      let rest : List Entry = part_of limit (length (entry_bytes [] e)) e.headword ds in
+      let a : take used part' ≡ entries_bytes [] (e ∷ rest) = entries_stand ∙ ap (λ (l : List Entry). entries_bytes [] (part_of limit 0 [] l)) p ∙ ap (entries_bytes []) (part_first limit [] e ds) in
+      let ok : All Short (e ∷ ds) = rw p at short in
+      let q : r ≡ length e.headword = found e rest a (headword_no_zero e.headword ok.0.0) in
+      ap (λ (x : ℕ). take x (drop 3 part')) (same ∙ q) ∙ headword_at part' used e rest a ∙ sym (ap (λ (l : List Entry). first_headword (part_of limit 0 [] l)) p ∙ part_headword limit e ds)
 
-  -- what is behind the entries that were written is behind the part
-  pub next_behind : (Q : List Entry) → Q ≡ drop load.count es → Q ≡ past_part limit 0 [] es
-  next_behind Q e = e ∙ part_dropped limit es load.count loaded.count
+  -- the run of the part takes its blocks
+  pub run_long : (size : ℕ) → size ≡ blocks_for (2 + used + 2) → length (framed_run (take used part')) ≡ 256 * size
+  run_long size e = length_framed (take used part') ∙ sym (ap (λ (k : ℕ). 256 * k) (e ∙ ap (λ (k : ℕ). blocks_for (2 + k + 2)) (bytes ∙ sym (ap length entries_stand))))
 
-  module _ (some : load.used ≡ 0 → ⊥) where
-    -- its headword stands in its run
-    run_head : bytes_at 5 load.head (run_bytes (part_of limit 0 [] es)) ≡ first_headword (part_of limit 0 [] es)
-    run_head =
-        let (e, ds, p) = some_left limit es load.used loaded.used some in
-        let q : part_of limit 0 [] es ≡ e ∷ part_of limit (length (entry_bytes [] e)) e.headword ds = ap (part_of limit 0 []) p ∙ part_first limit [] e ds in
-        let n : load.head ≡ length e.headword = loaded.head ∙ ap (λ (l : List Entry). length (first_headword (part_of limit 0 [] l))) p ∙ ap length (part_headword limit e ds) in
-        let h : first_headword (part_of limit 0 [] es) ≡ e.headword = ap (λ (l : List Entry). first_headword (part_of limit 0 [] l)) p ∙ part_headword limit e ds in
-        ap₂ (λ (k : ℕ) (l : List Entry). bytes_at 5 k (run_bytes l)) n q ∙ headword_in_run e (part_of limit (length (entry_bytes [] e)) e.headword ds) ∙ sym h
-
-    module _ (size a : ℕ) (image : List ℕ) (blocks : size ≡ blocks_for (2 + load.used + 2)) (fits : a + 256 * size ≤ length image) where
-      run_long : length (run_bytes (part_of limit 0 [] es)) ≡ 256 * size
-      run_long = length_run_bytes (part_of limit 0 [] es) ∙ ap (λ (k : ℕ). 256 * k) (run_size_by size blocks)
-
-      -- inside it
-      head_in_run : 5 + load.head ≤ 256 * size
-      unfolding bytes_at
-      head_in_run =
-          let R : List ℕ = run_bytes (part_of limit 0 [] es) in
-          let hold = run_holds (part_of limit 0 [] es) (256 * size) (omega (arith, run_size_by size blocks)) in
-          omega (arith, run_long, ap length run_head, loaded.head, length-take load.head (drop 5 R), length-drop 5 R)
-
-      -- so inside the slice that the run is written to
-      pub head_inside : (m : ℕ) → m ≡ length image → a + 5 + load.head ≤ m
-      head_inside m e = omega (arith, head_in_run)
-
-      -- the run stored in a lent part, then the element by the headword that stands in it
-      pub part_stored : (width k out number : ℕ) (image₁ image₂ : List ℕ) → k ≡ length image - a
-          → image₁ ≡ write 0 (run_bytes (take load.count es)) (take k (drop a image))
-          → image₂ ≡ write out (element_bytes width (record { block = number; headword = bytes_at (a + 5) load.head (take a image ++ (image₁ ++ drop k (drop a image))) }))
-          (take a image ++ (image₁ ++ drop k (drop a image)))
-          → image₂ ≡ write out (element_bytes width (part_element number (part_of limit 0 [] es))) (write a (run_bytes (part_of limit 0 [] es)) image)
-      unfolding part_element
-      part_stored width k out number image₁ image₂ ek e₁ e₂ =
-          let P : List Entry = part_of limit 0 [] es in
-          let R : List ℕ = run_bytes P in
-          let w : take a image ++ (image₁ ++ drop k (drop a image)) ≡ write a R image
-          = write_lent a k R image image₁ ek (omega (arith, run_long)) (e₁ ∙ ap (λ (l : List Entry). write 0 (run_bytes l) (take k (drop a image))) next_taken) in
-          let h : bytes_at (a + 5) load.head (write a R image) ≡ first_headword P =
-          sym (bytes_at_within a (length R) 5 load.head (write a R image) (omega (arith, run_long, head_in_run)))
-          ∙ ap (bytes_at 5 load.head) (bytes_at_write a R image (omega (arith, run_long)))
-          ∙ run_head in
-          e₂
-          ∙ ap (λ (l : List ℕ). write out (element_bytes width (record { block = number; headword = bytes_at (a + 5) load.head l })) l) w
-          ∙ ap (λ (l : List ℕ). write out (element_bytes width (record { block = number; headword = l })) (write a R image)) h
+  -- the run stored in a lent part, then the element
+  pub part_stored : (width a k size out number : ℕ) (head image image₁ image₂ : List ℕ) → size ≡ blocks_for (2 + used + 2) → k ≡ length image - a → a + 256 * size ≤ length image
+      → image₁ ≡ write 0 (framed_run (take used part')) (take k (drop a image))
+      → head ≡ first_headword (part_of limit 0 [] es)
+      → image₂ ≡ write out (element_bytes width (record { block = number; headword = head })) (take a image ++ (image₁ ++ drop k (drop a image)))
+      → image₂ ≡ write out (element_bytes width (part_element number (part_of limit 0 [] es))) (write a (run_bytes (part_of limit 0 [] es)) image)
+  unfolding part_element
+  part_stored width a k size out number head image image₁ image₂ en ek r e₁ eh e₂ =
+      let w : take a image ++ (image₁ ++ drop k (drop a image)) ≡ write a (run_bytes (part_of limit 0 [] es)) image =
+      write_lent a k (framed_run (take used part')) image image₁ ek (omega (arith, run_long size en)) e₁ ∙ ap (λ (x : List ℕ). write a x image) run_stands in
+      e₂ ∙ ap₂ (λ (x y : List ℕ). write out (element_bytes width (record { block = number; headword = x })) y) eh w
 
 -- ---- no entry is left
 module _ (width limit extended index g at end : ℕ) (ms₀ : List Bool) (es₀ : List Entry) (image₀ : List ℕ) (out last : ℕ) (ms : List Bool) (es : List Entry) (image : List ℕ)

@@ -1,41 +1,38 @@
 -- What the functions show, in the terms of the code.
-use Prim.Native.Nat.{ℕ, zero, ◌+◌, ◌-◌, ◌*◌, ◌<◌, ◌≤◌}
+use Prim.Native.Nat.{ℕ, zero, suc, ◌+◌, ◌-◌, ◌<◌, ◌≤◌}
 use mathlib.Core.Path.{◌≡◌, refl, sym, ap, ◌∙◌}
 use mathlib.Core.Logic.{◌⊎◌, inl, inr}
-use mathlib.Core.Bool.{Bool, true, false, not}
+use mathlib.Core.Bool.{Bool, true, false}
 use mathlib.Core.List.{List, [], ◌∷◌, ◌++◌, append_assoc}
-use mathlib.Core.Option as Option
 use native.Mathlib.Omega.{arith}
-use lib.ListN.{length, take, drop, length-take, length-drop}
-use lib.Seq.{take_at, take-length, length-take-le}
+use lib.ListN.{length, take, drop, length-append, length-take, length-drop}
+use lib.Seq.{take_at, take_all, take-length, length-take-le}
 use lib.Dec.{eqb}
-use borrow.Author.Tests.{eq-eqb, ne_eqb, eqb-false, le-leb, lt-leb, not-true, not-false}
-use Rattle.spec.specs.Outcome.{ok}
+use borrow.Author.Tests.{eq-eqb, ne_eqb, eqb-false, le-leb, lt-leb}
 use Rattle.spec.specs.Lists.{all, All}
 use Rattle.spec.specs.Bytes.{to_little_endian, write, bytes_at, no_zero}
 use Rattle.spec.specs.Order.{below_of, HeadwordOrder}
 use Rattle.spec.specs.Entry.{Entry, headword_ok, headword_suffix, field_bytes, entry_bytes}
-use Rattle.spec.specs.Body.{parts_stored}
-use Rattle.spec.specs.Run.{read_entry, whole_entry, entries_bytes, run_bytes}
+use Rattle.spec.specs.Run.{read_entry, entries_bytes}
 use Rattle.spec.proofs.ListsLaws.{all_map, clash, one, or_right}
 use Rattle.spec.proofs.PairsLaws.{front_none}
-use Rattle.spec.proofs.BodyLaws.{body_short}
-use Rattle.spec.proofs.PartLaws.{length_bytes_at}
-use Rattle.spec.proofs.RunLaws.{headword_by, whole_by, whole_broken, whole_refused, whole_end}
-use Rattle.spec.proofs.ReadLaws.{whole_ok}
+use Rattle.spec.proofs.RunLaws.{body_short, headword_by}
+use Rattle.spec.proofs.WriteLaws.{bytes_at_take}
 use Rattle.scans.specs.declared.Comparison.{Comparison}
 use Rattle.scans.specs.declared.Comparison.TheVariants.{Below, Same, Above}
 use Rattle.scans.specs.Compare.{comparison}
+use Rattle.scans.specs.Scan.{zero_offset}
+use Rattle.scans.proofs.Laws.{zero_offset_append, zero_offset_zero}
 use Rattle.runs.specs.Step.{step_entry, Inside}
 use Rattle.runs.specs.declared.Step.{Step}
 use Rattle.runs.proofs.Laws.{told_broken, told_end, told_entry, told_no_zero}
 use Rattle.parts.specs.declared.Cursor.{Cursor}
 use Rattle.parts.specs.declared.Fit.{Fit}
-use Rattle.parts.specs.declared.Load.{Load}
 use Rattle.parts.specs.declared.Turn.{Turn}
 use Rattle.parts.specs.Merge.{entries_left, merge, ahead, todo, changed_entries, turn_of, CursorOk}
-use Rattle.parts.specs.Part.{has_room, first_of, OneMore, Fitted, Appended}
-use Rattle.encoder.specs.Limits.{longest_headword, longest_body, longest_entry, longest_run, largest_limit}
+use Rattle.parts.specs.Part.{has_room, Appended}
+use Rattle.parts.specs.Room.{largest_limit}
+use Rattle.encoder.specs.Limits.{longest_headword, longest_body, longest_entry}
 use Rattle.parts.proofs.MergeLaws.{
   left_refused,
   left_none,
@@ -59,20 +56,7 @@ use Rattle.parts.proofs.MergeLaws.{
   new_fresh,
 }
 use Rattle.parts.proofs.MeasureLaws.{parts_in, bytes_in, blocks_in, parts_few, bytes_few, blocks_few, Counting, counting_start}
-use Rattle.parts.proofs.PartLaws.{
-  Short,
-  copied_front,
-  Measuring,
-  PartDone,
-  measured_all,
-  measured_full,
-  measuring_more,
-  Filling,
-  Filled,
-  filling_end,
-  filling_room,
-  filling_more,
-}
+use Rattle.parts.proofs.PartLaws.{Short, copied_front, Filling, Filled, filling_end, filling_full, filling_more}
 
 -- the first bytes of a list are so many
 pub first_bytes : (s : List ℕ) (n : ℕ) → n ≤ length s → n ≡ length (take n s)
@@ -83,53 +67,33 @@ module _ (order : ℕ) (run word word' : List ℕ) (at held : ℕ) (fresh : Bool
   -- a broken entry ends the run
   pub broken_ahead : st ≡ Step.Broken → ahead order run word' (record { length = 0; zero = 0; next = 0; fresh = fresh }) ≡ entries_left (below_of order) (take held word) (drop at run)
   unfolding ahead
-  broken_ahead q =
-      let r = told_broken (below_of order) (take held word) (drop at run) run word' st told q in
-      sym (left_refused (below_of order) (take held word) (drop at run) 8 (whole_refused (below_of order) (take held word) (drop at run) 8 r))
+  broken_ahead q = sym (left_refused (below_of order) (take held word) (drop at run) 8 (told_broken (below_of order) (take held word) (drop at run) run word' st told q))
 
   -- so do the end marks
   pub end_ahead : st ≡ Step.End → ahead order run word' (record { length = 0; zero = 0; next = 0; fresh = fresh }) ≡ entries_left (below_of order) (take held word) (drop at run)
   unfolding ahead
-  end_ahead q =
-      let r = told_end (below_of order) (take held word) (drop at run) run word' st told q in
-      sym (left_none (below_of order) (take held word) (drop at run) (whole_end (below_of order) (take held word) (drop at run) r))
+  end_ahead q = sym (left_none (below_of order) (take held word) (drop at run) (told_end (below_of order) (take held word) (drop at run) run word' st told q))
 
-  module _ (k z e : ℕ) (q : st ≡ Step.Entry k z e) where
-    here : read_entry (below_of order) (take held word) (drop at run) ≡ ok (Option.some (record { headword = take k word'; body = bytes_at (z + 1) (e - (z + 1)) run }, drop e run))
-    here = told_entry (below_of order) (take held word) (drop at run) run word' st told k z e q
+  module _ (k z e : ℕ) (q : st ≡ Step.Entry k z e) (inside : Inside at run st) where
+    -- an entry, and those behind it
+    pub entry_ahead : ahead order run word' (record { length = k; zero = z; next = e; fresh = fresh }) ≡ entries_left (below_of order) (take held word) (drop at run)
+    entry_ahead =
+        let i = inside k z e q in
+        ahead_some order run word' (record { length = k; zero = z; next = e; fresh = fresh }) (ne_eqb k 0 (λ w. omega arith))
+        ∙ sym (left_some (below_of order) (take held word) (drop at run) _ _ (told_entry (below_of order) (take held word) (drop at run) run word' st told k z e q))
 
-    -- so does an entry with a broken part list
-    pub unlisted_ahead : (t : Bool) → t ≡ parts_stored (bytes_at (z + 1) (e - (z + 1)) run) → not t ≡ true
-        → ahead order run word' (record { length = 0; zero = 0; next = 0; fresh = fresh }) ≡ entries_left (below_of order) (take held word) (drop at run)
-    unfolding ahead
-    unlisted_ahead t p n =
-        sym (left_refused (below_of order) (take held word) (drop at run) 16 (whole_broken (below_of order) (take held word) (drop at run) _ here (sym p ∙ not-true t n)))
-
-    module _ (inside : Inside at run st) (t : Bool) (p : t ≡ parts_stored (bytes_at (z + 1) (e - (z + 1)) run)) (n : not t ≡ false) where
-      whole : whole_entry (below_of order) (take held word) (drop at run) ≡ ok (Option.some (record { headword = take k word'; body = bytes_at (z + 1) (e - (z + 1)) run }, drop e run))
-      whole = whole_by (below_of order) (take held word) (drop at run) _ here (sym p ∙ not-false t n)
-
-      -- an entry, and those behind it
-      pub entry_ahead : ahead order run word' (record { length = k; zero = z; next = e; fresh = fresh }) ≡ entries_left (below_of order) (take held word) (drop at run)
-      entry_ahead =
-          let i = inside k z e q in
-          ahead_some order run word' (record { length = k; zero = z; next = e; fresh = fresh }) (ne_eqb k 0 (λ w. omega arith))
-          ∙ sym (left_some (below_of order) (take held word) (drop at run) _ _ whole)
-
-      -- and the cursor stands at it
-      pub entry_cursor : length word' ≡ length word → longest_headword ≤ length word → CursorOk run word' (record { length = k; zero = z; next = e; fresh = fresh })
-      entry_cursor l r =
-          let i = inside k z e q in
-          let b : length (bytes_at (z + 1) (e - (z + 1)) run) ≤ longest_body = body_short _ (whole_ok (below_of order) (take held word) (drop at run) _ _ whole).0.1 in
-          let m : length (bytes_at (z + 1) (e - (z + 1)) run) ≡ e - (z + 1) = length_bytes_at run (z + 1) (e - (z + 1)) (omega arith) in
-          record {
-            room = omega arith;
-            short = i.4;
-            clean = told_no_zero (below_of order) (take held word) (drop at run) run word' st told k z e q;
-            inside = i.2;
-            body = λ h. i.1;
-            body_short = omega arith;
-          }
+    -- and the cursor stands at it
+    pub entry_cursor : length word' ≡ length word → longest_headword ≤ length word → CursorOk run word' (record { length = k; zero = z; next = e; fresh = fresh })
+    entry_cursor l r =
+        let i = inside k z e q in
+        record {
+          room = omega arith;
+          short = i.5;
+          clean = told_no_zero (below_of order) (take held word) (drop at run) run word' st told k z e q;
+          inside = i.2;
+          body = λ h. i.1;
+          body_short = omega (arith, i.3);
+        }
 
 -- a cursor at the end
 pub end_cursor : (run word word₀ : List ℕ) (fresh : Bool) → length word ≡ length word₀ → longest_headword ≤ length word₀ → CursorOk run word (record { length = 0; zero = 0; next = 0; fresh = fresh })
@@ -169,49 +133,34 @@ module _ (below : HeadwordOrder) (h word : List ℕ) (held : ℕ) (fresh : Bool)
     pub above_old : c ≡ Above → fresh ≡ false → Turn.Old ≡ turn_of below h fresh held word
     above_old q f = sym (turn_enters below h word held fresh some_left (sym e ∙ q) ∙ rw f)
 
--- ---- remember
+-- ---- append
+module _ (limit used size : ℕ) (prev h b part part' last' : List ℕ) (long : size ≡ length (entry_bytes prev (record { headword = h; body = b }))) where
+  -- no room
+  pub append_full : 0 < used → limit < used + size + 4 → Appended limit used prev (record { headword = h; body = b }) part part last' Fit.Full
+  unfolding has_room
+  append_full p q =
+      (λ z. (rw (ne_eqb used 0 (λ w. omega arith), lt-leb (4 + (used + length (entry_bytes prev (record { headword = h; body = b })))) limit (omega arith)), refl), λ u z. clash (cc))
+
+  room_by : (used ≡ 0) ⊎ (used + size + 4 ≤ limit) → has_room limit used prev (record { headword = h; body = b }) ≡ true
+  unfolding has_room
+  room_by (inl z) = rw (eq-eqb used 0 z)
+  room_by (inr k) = rw (le-leb (4 + (used + length (entry_bytes prev (record { headword = h; body = b })))) limit (omega arith)) (or_right (eqb used 0) true refl)
+
+  -- the entry behind those that stand there
+  pub append_done : (used ≡ 0) ⊎ (used + size + 4 ≤ limit) → used + size ≤ longest_entry → part' ≡ write used (entry_bytes prev (record { headword = h; body = b })) part → take (length h) last' ≡ h
+      → Appended limit used prev (record { headword = h; body = b }) part part' last' (Fit.Used (used + size))
+  append_done c p w k = (
+    λ z. clash (cc),
+    λ u z.
+        let e : used + size ≡ u = cc in
+        (room_by c, sym e ∙ ap (λ (x : ℕ). used + x) long, w, k, omega arith),
+  )
+
 -- a headword that was copied to the front of a buffer is there
 pub last_renewed : (h last last' : List ℕ) → last' ≡ write 0 (bytes_at 0 (length h) h) last → take (length h) last' ≡ h
 last_renewed h last last' l = copied_front h last last' (length h) l (omega arith) ∙ take-length h
 
--- ---- first_length
--- a first entry's headword is the first
-pub first_here : (used head long : ℕ) → used ≡ 0 → long ≡ first_of used head long
-unfolding first_of
-first_here used head long z = rw (eq-eqb used 0 z, first_of)
-
--- another leaves it
-pub first_there : (used head long : ℕ) → (used ≡ 0 → ⊥) → head ≡ first_of used head long
-unfolding first_of
-first_there used head long z = rw (ne_eqb used 0 z, first_of)
-
--- ---- measure_entry
-module _ (limit : ℕ) (load : Load) (size : ℕ) (prev h b last' : List ℕ) (long : size ≡ length (entry_bytes prev (record { headword = h; body = b }))) where
-  -- no room
-  pub entry_full : 0 < load.used → limit < load.used + size + 4 → Fitted limit load prev (record { headword = h; body = b }) last' Fit.Full
-  unfolding has_room
-  entry_full p q =
-      (λ z. rw (ne_eqb load.used 0 (λ w. omega arith), lt-leb (4 + (load.used + length (entry_bytes prev (record { headword = h; body = b })))) limit (omega arith)), λ more z. clash (cc))
-
-  room_by : (load.used ≡ 0) ⊎ (load.used + size + 4 ≤ limit) → has_room limit load.used prev (record { headword = h; body = b }) ≡ true
-  unfolding has_room
-  room_by (inl z) = rw (eq-eqb load.used 0 z)
-  room_by (inr k) = rw (le-leb (4 + (load.used + length (entry_bytes prev (record { headword = h; body = b })))) limit (omega arith)) (or_right (eqb load.used 0) true refl)
-
-  -- the entry enters
-  pub entry_taken : (load.used ≡ 0) ⊎ (load.used + size + 4 ≤ limit) → load.used + size ≤ longest_entry → 4 ≤ size → load.count ≤ load.used
-      → (head : ℕ) → head ≡ first_of load.used load.head (length h) → take (length h) last' ≡ h
-      → Fitted limit load prev (record { headword = h; body = b }) last' (Fit.Taken (record { count = load.count + 1; used = load.used + size; head = head }))
-  entry_taken c short some few head first k = (
-    λ z. clash (cc),
-    λ more z.
-        let now : OneMore load prev (record { headword = h; body = b }) (record { count = load.count + 1; used = load.used + size; head = head }) =
-        record { count = refl; used = ap (λ (x : ℕ). load.used + x) long; head = first; few = omega arith; short = short } in
-        let e : (record { count = load.count + 1; used = load.used + size; head = head }) ≡ more = cc in
-        (room_by c, rw e at now, k),
-  )
-
--- ---- the loops over turns
+-- ---- encode_part
 -- how much is to do: the old entries, and the new one
 abbrev pub work : ℕ → List ℕ → List ℕ → Cursor → ℕ
 work order run word c = length (ahead order run word c) + one c.fresh
@@ -222,115 +171,61 @@ todo_behind : (order : ℕ) (run word h body : List ℕ) (c : Cursor) (fresh : B
 unfolding todo
 todo_behind order run word h body c fresh es p f = rw (p, f)
 
--- the headword of an old entry, remembered
-kept_word : (last word : List ℕ) (held : ℕ) → held ≤ length word → take (length (take held word)) last ≡ take held word → take held last ≡ take held word
-kept_word last word held m k = ap (λ (x : ℕ). take x last) (sym (length-take-le held word m)) ∙ k
-
--- ---- measure_part
-module _ (order limit : ℕ) (es₀ : List Entry) (run word h body prev : List ℕ) (load : Load) (c : Cursor) (t : Turn)
-    (told : t ≡ turn_of (below_of order) h c.fresh c.length word) (measuring : Measuring limit es₀ (todo order run word h body c) prev load) where
+module _ (order limit : ℕ) (es₀ : List Entry) (part₀ run word h body part prev : List ℕ) (used : ℕ) (c : Cursor) (t : Turn)
+    (told : t ≡ turn_of (below_of order) h c.fresh c.length word) (filling : Filling limit es₀ part₀ (todo order run word h body c) part prev used) where
   -- nothing is left
-  pub part_done : t ≡ Turn.Done → PartDone limit es₀ (todo order run word h body c) load
+  pub part_done : t ≡ Turn.Done → Filled limit es₀ part₀ (todo order run word h body c) part used
   part_done q =
       let e : todo order run word h body c ≡ [] = todo_done order run word h body c (sym told ∙ q) in
-      rw e (measured_all limit es₀ prev load (rw e at measuring))
+      rw e (filling_end limit es₀ part₀ part prev used (rw e at filling))
 
   -- an old entry is dropped
   pub part_skips : (word' : List ℕ) (c' : Cursor) → t ≡ Turn.Skip → ahead order run word' c' ≡ entries_left (below_of order) (take c.length word) (drop c.next run) → c'.fresh ≡ c.fresh
-      → Measuring limit es₀ (todo order run word' h body c') prev load
+      → Filling limit es₀ part₀ (todo order run word' h body c') part prev used
   part_skips word' c' q p f =
-      let e = todo_skip order run word h body c (sym told ∙ q) in
-      rw (todo_behind order run word' h body c' c.fresh _ p f) (rw e at measuring)
-
-  module _ (last' : List ℕ) (r : Fit) where
-    -- an old entry has no room
-    pub part_full_old : t ≡ Turn.Old → Fitted limit load prev (record { headword = take c.length word; body = take (c.next - (c.zero + 1)) (drop (c.zero + 1) run) }) last' r → r ≡ Fit.Full
-        → PartDone limit es₀ (todo order run word h body c) load
-    unfolding bytes_at
-    part_full_old q a z =
-        let e = todo_old order run word h body c (sym told ∙ q) in
-        rw e (measured_full limit es₀ prev load _ _ (rw e at measuring) (a.0 z))
-
-    -- it is kept
-    pub part_keeps : (word' : List ℕ) (c' : Cursor) → t ≡ Turn.Old
-        → Fitted limit load prev (record { headword = take c.length word; body = take (c.next - (c.zero + 1)) (drop (c.zero + 1) run) }) last' r
-        → (more : Load) → r ≡ Fit.Taken more → c.length ≤ length word → ahead order run word' c' ≡ entries_left (below_of order) (take c.length word) (drop c.next run)
-        → c'.fresh ≡ c.fresh
-        → Measuring limit es₀ (todo order run word' h body c') (take c.length last') more
-    unfolding bytes_at
-    part_keeps word' c' q a more z m p f =
-        let e = todo_old order run word h body c (sym told ∙ q) in
-        let (room, k, w) = a.1 more z in
-        rw (todo_behind order run word' h body c' c.fresh _ p f, kept_word last' word c.length m w) (measuring_more limit es₀ prev load _ _ (rw e at measuring) more room k)
-
-    -- the new entry has no room
-    pub part_full_new : t ≡ Turn.New → Fitted limit load prev (record { headword = h; body = body }) last' r → r ≡ Fit.Full → PartDone limit es₀ (todo order run word h body c) load
-    part_full_new q a z =
-        let e = todo_new order run word h body c (sym told ∙ q) in
-        rw e (measured_full limit es₀ prev load _ _ (rw e at measuring) (a.0 z))
-
-    -- it enters
-    pub part_enters : t ≡ Turn.New → Fitted limit load prev (record { headword = h; body = body }) last' r → (more : Load) → r ≡ Fit.Taken more
-        → Measuring limit es₀ (todo order run word h body (taken c)) (take (length h) last') more
-    part_enters q a more z =
-        let e = todo_new order run word h body c (sym told ∙ q) in
-        let (room, k, w) = a.1 more z in
-        rw w (measuring_more limit es₀ prev load _ _ (rw e at measuring) more room k)
-
--- ---- write_entries
-module _ (order : ℕ) (es₀ : List Entry) (count : ℕ) (dst₀ run word h body dst prev : List ℕ) (used left : ℕ) (c : Cursor) (t : Turn)
-    (told : t ≡ turn_of (below_of order) h c.fresh c.length word) (filling : Filling es₀ count dst₀ (todo order run word h body c) left dst prev used) where
-  -- nothing is left
-  pub written_done : t ≡ Turn.Done → Filled es₀ count dst₀ (todo order run word h body c) dst used
-  written_done q =
-      let e : todo order run word h body c ≡ [] = todo_done order run word h body c (sym told ∙ q) in
-      rw e (filling_end es₀ count dst₀ dst prev used left (rw e at filling))
-
-  -- an old entry is dropped
-  pub written_skips : (word' : List ℕ) (c' : Cursor) → t ≡ Turn.Skip → ahead order run word' c' ≡ entries_left (below_of order) (take c.length word) (drop c.next run) → c'.fresh ≡ c.fresh
-      → Filling es₀ count dst₀ (todo order run word' h body c') left dst prev used
-  written_skips word' c' q p f =
       let e = todo_skip order run word h body c (sym told ∙ q) in
       rw (todo_behind order run word' h body c' c.fresh _ p f) (rw e at filling)
 
-  module _ (some : left ≡ 0 → ⊥) where
-    -- an old entry has room
-    pub old_room : t ≡ Turn.Old → used + length (entry_bytes prev (record { headword = take c.length word; body = take (c.next - (c.zero + 1)) (drop (c.zero + 1) run) }))
-        ≤ length (entries_bytes [] (take count es₀))
+  module _ (part' last' : List ℕ) (r : Fit) where
+    -- an old entry has no room
+    pub part_full_old : t ≡ Turn.Old → Appended limit used prev (record { headword = take c.length word; body = take (c.next - (c.zero + 1)) (drop (c.zero + 1) run) }) part part' last' r
+        → r ≡ Fit.Full
+        → Filled limit es₀ part₀ (todo order run word h body c) part' used
     unfolding bytes_at
-    old_room q =
+    part_full_old q a z =
         let e = todo_old order run word h body c (sym told ∙ q) in
-        filling_room es₀ count dst₀ dst prev used _ _ left (rw e at filling) some
+        let (full, s) = a.0 z in
+        rw (s, e) (filling_full limit es₀ part₀ part prev used _ _ (rw e at filling) full)
 
-    -- so has the new one
-    pub new_room : t ≡ Turn.New → used + length (entry_bytes prev (record { headword = h; body = body })) ≤ length (entries_bytes [] (take count es₀))
-    new_room q =
+    -- it is kept
+    pub part_keeps : (word' : List ℕ) (c' : Cursor) → t ≡ Turn.Old
+        → Appended limit used prev (record { headword = take c.length word; body = take (c.next - (c.zero + 1)) (drop (c.zero + 1) run) }) part part' last' r
+        → (u : ℕ) → r ≡ Fit.Used u → used ≤ length part → c.length ≤ length word → ahead order run word' c' ≡ entries_left (below_of order) (take c.length word) (drop c.next run)
+        → c'.fresh ≡ c.fresh
+        → Filling limit es₀ part₀ (todo order run word' h body c') part' (take c.length last') u
+    unfolding bytes_at
+    part_keeps word' c' q a u z l m p f =
+        let e = todo_old order run word h body c (sym told ∙ q) in
+        let (room, long, w, k, b) = a.1 u z in
+        let n : length (take c.length word) ≡ c.length = length-take-le c.length word m in
+        let k' : take c.length last' ≡ take c.length word = ap (λ (x : ℕ). take x last') (sym n) ∙ k in
+        rw (todo_behind order run word' h body c' c.fresh _ p f, k') (filling_more limit es₀ part₀ part prev used _ _ (rw e at filling) part' u room long w l)
+
+    -- the new entry has no room
+    pub part_full_new : t ≡ Turn.New → Appended limit used prev (record { headword = h; body = body }) part part' last' r → r ≡ Fit.Full
+        → Filled limit es₀ part₀ (todo order run word h body c) part' used
+    part_full_new q a z =
         let e = todo_new order run word h body c (sym told ∙ q) in
-        filling_room es₀ count dst₀ dst prev used _ _ left (rw e at filling) some
+        let (full, s) = a.0 z in
+        rw (s, e) (filling_full limit es₀ part₀ part prev used _ _ (rw e at filling) full)
 
-    module _ (dst' last' : List ℕ) (u left' : ℕ) (less : left' ≡ left - 1) where
-      -- an old entry is kept
-      pub written_keeps : (word' : List ℕ) (c' : Cursor) → t ≡ Turn.Old
-          → Appended used prev (record { headword = take c.length word; body = take (c.next - (c.zero + 1)) (drop (c.zero + 1) run) }) dst dst' last' u
-          → used ≤ length dst → c.length ≤ length word → ahead order run word' c' ≡ entries_left (below_of order) (take c.length word) (drop c.next run) → c'.fresh ≡ c.fresh
-          → Filling es₀ count dst₀ (todo order run word' h body c') left' dst' (take c.length last') u
-      unfolding bytes_at
-      written_keeps word' c' q (s, w, k) l m p f =
-          let e = todo_old order run word h body c (sym told ∙ q) in
-          rw (todo_behind order run word' h body c' c.fresh _ p f, kept_word last' word c.length m k)
-          (filling_more es₀ count dst₀ dst prev used _ _ left (rw e at filling) some dst' u left' less s w l)
-
-      -- the new entry enters
-      pub written_enters : t ≡ Turn.New → Appended used prev (record { headword = h; body = body }) dst dst' last' u → used ≤ length dst
-          → Filling es₀ count dst₀ (todo order run word h body (taken c)) left' dst' (take (length h) last') u
-      written_enters q (s, w, k) l =
-          let e = todo_new order run word h body c (sym told ∙ q) in
-          rw k (filling_more es₀ count dst₀ dst prev used _ _ left (rw e at filling) some dst' u left' less s w l)
-
--- ---- write_part
--- what fits a slice with two bytes in front of it and two behind fits the rest of the slice
-pub rest_long : (d : List ℕ) (k n : ℕ) → 2 + n + 2 ≤ length d → k ≡ length d - 2 → n ≤ length (take k (drop 2 d))
-rest_long d k n h e = omega (arith, length-take k (drop 2 d), length-drop 2 d)
+    -- it enters
+    pub part_enters : t ≡ Turn.New → Appended limit used prev (record { headword = h; body = body }) part part' last' r → (u : ℕ) → r ≡ Fit.Used u → used ≤ length part
+        → Filling limit es₀ part₀ (todo order run word h body (taken c)) part' (take (length h) last') u
+    part_enters q a u z l =
+        let e = todo_new order run word h body c (sym told ∙ q) in
+        let (room, long, w, k, b) = a.1 u z in
+        rw k (filling_more limit es₀ part₀ part prev used _ _ (rw e at filling) part' u room long w l)
 
 -- ---- the turns take work away
 module _ (order : ℕ) (run word h : List ℕ) (c : Cursor) (t : Turn) (told : t ≡ turn_of (below_of order) h c.fresh c.length word) where
@@ -359,10 +254,6 @@ old_length order word h fresh held t told q = omega (arith, eqb-false held 0 (ol
 pub body_few : (run : List ℕ) (z e : ℕ) → e ≤ z + 1 + longest_body → length (take (e - (z + 1)) (drop (z + 1) run)) ≤ longest_body
 body_few run z e h = omega (arith, length-take (e - (z + 1)) (drop (z + 1) run))
 
--- nor is any that is read
-pub left_short : (below : HeadwordOrder) (prev s : List ℕ) → All Short (entries_left below prev s)
-left_short below prev s = all_map _ _ (λ d w. (w.0, omega (arith, body_short d.body w.1))) (entries_left below prev s) (left_ok below prev s)
-
 ahead_short : (order : ℕ) (run word : List ℕ) (c : Cursor) → CursorOk run word c → All Short (ahead order run word c)
 unfolding bytes_at
 ahead_short order run word c k = go (eqb c.length 0) refl
@@ -374,7 +265,8 @@ ahead_short order run word c k = go (eqb c.length 0) refl
         let p : 1 ≤ c.length = omega (arith, eqb-false c.length 0 q) in
         rw (ahead_some order run word c q) (
           (headword_by (take c.length word) (omega arith) (omega (arith, k.short)) k.clean, body_few run c.zero c.next k.body_short),
-          left_short (below_of order) (take c.length word) (drop c.next run),
+          all_map _ _ (λ d w. (w.0, body_short d.body w.1)) (entries_left (below_of order) (take c.length word) (drop c.next run))
+              (left_ok (below_of order) (take c.length word) (drop c.next run)),
         )
 
 -- all of them
@@ -387,19 +279,46 @@ pub changed_few : (order : ℕ) (run h body : List ℕ) (fresh : Bool) → lengt
 unfolding changed_entries
 changed_few order run h body fresh = omega (arith, merge_few (below_of order) (record { headword = h; body = body }) fresh (entries_left (below_of order) [] run), left_few (below_of order) [] run)
 
--- ---- the headword of a run's first entry
-first_front : (h b x y : List ℕ) → take (length h) (h ++ 0 ∷ b ++ x ++ y) ≡ h
-first_front h b x y = simp append_assoc (take_at h (0 ∷ (b ++ (x ++ y))) (length h) refl)
+-- ---- the headword of a part's first entry
+-- what stands behind its field length and its shared front
+entry_front : (e : Entry) (es : List Entry) → drop 3 (entries_bytes [] (e ∷ es)) ≡ e.headword ++ 0 ∷ (e.body ++ entries_bytes e.headword es)
+unfolding entries_bytes entry_bytes field_bytes headword_suffix to_little_endian
+entry_front e es = rw (front_none e.headword) (append_assoc e.headword (0 ∷ e.body) (entries_bytes e.headword es))
 
--- it stands in the run behind the count, the field length and the shared front
-pub headword_in_run : (e : Entry) (es : List Entry) → bytes_at 5 (length e.headword) (run_bytes (e ∷ es)) ≡ e.headword
-unfolding bytes_at run_bytes entries_bytes entry_bytes field_bytes headword_suffix to_little_endian
-headword_in_run e es = rw (front_none e.headword) (first_front e.headword e.body (entries_bytes e.headword es) _)
+module _ (part : List ℕ) (used : ℕ) (e : Entry) (es : List Entry) (stands : take used part ≡ entries_bytes [] (e ∷ es)) where
+  front_long : 3 + length e.headword ≤ used
+  front_long =
+      let a : length (drop 3 (entries_bytes [] (e ∷ es))) ≡ length e.headword + suc (length (e.body ++ entries_bytes e.headword es))
+      = ap length (entry_front e es) ∙ length-append e.headword (0 ∷ (e.body ++ entries_bytes e.headword es)) in
+      omega (arith, length-drop 3 (entries_bytes [] (e ∷ es)), ap length stands, length-take used part)
+
+  -- it is found there
+  pub headword_at : bytes_at 3 (length e.headword) part ≡ e.headword
+  unfolding bytes_at
+  headword_at =
+      sym (bytes_at_take 3 (length e.headword) used part front_long)
+      ∙ ap (λ (x : List ℕ). take (length e.headword) (drop 3 x)) stands
+      ∙ ap (take (length e.headword)) (entry_front e es)
+      ∙ take_at e.headword (0 ∷ (e.body ++ entries_bytes e.headword es)) (length e.headword) refl
+
+  -- and ends at the first zero byte
+  pub head_measured : (r : ℕ) → r ≡ 3 + zero_offset (bytes_at 3 (used - 3) part) → no_zero e.headword ≡ true → r - 3 ≡ length e.headword
+  unfolding bytes_at
+  head_measured r q clear =
+      let tail : List ℕ = e.body ++ entries_bytes e.headword es in
+      let l : length (drop 3 (entries_bytes [] (e ∷ es))) ≤ used - 3 = omega (arith, length-drop 3 (entries_bytes [] (e ∷ es)), ap length stands, length-take used part) in
+      let a : take (used - 3) (drop 3 part) ≡ e.headword ++ 0 ∷ tail =
+      sym (bytes_at_take 3 (used - 3) used part (omega (arith, front_long)))
+      ∙ ap (λ (x : List ℕ). take (used - 3) (drop 3 x)) stands
+      ∙ take_all (used - 3) (drop 3 (entries_bytes [] (e ∷ es))) l
+      ∙ entry_front e es in
+      let z : zero_offset (take (used - 3) (drop 3 part)) ≡ length e.headword + zero_offset (0 ∷ tail) = ap zero_offset a ∙ zero_offset_append e.headword (0 ∷ tail) clear in
+      omega (arith, zero_offset_zero tail)
 
 -- ---- what appending asks of an old entry, and of a cursor
--- its headword is no longer than the longest
-pub word_few : (word : List ℕ) (held : ℕ) → held ≤ longest_headword → length (take held word) ≤ longest_headword
-word_few word held q = omega (arith, length-take held word)
+-- its headword has a byte, and no more than the longest
+pub word_few : (word : List ℕ) (held : ℕ) → longest_headword ≤ length word → 1 ≤ held → held ≤ longest_headword → (1 ≤ length (take held word)) × (length (take held word) ≤ longest_headword)
+word_few word held h p q = (omega (arith, length-take-le held word (omega arith)), omega (arith, length-take-le held word (omega arith)))
 
 -- a cursor whose new entry was taken
 pub cursor_taken : (run word : List ℕ) (c : Cursor) → CursorOk run word c → CursorOk run word (taken c)
@@ -425,7 +344,7 @@ module _ (order : ℕ) (run word h body : List ℕ) (fresh : Bool) (c : Cursor) 
     -- the numbers of all parts are small
     pub measure_bounds : width ≤ 4 → limit ≤ largest_limit → CursorOk run word c → headword_ok h ≡ true → length body ≤ longest_body → length run ≤ 8388608
         → (parts_in limit (changed_entries order run h body fresh) ≤ 8388609) × (bytes_in width limit (changed_entries order run h body fresh) ≤ 2122318077)
-        × (blocks_in limit (changed_entries order run h body fresh) ≤ longest_run * 8388609)
+        × (blocks_in limit (changed_entries order run h body fresh) ≤ 109051917)
     measure_bounds narrow small k p q r =
         let es : List Entry = changed_entries order run h body fresh in
         let s : All Short es = rw begun_todo at (todo_short order run word h body c k p q) in

@@ -1,21 +1,24 @@
 -- The numbers of the parts of a cut: how many, the bytes of their elements, and their blocks.
 use Prim.Native.Nat.{ℕ, zero, suc, ◌+◌, ◌*◌, ◌<◌, ◌≤◌}
 use mathlib.Core.Path.{◌≡◌, refl, ap, ◌∙◌}
+use mathlib.Core.Bool.{true}
 use mathlib.Core.List.{List, [], ◌∷◌, map}
 use native.Mathlib.Omega.{arith}
-use lib.ListN.{length, length-append}
-use Rattle.spec.specs.Bytes.{blocks_for}
-use Rattle.spec.specs.Entry.{Entry}
+use lib.ListN.{length, take, length-append}
+use Rattle.spec.specs.Bytes.{write, no_zero, blocks_for}
+use Rattle.spec.specs.Entry.{Entry, entry_bytes}
 use Rattle.spec.specs.Run.{entries_bytes}
 use Rattle.spec.specs.Index.{element_bytes, elements_bytes}
 use Rattle.spec.specs.Blocks.{run_blocks}
 use Rattle.spec.specs.Place.{cut, first_headword, new_run, element_of}
 use Rattle.spec.specs.Lists.{All}
 use Rattle.spec.proofs.BytesLaws.{length_to_little_endian}
+use Rattle.spec.proofs.IndexLaws.{headword_no_zero}
 use Rattle.spec.proofs.RunLaws.{head_bounds}
-use Rattle.encoder.specs.Limits.{longest_entry, longest_run, largest_limit}
+use Rattle.encoder.specs.Limits.{longest_entry, longest_run}
 use Rattle.parts.specs.Part.{part_of, past_part, Measured}
-use Rattle.parts.proofs.PartLaws.{Short, part_first, part_headword, part_size, part_short, past_all, past_fewer, cut_parts, none_left, some_left}
+use Rattle.parts.specs.Room.{largest_limit}
+use Rattle.parts.proofs.PartLaws.{Short, front_stored, part_first, part_size, part_short, past_all, past_fewer, cut_parts, none_left, some_left}
 
 -- the parts of entries
 unfoldable pub parts_in : ℕ → List Entry → ℕ
@@ -121,9 +124,16 @@ module _ (width limit : ℕ) (es₀ es : List Entry) (parts bytes blocks used : 
         rw (behind, p) (omega (arith, blocks_cons limit e ds))
 
     -- its element's bytes
-    pub bytes_more : (r : ℕ) → r ≡ length (first_headword (part_of limit 0 [] es)) → bytes + (width + 1 + r) + bytes_in width limit Q ≡ bytes_in width limit es₀
-    bytes_more r h =
+    pub bytes_more : (part part' : List ℕ) (r : ℕ) → All Short es → part' ≡ write 0 (entries_bytes [] (part_of limit 0 [] es)) part
+        → ((e : Entry) (ds : List Entry) → take used part' ≡ entries_bytes [] (e ∷ ds) → no_zero e.headword ≡ true → r ≡ length e.headword)
+        → bytes + (width + 1 + r) + bytes_in width limit Q ≡ bytes_in width limit es₀
+    bytes_more part part' r s w h =
         let (e, ds, p) = some_left limit es used long some in
         let k : bytes + bytes_in width limit (e ∷ ds) ≡ bytes_in width limit es₀ = rw p at counting.bytes_all in
-        let q : r ≡ length e.headword = h ∙ ap (λ (l : List Entry). length (first_headword (part_of limit 0 [] l))) p ∙ ap length (part_headword limit e ds) in
+        let X : List ℕ = entries_bytes [] (part_of limit 0 [] es) in
+        let a : take used part' ≡ X = front_stored X part part' used w long in
+        let b : X ≡ entries_bytes [] (e ∷ part_of limit (length (entry_bytes [] e)) e.headword ds)
+        = ap (λ (xs : List Entry). entries_bytes [] (part_of limit 0 [] xs)) p ∙ ap (entries_bytes []) (part_first limit [] e ds) in
+        let ok : All Short (e ∷ ds) = rw p at s in
+        let q : r ≡ length e.headword = h e (part_of limit (length (entry_bytes [] e)) e.headword ds) (a ∙ b) (headword_no_zero e.headword ok.0.0) in
         rw (behind, p) (omega (arith, bytes_cons limit e ds width))

@@ -12,14 +12,13 @@ use Rattle.spec.specs.Outcome.{Outcome, refused, ok}
 use Rattle.spec.specs.Lists.{all, filter, All}
 use Rattle.spec.specs.Bytes.{bytes_at, bytes_equal}
 use Rattle.spec.specs.Order.{IsOrder, Ascend, below_of, HeadwordOrder}
-use Rattle.spec.specs.Body.{body_ok}
-use Rattle.spec.specs.Entry.{Entry, headword_ok}
-use Rattle.spec.specs.Run.{whole_entry, entries_from}
+use Rattle.spec.specs.Entry.{Entry, headword_ok, body_ok}
+use Rattle.spec.specs.Run.{read_entry, entries_from}
 use Rattle.spec.specs.SortedList.{Sorted, has_headword, replace, remove}
 use Rattle.spec.proofs.ListsLaws.{all_map, clash, and_left, and_right, filter_yes, filter_no, filter_every, filter_nothing}
 use Rattle.spec.proofs.OutcomeLaws.{ok_not_refused, same_value, bind_ok}
 use Rattle.spec.proofs.OrderLaws.{one_way, order_of}
-use Rattle.spec.proofs.ReadLaws.{whole_ok, after_step, bytes_self}
+use Rattle.spec.proofs.ReadLaws.{entry_told, after_step, bytes_self}
 use Rattle.spec.proofs.SearchLaws.{other, other_way}
 use Rattle.scans.specs.declared.Comparison.{Comparison}
 use Rattle.scans.specs.declared.Comparison.TheVariants.{Below, Same, Above}
@@ -32,15 +31,15 @@ use Rattle.parts.specs.Merge.{entries_until, entries_left, merge, ahead, todo, t
 -- ---- the entries left
 -- by what stands at the front
 module _ (below : HeadwordOrder) (n : ℕ) (prev s : List ℕ) where
-  until_refused : (k : ℕ) → whole_entry below prev s ≡ refused k → entries_until below (suc n) prev s ≡ []
+  until_refused : (k : ℕ) → read_entry below prev s ≡ refused k → entries_until below (suc n) prev s ≡ []
   unfolding entries_until
   until_refused k q = rw (q, entries_until)
 
-  until_none : whole_entry below prev s ≡ ok none → entries_until below (suc n) prev s ≡ []
+  until_none : read_entry below prev s ≡ ok none → entries_until below (suc n) prev s ≡ []
   unfolding entries_until
   until_none q = rw (q, entries_until)
 
-  until_some : (p : Entry × List ℕ) → whole_entry below prev s ≡ ok (some p) → entries_until below (suc n) prev s ≡ p.0 ∷ entries_until below n p.0.headword p.1
+  until_some : (p : Entry × List ℕ) → read_entry below prev s ≡ ok (some p) → entries_until below (suc n) prev s ≡ p.0 ∷ entries_until below n p.0.headword p.1
   unfolding entries_until
   until_some p q = rw (q, entries_until)
 
@@ -48,32 +47,32 @@ module _ (below : HeadwordOrder) (n : ℕ) (prev s : List ℕ) where
 until_enough : (below : HeadwordOrder) (n m : ℕ) (prev s : List ℕ) → length s < n → length s < m → entries_until below n prev s ≡ entries_until below m prev s
 until_enough below zero m prev s p q = absurd (omega arith)
 until_enough below (suc n) zero prev s p q = absurd (omega arith)
-until_enough below (suc n) (suc m) prev s p q = go (λ w t a b. until_enough below n m w t a b) (whole_entry below prev s) refl
+until_enough below (suc n) (suc m) prev s p q = go (λ w t a b. until_enough below n m w t a b) (read_entry below prev s) refl
   where
-    go : ((w t : List ℕ) → length t < n → length t < m → entries_until below n w t ≡ entries_until below m w t) → (o : Outcome (Option (Entry × List ℕ))) → whole_entry below prev s ≡ o
+    go : ((w t : List ℕ) → length t < n → length t < m → entries_until below n w t ≡ entries_until below m w t) → (o : Outcome (Option (Entry × List ℕ))) → read_entry below prev s ≡ o
         → entries_until below (suc n) prev s ≡ entries_until below (suc m) prev s
     go ih (refused k) e = until_refused below n prev s k e ∙ sym (until_refused below m prev s k e)
     go ih (ok none) e = until_none below n prev s e ∙ sym (until_none below m prev s e)
     go ih (ok (some x)) e =
-        let l : length x.1 < length s = (whole_ok below prev s x.0 x.1 e).1 in
+        let l : length x.1 < length s = (entry_told below prev s x.0 x.1 e).1 in
         until_some below n prev s x e ∙ ap (λ (es : List Entry). x.0 ∷ es) (ih x.0.headword x.1 (omega arith) (omega arith)) ∙ sym (until_some below m prev s x e)
 
 module _ (below : HeadwordOrder) (prev s : List ℕ) where
   -- none at a broken rule
-  pub left_refused : (k : ℕ) → whole_entry below prev s ≡ refused k → entries_left below prev s ≡ []
+  pub left_refused : (k : ℕ) → read_entry below prev s ≡ refused k → entries_left below prev s ≡ []
   unfolding entries_left
   left_refused k q = until_refused below (length s) prev s k q
 
   -- none at the end marks
-  pub left_none : whole_entry below prev s ≡ ok none → entries_left below prev s ≡ []
+  pub left_none : read_entry below prev s ≡ ok none → entries_left below prev s ≡ []
   unfolding entries_left
   left_none q = until_none below (length s) prev s q
 
   -- an entry, and those behind it
-  pub left_some : (e : Entry) (rest : List ℕ) → whole_entry below prev s ≡ ok (some (e, rest)) → entries_left below prev s ≡ e ∷ entries_left below e.headword rest
+  pub left_some : (e : Entry) (rest : List ℕ) → read_entry below prev s ≡ ok (some (e, rest)) → entries_left below prev s ≡ e ∷ entries_left below e.headword rest
   unfolding entries_left
   left_some e rest q =
-      let l : length rest < length s = (whole_ok below prev s e rest q).1 in
+      let l : length rest < length s = (entry_told below prev s e rest q).1 in
       until_some below (length s) prev s (e, rest) q ∙ ap (λ (es : List Entry). e ∷ es) (until_enough below (length s) (suc (length rest)) e.headword rest l (omega arith))
 
 -- entries that were read are those left
@@ -81,10 +80,10 @@ pub entries_left_read : (below : HeadwordOrder) (n : ℕ) (prev s : List ℕ) (e
 unfolding entries_from
 entries_left_read below zero prev s es h = absurd (ok_not_refused es 8 (sym h))
 entries_left_read below (suc n) prev s es h =
-    let (r, p, q) = bind_ok (whole_entry below prev s) (after_step below n) es h in
+    let (r, p, q) = bind_ok (read_entry below prev s) (after_step below n) es h in
     go (λ w t ds k. entries_left_read below n w t ds k) r p q
   where
-    go : ((w t : List ℕ) (ds : List Entry) → entries_from below n w t ≡ ok ds → entries_left below w t ≡ ds) → (r : Option (Entry × List ℕ)) → whole_entry below prev s ≡ ok r
+    go : ((w t : List ℕ) (ds : List Entry) → entries_from below n w t ≡ ok ds → entries_left below w t ≡ ds) → (r : Option (Entry × List ℕ)) → read_entry below prev s ≡ ok r
         → after_step below n r ≡ ok es → entries_left below prev s ≡ es
     go ih none p q = left_none below prev s p ∙ same_value [] es q
     go ih (some x) p q =
@@ -98,13 +97,13 @@ Ruled e = (headword_ok e.headword ≡ true) × (body_ok e.body ≡ true)
 until_ok : (below : HeadwordOrder) (n : ℕ) (prev s : List ℕ) → All Ruled (entries_until below n prev s)
 unfolding entries_until
 until_ok below zero prev s = tt
-until_ok below (suc n) prev s = go (λ w t. until_ok below n w t) (whole_entry below prev s) refl
+until_ok below (suc n) prev s = go (λ w t. until_ok below n w t) (read_entry below prev s) refl
   where
-    go : ((w t : List ℕ) → All Ruled (entries_until below n w t)) → (o : Outcome (Option (Entry × List ℕ))) → whole_entry below prev s ≡ o → All Ruled (entries_until below (suc n) prev s)
+    go : ((w t : List ℕ) → All Ruled (entries_until below n w t)) → (o : Outcome (Option (Entry × List ℕ))) → read_entry below prev s ≡ o → All Ruled (entries_until below (suc n) prev s)
     go ih (refused k) e = rw (until_refused below n prev s k e) tt
     go ih (ok none) e = rw (until_none below n prev s e) tt
     go ih (ok (some x)) e =
-        let t = (whole_ok below prev s x.0 x.1 e).0 in
+        let t = (entry_told below prev s x.0 x.1 e).0 in
         rw (until_some below n prev s x e) ((t.0, t.1), ih x.0.headword x.1)
 
 -- all entries left keep their rules
@@ -115,14 +114,14 @@ left_ok below prev s = until_ok below (suc (length s)) prev s
 until_few : (below : HeadwordOrder) (n : ℕ) (prev s : List ℕ) → length (entries_until below n prev s) ≤ length s
 unfolding entries_until
 until_few below zero prev s = omega arith
-until_few below (suc n) prev s = go (λ w t. until_few below n w t) (whole_entry below prev s) refl
+until_few below (suc n) prev s = go (λ w t. until_few below n w t) (read_entry below prev s) refl
   where
-    go : ((w t : List ℕ) → length (entries_until below n w t) ≤ length t) → (o : Outcome (Option (Entry × List ℕ))) → whole_entry below prev s ≡ o
+    go : ((w t : List ℕ) → length (entries_until below n w t) ≤ length t) → (o : Outcome (Option (Entry × List ℕ))) → read_entry below prev s ≡ o
         → length (entries_until below (suc n) prev s) ≤ length s
     go ih (refused k) e = rw (until_refused below n prev s k e) (omega arith)
     go ih (ok none) e = rw (until_none below n prev s e) (omega arith)
     go ih (ok (some x)) e =
-        let l : length x.1 < length s = (whole_ok below prev s x.0 x.1 e).1 in
+        let l : length x.1 < length s = (entry_told below prev s x.0 x.1 e).1 in
         rw (until_some below n prev s x e) (omega (arith, ih x.0.headword x.1))
 
 -- they are no more than the bytes

@@ -15,10 +15,9 @@ use Rattle.spec.specs.Claim.{is_there}
 use Rattle.spec.proofs.ListsLaws.{or_right, filter_yes, filter_no}
 use Rattle.parts.specs.declared.Cursor.{Cursor}
 use Rattle.parts.specs.declared.Fit.{Fit}
-use Rattle.parts.specs.declared.Load.{Load}
 use Rattle.parts.specs.declared.Turn.{Turn}
 use Rattle.parts.specs.Merge.{entries_left, ahead, turn_of, Met}
-use Rattle.parts.specs.Part.{has_room, Fitted}
+use Rattle.parts.specs.Part.{has_room, Appended}
 use Rattle.parts.proofs.MergeLaws.{ahead_some, taken, skip_some, old_some, done_ahead, skip_same, old_other}
 
 module _ (h : List ℕ) (e : Entry) (es : List Entry) where
@@ -32,7 +31,7 @@ module _ (h : List ℕ) (e : Entry) (es : List Entry) where
   unfolding lookup has_headword
   found_later q = ap first (filter_no (has_headword h) e es q)
 
--- ---- measure_part
+-- ---- encode_part
 -- nothing is found at first
 pub met_start : (h : List ℕ) (es : List Entry) → Met h es false es
 met_start h es = record { told = refl }
@@ -64,9 +63,9 @@ unfolding ahead
 met_new order run word h c es₀ found met = record { told = met.told }
 
 -- a part that has no room for an entry has entries
-pub full_some : (limit : ℕ) (load : Load) (prev : List ℕ) (e : Entry) (last : List ℕ) (r : Fit) → Fitted limit load prev e last r → r ≡ Fit.Full → load.used ≡ 0 → ⊥
+pub full_some : (limit used : ℕ) (prev : List ℕ) (e : Entry) (part part' last : List ℕ) (r : Fit) → Appended limit used prev e part part' last r → r ≡ Fit.Full → used ≡ 0 → ⊥
 unfolding has_room
-full_some limit load prev e last r a z q = true≢false (sym (rw (eq-eqb load.used 0 q)) ∙ a.0 z)
+full_some limit used prev e part part' last r a z q = true≢false (sym (rw (eq-eqb used 0 q)) ∙ (a.0 z).0)
 
 -- ---- measure
 -- nothing is found where reading begins

@@ -1,27 +1,26 @@
 -- One part of a cut at a time: what it takes, what is behind it, and how it is filled.
-use Prim.Native.Nat.{ℕ, zero, suc, ◌+◌, ◌-◌, ◌*◌, ◌<◌, ◌≤◌}
-use mathlib.Core.Path.{◌≡◌, refl, sym, ap, ap₂, ◌∙◌}
+use Prim.Native.Nat.{ℕ, suc, ◌+◌, ◌<◌, ◌≤◌}
+use mathlib.Core.Path.{◌≡◌, refl, sym, ap, ◌∙◌}
 use mathlib.Core.Bool.{Bool, true, false, ◌||◌}
-use mathlib.Core.List.{List, [], ◌∷◌, ◌++◌, append-nil}
+use mathlib.Core.List.{List, [], ◌∷◌, ◌++◌}
 use native.Mathlib.Omega.{arith}
 use native.Mathlib.Nat.{zero-add}
-use lib.ListN.{length, take, drop, length-append, length-take, length-drop, take-append-drop, drop_of_length-le}
-use lib.Seq.{length-take-le, take_all, take_at, drop_at, drop-drop}
+use lib.ListN.{length, take, length-append}
+use lib.Seq.{length-take-le}
 use lib.Dec.{leb, eqb}
-use borrow.Author.Tests.{leb-true, eqb-true, ne_eqb}
+use borrow.Author.Tests.{leb-true, eqb-true}
 use Rattle.spec.specs.Bytes.{write, bytes_at, blocks_for}
 use Rattle.spec.specs.Entry.{Entry, headword_ok, entry_bytes}
-use Rattle.spec.specs.Run.{entries_bytes, encoded_size, run_size, run_bytes}
+use Rattle.spec.specs.Run.{entries_bytes, encoded_size, run_size}
 use Rattle.spec.specs.Place.{into_first, cut_after, cut, first_headword}
 use Rattle.spec.specs.Lists.{All}
 use Rattle.spec.proofs.ListsLaws.{or_cases}
 use Rattle.spec.proofs.RunLaws.{head_bounds}
-use Rattle.spec.proofs.WriteLaws.{written_front, write_right, written_behind, write_none}
-use Rattle.encoder.specs.Limits.{longest_headword, longest_body, longest_entry, largest_limit}
-use Rattle.encoder.specs.Framed.{framed_run}
-use Rattle.encoder.proofs.Laws.{length_entry, blocks_hold, run_framed, run_over}
-use Rattle.parts.specs.declared.Load.{Load}
-use Rattle.parts.specs.Part.{has_room, part_of, past_part, first_of, Loaded, OneMore}
+use Rattle.spec.proofs.WriteLaws.{written_front, written_behind, write_none}
+use Rattle.encoder.specs.Limits.{longest_body, longest_entry}
+use Rattle.encoder.proofs.Laws.{length_entry}
+use Rattle.parts.specs.Part.{has_room, part_of, past_part}
+use Rattle.parts.specs.Room.{largest_limit}
 
 -- ---- the front of a slice
 -- bytes written from the front on stand there
@@ -32,29 +31,6 @@ front_stored x s s' n w q = ap (take n) w ∙ written_front x s n (sym q)
 pub copied_front : (s w w' : List ℕ) (n : ℕ) → w' ≡ write 0 (bytes_at 0 n s) w → n ≤ length s → take n w' ≡ take n s
 unfolding bytes_at
 copied_front s w w' n e p = front_stored (take n s) w w' n e (sym (length-take-le n s p))
-
--- ---- a lent part
--- what a callee left in the rest of a slice
-lent_rest : (i : ℕ) (s : List ℕ) (f : List ℕ → List ℕ) → f (take (length s - i) (drop i s)) ++ drop (length s - i) (drop i s) ≡ f (drop i s)
-lent_rest i s f =
-    let k : take (length s - i) (drop i s) ≡ drop i s = take_all (length s - i) (drop i s) (omega (arith, length-drop i s)) in
-    let n : drop (length s - i) (drop i s) ≡ [] = drop-drop (length s - i) i s ∙ drop_of_length-le s {i = i + (length s - i)} (omega arith) in
-    ap₂ (λ (x y : List ℕ). f x ++ y) k n ∙ append-nil (f (drop i s))
-
--- bytes written to the front of the part from a on are written at a
-pub write_lent : (a k : ℕ) (x s s' : List ℕ) → k ≡ length s - a → a + length x ≤ length s → s' ≡ write 0 x (take k (drop a s)) → take a s ++ (s' ++ drop k (drop a s)) ≡ write a x s
-write_lent a k x s s' e h p =
-    let la : length (take a s) ≡ a = length-take-le a s (omega arith) in
-    let z : a - length (take a s) ≡ 0 = omega arith in
-    ap₂ (λ (l : List ℕ) (n : ℕ). take a s ++ (l ++ drop n (drop a s))) (p ∙ ap (λ (n : ℕ). write 0 x (take n (drop a s))) e) e
-    ∙ ap (λ (l : List ℕ). take a s ++ l) (lent_rest a s (write 0 x))
-    ∙ ap (λ (i : ℕ). take a s ++ write i x (drop a s)) (sym z)
-    ∙ sym (write_right a x (take a s) (drop a s) (omega arith))
-    ∙ ap (write a x) (take-append-drop a s)
-
--- and leave the length
-pub length_lent : (a k : ℕ) (s s' : List ℕ) → k ≡ length s - a → a ≤ length s → length s' ≡ length (take k (drop a s)) → length (take a s ++ (s' ++ drop k (drop a s))) ≡ length s
-length_lent a k s s' e h p = simp (length-append, length-drop) (omega (arith, p, length-take-le a s h, length-take k (drop a s), length-drop a s))
 
 -- ---- the next entry
 module _ (limit used : ℕ) (prev : List ℕ) (e : Entry) (es : List Entry) where
@@ -234,18 +210,25 @@ module _ (limit : ℕ) (es : List Entry) (used : ℕ) (size : used ≡ length (e
       go [] p = absurd (z p)
       go (e ∷ ds) p = (e, ds, refl)
 
-  module _ (some : used ≡ 0 → ⊥) (Q : List Entry) (behind : Q ≡ past_part limit 0 [] es) where
-    -- fewer entries are behind it
-    pub fewer_left : length Q < length es
-    fewer_left =
+  module _ (some : used ≡ 0 → ⊥) where
+    -- it takes four bytes or more
+    pub used_some : 4 ≤ used
+    used_some =
         let (e, ds, p) = some_left some in
-        rw (behind, p) (past_fewer limit [] e ds)
+        rw (size, p) (part_some limit e ds)
 
-    -- the parts: this one, then those of what is behind it
-    pub cut_next : cut limit es ≡ part_of limit 0 [] es ∷ cut limit Q
-    cut_next =
-        let (e, ds, p) = some_left some in
-        rw (behind, p) (cut_parts limit e ds)
+    module _ (Q : List Entry) (behind : Q ≡ past_part limit 0 [] es) where
+      -- fewer entries are behind it
+      pub fewer_left : length Q < length es
+      fewer_left =
+          let (e, ds, p) = some_left some in
+          rw (behind, p) (past_fewer limit [] e ds)
+
+      -- the parts: this one, then those of what is behind it
+      pub cut_next : cut limit es ≡ part_of limit 0 [] es ∷ cut limit Q
+      cut_next =
+          let (e, ds, p) = some_left some in
+          rw (behind, p) (cut_parts limit e ds)
 
 -- its run has the headword of its first entry
 pub part_headword : (limit : ℕ) (e : Entry) (es : List Entry) → first_headword (part_of limit 0 [] (e ∷ es)) ≡ e.headword
@@ -257,175 +240,52 @@ pub part_size : (es : List Entry) → run_size es ≡ blocks_for (2 + length (en
 unfolding run_size encoded_size
 part_size es = refl
 
--- a part and what is behind it are all entries
-part_front : (limit used : ℕ) (prev : List ℕ) (es : List Entry) → part_of limit used prev es ++ past_part limit used prev es ≡ es
-unfolding part_of past_part
-part_front limit used prev [] = refl
-part_front limit used prev (e ∷ es) = go (part_front limit (used + length (entry_bytes prev e)) e.headword es) (has_room limit used prev e) refl
-  where
-    go : part_of limit (used + length (entry_bytes prev e)) e.headword es ++ past_part limit (used + length (entry_bytes prev e)) e.headword es ≡ es
-        → (t : Bool) → has_room limit used prev e ≡ t → part_of limit used prev (e ∷ es) ++ past_part limit used prev (e ∷ es) ≡ e ∷ es
-    go ih true q = rw (part_takes limit used prev e es q, past_takes limit used prev e es q) (ap (λ (l : List Entry). e ∷ l) ih)
-    go ih false q = rw (part_full limit used prev e es q, past_full limit used prev e es q) refl
-
--- by its number of entries
-module _ (limit : ℕ) (es : List Entry) (count : ℕ) (many : count ≡ length (part_of limit 0 [] es)) where
-  -- the first so many entries are the part
-  pub part_taken : take count es ≡ part_of limit 0 [] es
-  part_taken = ap (take count) (sym (part_front limit 0 [] es)) ∙ take_at (part_of limit 0 [] es) (past_part limit 0 [] es) count (sym many)
-
-  -- the others are behind it
-  pub part_dropped : drop count es ≡ past_part limit 0 [] es
-  part_dropped = ap (drop count) (sym (part_front limit 0 [] es)) ∙ drop_at (part_of limit 0 [] es) (past_part limit 0 [] es) count (sym many)
-
--- its first headword is no longer than a headword may be
-pub part_head_few : (limit : ℕ) (es : List Entry) (r : ℕ) → r ≡ length (first_headword (part_of limit 0 [] es)) → All Short es → r ≤ longest_headword
-unfolding part_of first_headword
-part_head_few limit [] r e s = omega arith
-part_head_few limit (d ∷ es) r e s = omega (arith, e ∙ ap length (part_headword limit d es), head_bounds d.headword s.0.0)
-
--- ---- a part that is measured: what it has and what it still takes make the whole
--- the length of its first headword, as it is so far, with the entries that it still takes
-unfoldable pub head_with : ℕ → ℕ → List Entry → ℕ
-head_with used head [] = head
-head_with used head (e ∷ es) = first_of used head (length e.headword)
-
--- once it has entries, it stays
-head_stays : (used head : ℕ) (es : List Entry) → 0 < used → head_with used head es ≡ head
-unfolding head_with first_of
-head_stays used head [] h = refl
-head_stays used head (e ∷ es) h = rw (ne_eqb used 0 (λ w. omega arith), first_of)
-
-head_all : (es : List Entry) → head_with 0 0 es ≡ length (first_headword es)
-unfolding head_with first_of first_headword
-head_all [] = refl
-head_all (e ∷ es) = refl
-
-pub record Measuring (limit : ℕ) (es₀ es : List Entry) (prev : List ℕ) (load : Load) : Type 0 where
-  pub behind : past_part limit load.used prev es ≡ past_part limit 0 [] es₀
-  pub count : load.count + length (part_of limit load.used prev es) ≡ length (part_of limit 0 [] es₀)
-  pub used : load.used + length (entries_bytes prev (part_of limit load.used prev es)) ≡ length (entries_bytes [] (part_of limit 0 [] es₀))
-  pub head : head_with load.used load.head (part_of limit load.used prev es) ≡ length (first_headword (part_of limit 0 [] es₀))
+-- ---- a part that is filled: what is still to come, written behind what is there, makes the whole
+pub record Filling (limit : ℕ) (es₀ : List Entry) (part₀ : List ℕ) (es : List Entry) (part prev : List ℕ) (used : ℕ) : Type 0 where
+  pub whole : write used (entries_bytes prev (part_of limit used prev es)) part ≡ write 0 (entries_bytes [] (part_of limit 0 [] es₀)) part₀
+  pub behind : past_part limit used prev es ≡ past_part limit 0 [] es₀
+  pub size : used + length (entries_bytes prev (part_of limit used prev es)) ≡ length (entries_bytes [] (part_of limit 0 [] es₀))
 
 -- a part that is done
-pub record PartDone (limit : ℕ) (es₀ es : List Entry) (load : Load) : Type 0 where
+pub record Filled (limit : ℕ) (es₀ : List Entry) (part₀ : List ℕ) (es : List Entry) (part : List ℕ) (used : ℕ) : Type 0 where
+  pub whole : part ≡ write 0 (entries_bytes [] (part_of limit 0 [] es₀)) part₀
   pub behind : es ≡ past_part limit 0 [] es₀
-  pub loaded : Loaded (part_of limit 0 [] es₀) load
+  pub size : used ≡ length (entries_bytes [] (part_of limit 0 [] es₀))
 
--- nothing is measured at first
-pub measuring_start : (limit : ℕ) (es : List Entry) → Measuring limit es es [] (record { count = 0; used = 0; head = 0 })
-measuring_start limit es = record { behind = refl; count = zero-add _; used = zero-add _; head = head_all _ }
+-- nothing is filled at first
+pub filling_start : (limit : ℕ) (es : List Entry) (part : List ℕ) → Filling limit es part es part [] 0
+filling_start limit es part = record { whole = refl; behind = refl; size = zero-add _ }
 
-module _ (limit : ℕ) (es₀ : List Entry) (prev : List ℕ) (load : Load) where
-  -- the part takes no more
-  measuring_end : (es : List Entry) → Measuring limit es₀ es prev load → part_of limit load.used prev es ≡ [] → es ≡ past_part limit load.used prev es → PartDone limit es₀ es load
-  unfolding entries_bytes head_with
-  measuring_end es m none same =
-      let n : load.count + 0 ≡ length (part_of limit 0 [] es₀) = rw none at m.count in
-      let u : load.used + 0 ≡ length (entries_bytes [] (part_of limit 0 [] es₀)) = rw none at m.used in
-      let k : load.head ≡ length (first_headword (part_of limit 0 [] es₀)) = rw none at m.head in
-      record { behind = same ∙ m.behind; loaded = record { count = omega arith; used = omega arith; head = k } }
-
+module _ (limit : ℕ) (es₀ : List Entry) (part₀ part prev : List ℕ) (used : ℕ) where
   -- no entry is left
-  pub measured_all : Measuring limit es₀ [] prev load → PartDone limit es₀ [] load
-  unfolding part_of past_part
-  measured_all m = measuring_end [] m refl refl
+  pub filling_end : Filling limit es₀ part₀ [] part prev used → Filled limit es₀ part₀ [] part used
+  unfolding part_of past_part entries_bytes
+  filling_end f = record { whole = sym (write_none part used) ∙ f.whole; behind = f.behind; size = omega (arith, f.size) }
 
-  module _ (e : Entry) (es : List Entry) (m : Measuring limit es₀ (e ∷ es) prev load) where
+  module _ (e : Entry) (es : List Entry) (f : Filling limit es₀ part₀ (e ∷ es) part prev used) where
     -- the next entry has no room
-    pub measured_full : has_room limit load.used prev e ≡ false → PartDone limit es₀ (e ∷ es) load
-    measured_full q = measuring_end (e ∷ es) m (part_full limit load.used prev e es q) (sym (past_full limit load.used prev e es q))
-
-    -- it enters
-    pub measuring_more : (more : Load) → has_room limit load.used prev e ≡ true → OneMore load prev e more → Measuring limit es₀ es e.headword more
-    unfolding entries_bytes head_with
-    measuring_more more q k =
-        let u : more.used ≡ load.used + length (entry_bytes prev e) = k.used in
-        let P : List Entry = part_of limit more.used e.headword es in
-        let p : part_of limit load.used prev (e ∷ es) ≡ e ∷ P = part_takes limit load.used prev e es q ∙ ap (λ (n : ℕ). e ∷ part_of limit n e.headword es) (sym u) in
-        let n : load.count + length (e ∷ P) ≡ length (part_of limit 0 [] es₀) = rw p at m.count in
-        let b : load.used + length (entry_bytes prev e ++ entries_bytes e.headword P) ≡ length (entries_bytes [] (part_of limit 0 [] es₀)) = rw p at m.used in
-        let f : first_of load.used load.head (length e.headword) ≡ length (first_headword (part_of limit 0 [] es₀)) = rw p at m.head in
-        record {
-          behind = ap (λ (x : ℕ). past_part limit x e.headword es) u ∙ sym (past_takes limit load.used prev e es q) ∙ m.behind;
-          count = omega (arith, k.count);
-          used = omega (arith, b, length-append (entry_bytes prev e) (entries_bytes e.headword P));
-          head = head_stays more.used more.head P (omega (arith, entry_some prev e)) ∙ k.head ∙ f;
-        }
-
--- ---- entries that are written: those still to come, written behind what is there, make the whole
-pub record Filling (es₀ : List Entry) (count : ℕ) (dst₀ : List ℕ) (es : List Entry) (left : ℕ) (dst prev : List ℕ) (used : ℕ) : Type 0 where
-  pub whole : write used (entries_bytes prev (take left es)) dst ≡ write 0 (entries_bytes [] (take count es₀)) dst₀
-  pub behind : drop left es ≡ drop count es₀
-  pub size : used + length (entries_bytes prev (take left es)) ≡ length (entries_bytes [] (take count es₀))
-
--- all are written
-pub record Filled (es₀ : List Entry) (count : ℕ) (dst₀ : List ℕ) (es : List Entry) (dst : List ℕ) (used : ℕ) : Type 0 where
-  pub whole : dst ≡ write 0 (entries_bytes [] (take count es₀)) dst₀
-  pub behind : es ≡ drop count es₀
-  pub size : used ≡ length (entries_bytes [] (take count es₀))
-
--- nothing is written at first
-pub filling_start : (es : List Entry) (count : ℕ) (dst : List ℕ) → Filling es count dst es count dst [] 0
-filling_start es count dst = record { whole = refl; behind = refl; size = zero-add _ }
-
-module _ (es₀ : List Entry) (count : ℕ) (dst₀ dst prev : List ℕ) (used : ℕ) where
-  -- no entry is to come
-  pub filling_full : (es : List Entry) (left : ℕ) → left ≡ 0 → Filling es₀ count dst₀ es left dst prev used → Filled es₀ count dst₀ es dst used
-  unfolding entries_bytes
-  filling_full es zero e f = record { whole = sym (write_none dst used) ∙ f.whole; behind = f.behind; size = omega (arith, f.size) }
-  filling_full es (suc n) e f = absurd (let z : ⊥ = omega (arith, e) in z)
-
-  -- no entry is left
-  pub filling_end : (left : ℕ) → Filling es₀ count dst₀ [] left dst prev used → Filled es₀ count dst₀ [] dst used
-  unfolding entries_bytes
-  filling_end zero f = filling_full [] zero refl f
-  filling_end (suc n) f = record { whole = sym (write_none dst used) ∙ f.whole; behind = f.behind; size = omega (arith, f.size) }
-
-  module _ (e : Entry) (es : List Entry) (left : ℕ) (f : Filling es₀ count dst₀ (e ∷ es) left dst prev used) (some : left ≡ 0 → ⊥) where
-    -- the next entry has room
-    pub filling_room : used + length (entry_bytes prev e) ≤ length (entries_bytes [] (take count es₀))
+    pub filling_full : has_room limit used prev e ≡ false → Filled limit es₀ part₀ (e ∷ es) part used
     unfolding entries_bytes
-    filling_room = go left f some
-      where
-        go : (m : ℕ) → Filling es₀ count dst₀ (e ∷ es) m dst prev used → (m ≡ 0 → ⊥) → used + length (entry_bytes prev e) ≤ length (entries_bytes [] (take count es₀))
-        go zero g z = absurd (z refl)
-        go (suc m) g z = omega (arith, g.size, length-append (entry_bytes prev e) (entries_bytes e.headword (take m es)))
+    filling_full q =
+        let p : part_of limit used prev (e ∷ es) ≡ [] = part_full limit used prev e es q in
+        let w : write used [] part ≡ write 0 (entries_bytes [] (part_of limit 0 [] es₀)) part₀ = rw p at f.whole in
+        let s : used + 0 ≡ length (entries_bytes [] (part_of limit 0 [] es₀)) = rw p at f.size in
+        record { whole = sym (write_none part used) ∙ w; behind = sym (past_full limit used prev e es q) ∙ f.behind; size = omega arith }
 
     -- it is appended
-    pub filling_more : (dst' : List ℕ) (used' left' : ℕ) → left' ≡ left - 1 → used' ≡ used + length (entry_bytes prev e) → dst' ≡ write used (entry_bytes prev e) dst → used ≤ length dst
-        → Filling es₀ count dst₀ es left' dst' e.headword used'
+    pub filling_more : (part' : List ℕ) (used' : ℕ) → has_room limit used prev e ≡ true → used' ≡ used + length (entry_bytes prev e) → part' ≡ write used (entry_bytes prev e) part → used ≤ length part
+        → Filling limit es₀ part₀ es part' e.headword used'
     unfolding entries_bytes
-    filling_more dst' used' left' el u w l = go left f some el
-      where
-        go : (m : ℕ) → Filling es₀ count dst₀ (e ∷ es) m dst prev used → (m ≡ 0 → ⊥) → left' ≡ m - 1 → Filling es₀ count dst₀ es left' dst' e.headword used'
-        go zero g z d = absurd (z refl)
-        go (suc m) g z d =
-            let k : left' ≡ m = omega (arith, d) in
-            let more : List ℕ = entries_bytes e.headword (take m es) in
-            rw (u, k) (
-            record {
-              whole = written_behind dst dst' (write (used + length (entry_bytes prev e)) more dst') (entry_bytes prev e) more used (used + length (entry_bytes prev e)) l refl w refl ∙ g.whole;
-              behind = g.behind;
-              size = omega (arith, g.size, length-append (entry_bytes prev e) more);
-            }
-            )
-
--- ---- a run that is written: its entries to the rest behind two bytes, then what stands around them
--- a slice for the run's blocks holds its entries and the marks around them
-pub run_holds : (es : List Entry) (n : ℕ) → 256 * run_size es ≤ n → 2 + length (entries_bytes [] es) + 2 ≤ n
-run_holds es n fits = omega (arith, blocks_hold (length (entries_bytes [] es)) (run_size es) (part_size es))
-
--- its blocks by the bytes that its entries took
-pub run_closes : (es : List Entry) (used n m : ℕ) → used ≡ length (entries_bytes [] es) → 256 * run_size es ≤ n → m ≡ n → 256 * blocks_for (2 + used + 2) ≤ m
-run_closes es used n m e fits same = omega (arith, part_size es ∙ ap (λ (k : ℕ). blocks_for (2 + k + 2)) (sym e))
-
--- the run is written
-pub run_written : (es : List Entry) (k used : ℕ) (d d₁ d₂ : List ℕ) → k ≡ length d - 2 → 256 * run_size es ≤ length d → used ≡ length (entries_bytes [] es)
-    → d₁ ≡ write 0 (entries_bytes [] es) (take k (drop 2 d))
-    → d₂ ≡ write 0 (framed_run (bytes_at 2 used (take 2 d ++ (d₁ ++ drop k (drop 2 d))))) (take 2 d ++ (d₁ ++ drop k (drop 2 d)))
-    → d₂ ≡ write 0 (run_bytes es) d
-run_written es k used d d₁ d₂ ek fits eu p₁ p₂ =
-    let x : List ℕ = entries_bytes [] es in
-    let w : take 2 d ++ (d₁ ++ drop k (drop 2 d)) ≡ write 2 x d = write_lent 2 k x d d₁ ek (omega (arith, run_holds es (length d) fits)) p₁ in
-    p₂ ∙ ap₂ (λ (n : ℕ) (l : List ℕ). write 0 (framed_run (bytes_at 2 n l)) l) eu w ∙ run_over x d (rw (part_size es) at fits) ∙ ap (λ (l : List ℕ). write 0 l d) (run_framed es)
+    filling_more part' used' q u w l =
+        let next : ℕ = used + length (entry_bytes prev e) in
+        let more : List ℕ = entries_bytes e.headword (part_of limit next e.headword es) in
+        let p : part_of limit used prev (e ∷ es) ≡ e ∷ part_of limit next e.headword es = part_takes limit used prev e es q in
+        let W : write used (entry_bytes prev e ++ more) part ≡ write 0 (entries_bytes [] (part_of limit 0 [] es₀)) part₀ = rw p at f.whole in
+        let S : used + length (entry_bytes prev e ++ more) ≡ length (entries_bytes [] (part_of limit 0 [] es₀)) = rw p at f.size in
+        rw u (
+        record {
+          whole = written_behind part part' (write next more part') (entry_bytes prev e) more used next l refl w refl ∙ W;
+          behind = sym (past_takes limit used prev e es q) ∙ f.behind;
+          size = omega (arith, S, length-append (entry_bytes prev e) more);
+        }
+        )

@@ -1,21 +1,25 @@
-// A run's entries with a change merged in, measured and written part by part.
-ghost use Rattle.std.specs.Prelude.{◌≡◌, true, [], map, ◌+◌, ◌*◌, ◌≤◌, length, take, drop};
+// A run's entries with a change merged in, encoded part by part.
+ghost use Rattle.std.specs.Prelude.{◌≡◌, true, List, [], ◌∷◌, map, ◌+◌, ◌≤◌, ◌<◌, length, take, drop};
 ghost use Rattle.spec.specs.Bytes.{write, no_zero};
 ghost use Rattle.spec.specs.Order.{below_of};
-ghost use Rattle.spec.specs.Entry.{entry_bytes, headword_ok};
-ghost use Rattle.spec.specs.Run.{entries_bytes, run_size, run_bytes};
+ghost use Rattle.spec.specs.Entry.{Entry, headword_ok};
+ghost use Rattle.spec.specs.Run.{entries_bytes};
 ghost use Rattle.spec.specs.Place.{cut, new_run};
-ghost use Rattle.encoder.specs.Limits.{longest_headword, longest_body, longest_entry, longest_run, largest_limit};
+ghost use Rattle.encoder.specs.Limits.{longest_headword, longest_body, longest_entry};
 ghost use Rattle.byteops.specs.Width.{Width};
 ghost use Rattle.spec.specs.SortedList.{lookup};
 ghost use Rattle.spec.specs.Claim.{is_there};
-ghost use Rattle.parts.specs.Merge.{entries_left, ahead, todo, spanned, past_span, changed_entries, turn_of, CursorOk, Met};
-ghost use Rattle.parts.specs.Part.{part_of, past_part, first_of, Loaded, Fitted, Appended, Measured};
+ghost use Rattle.parts.specs.Merge.{entries_left, ahead, todo, changed_entries, turn_of, CursorOk, Met};
+ghost use Rattle.parts.specs.Part.{part_of, past_part, Appended, Measured};
+ghost use Rattle.parts.specs.Room.{largest_limit, part_room};
 
 use encoder::entry_size;
 use header::Form;
 use runs::{Step, WORD};
 use scans::Comparison;
+
+// The bytes of a part's buffer.
+pub const PART: usize = 3328;
 
 // An edit of a run: what the file fixes, and whether a new entry enters.
 #[derive(Drop)]
@@ -44,41 +48,20 @@ enum Turn {
     New,
 }
 
-// What a part has: how many entries, their bytes, and the bytes of the first one's headword. All 0: nothing.
-#[derive(Drop)]
-pub struct Load {
-    pub count: usize,
-    pub used: usize,
-    pub head: usize,
-}
-
-// What came of one entry more in a part: no room, or what the part has then.
+// What came of one entry more in a part: no room, or the bytes used then.
 #[derive(Drop)]
 enum Fit {
     Full,
-    Taken(Load),
+    Used(usize),
 }
 
-// A part that was measured: what it has, whether an old entry was dropped on the way, and where the merging stands behind it.
+// An encoded part: how many bytes its entries take, whether an old entry was dropped on the way, and where the merging stands
+// behind it.
 #[derive(Drop)]
 pub struct Part {
-    pub load: Load,
+    pub used: usize,
     pub found: bool,
     pub cursor: Cursor,
-}
-
-// The next `count` entries from a cursor on.
-#[derive(Drop)]
-pub struct Span {
-    pub start: Cursor,
-    pub count: usize,
-}
-
-// Entries that were written: their bytes, and where the merging stands behind them.
-#[derive(Drop)]
-struct Written {
-    used: usize,
-    cursor: Cursor,
 }
 
 // The parts of a changed run: how many, the bytes of their index elements, and their blocks; and whether the run has an entry
@@ -91,8 +74,7 @@ pub struct Sizes {
     pub found: bool,
 }
 
-// Reads the run's own entry at `at`, after one whose headword is the first `held` bytes of `word`. A broken one, or one with a
-// broken part list, ends the run.
+// Reads the run's own entry at `at`, after one whose headword is the first `held` bytes of `word`.
 pub fn advance(
     order: usize,
     run: &[u8],
@@ -108,27 +90,26 @@ pub fn advance(
     ensures cursor_ok { CursorOk run.now word.new result }
     ensures word_len_unchanged { length word.new ≡ length word.old }
 {
-    let none = Cursor {
-        length: 0,
-        zero: 0,
-        next: 0,
-        fresh: fresh,
-    };
     let st = runs::read_entry(order, run, at, word, held);
     match st {
-        Step::Broken => none,
-        Step::End => none,
-        Step::Entry { length, zero, next } => {
-            if !bodies::parts_stored(run, zero + 1, next) {
-                return none;
-            }
-            Cursor {
-                length: length,
-                zero: zero,
-                next: next,
-                fresh: fresh,
-            }
-        }
+        Step::Broken => Cursor {
+            length: 0,
+            zero: 0,
+            next: 0,
+            fresh: fresh,
+        },
+        Step::End => Cursor {
+            length: 0,
+            zero: 0,
+            next: 0,
+            fresh: fresh,
+        },
+        Step::Entry { length, zero, next } => Cursor {
+            length: length,
+            zero: zero,
+            next: next,
+            fresh: fresh,
+        },
     }
 }
 
@@ -156,42 +137,23 @@ fn next_turn(order: usize, word: &[u8], held: usize, fresh: bool, h: &[u8]) -> T
     }
 }
 
-// Copies a headword to the front of `last`: the next entry shares its front with it.
-fn remember(last: &mut [u8], headword: &[u8])
-    requires { length headword.now ≤ length last.old }
-    ensures last_after { take (length headword.now) last.new ≡ headword.now }
-    ensures last_len_unchanged { length last.new ≡ length last.old }
-{
-    byteops::copy(last, 0, headword, 0, headword.len());
-}
-
-// The length of a part's first headword after one of `long` bytes entered the part: that one's, where the part had nothing.
-fn first_length(used: usize, head: usize, long: usize) -> usize
-    ensures { result ≡ first_of used head long }
-{
-    if used == 0 {
-        return long;
-    }
-    head
-}
-
 // One entry more in a part, after one whose headword is the first `held` bytes of `last`: a first one always has room, another
 // where the part then encodes in `limit` bytes. Its headword is then in `last`.
-fn measure_entry(
+fn append(
     limit: usize,
-    load: Load,
+    part: &mut [u8],
+    used: usize,
     last: &mut [u8],
     held: usize,
     headword: &[u8],
     body: &[u8],
 ) -> Fit
-    requires headword_len_bound { (length headword.now ≤ longest_headword) × (length body.now ≤ longest_body) }
-    requires held_le_longest_headword { (held ≤ longest_headword) × (longest_headword ≤ length last.old) × (limit ≤ largest_limit) }
-    requires count_le_used { (load.count ≤ load.used) × (load.used ≤ longest_entry) }
-    ensures fitted { Fitted limit load (take held last.old) (record { headword = headword.entry.now; body = body.now }) last.new result }
-    ensures last_len_unchanged { length last.new ≡ length last.old }
+    requires in_bounds { (1 ≤ length headword.now) × (length headword.now ≤ longest_headword) × (length body.now ≤ longest_body) }
+    requires held_le_longest_headword { (held ≤ longest_headword) × (longest_headword ≤ length last.old) × (part_room ≤ length part.old) × (used ≤ longest_entry) × (limit ≤ largest_limit) }
+    ensures appended { Appended limit used (take held last.old) (record { headword = headword.entry.now; body = body.now })
+        part.old part.new last.new result }
+    ensures part_len_unchanged { (length part.new ≡ length part.old) × (length last.new ≡ length last.old) }
 {
-    let used = load.used;
     let size = entry_size(&last[..held], headword, body);
     let whole = used + size;
     if 0 < used {
@@ -199,44 +161,39 @@ fn measure_entry(
             return Fit::Full;
         }
     }
-    let count = load.count + 1;
-    let head = first_length(used, load.head, headword.len());
-    remember(last, headword);
-    Fit::Taken(Load {
-        count: count,
-        used: whole,
-        head: head,
-    })
+    encoder::put_entry(part, used, &last[..held], headword, body);
+    byteops::copy(last, 0, headword, 0, headword.len());
+    Fit::Used(whole)
 }
 
-// The next part, measured: as many entries as it holds.
-pub fn measure_part(
+// The next part: as many entries as it holds, encoded from the front of `part` on.
+pub fn encode_part(
     form: Form,
     run: &[u8],
     start: Cursor,
     word: &mut [u8],
     h: &[u8],
     body: &[u8],
+    part: &mut [u8],
 ) -> Part
     requires cursor_ok { CursorOk run.now word.old start }
-    requires h_value { (headword_ok h.now ≡ true) × (length body.now ≤ longest_body) × (form.limit ≤ largest_limit) }
-    ensures loaded { Loaded (part_of form.limit 0 [] (todo form.order run.now word.old h.now body.now start)) result.load }
+    requires h_value { (headword_ok h.now ≡ true) × (length body.now ≤ longest_body) × (part_room ≤ length part.old) × (form.limit ≤ largest_limit) }
+    ensures part_after { part.new
+        ≡ write 0 (entries_bytes [] (part_of form.limit 0 [] (todo form.order run.now word.old h.now body.now start))) part.old }
+    ensures used_value { result.used
+        ≡ length (entries_bytes [] (part_of form.limit 0 [] (todo form.order run.now word.old h.now body.now start))) }
     ensures cursor_after { todo form.order run.now word.new h.now body.now result.cursor
         ≡ past_part form.limit 0 [] (todo form.order run.now word.old h.now body.now start) }
     ensures cursor_ok_2 { CursorOk run.now word.new result.cursor }
-    ensures used_le_longest_entry { (result.load.used ≤ longest_entry) × (length word.new ≡ length word.old) }
+    ensures used_le_longest_entry { (result.used ≤ longest_entry) × (length part.new ≡ length part.old) × (length word.new ≡ length word.old) }
     ensures met { Met h.now (ahead form.order run.now word.old start) result.found (ahead form.order run.now word.new result.cursor) }
-    ensures cursor_after_2 { result.load.used ≡ 0 → ahead form.order run.now word.new result.cursor ≡ [] }
+    ensures cursor_after_2 { result.used ≡ 0 → ahead form.order run.now word.new result.cursor ≡ [] }
 {
     let order = form.order;
     let limit = form.limit;
     let mut last = [0u8; WORD];
     let mut held = 0;
-    let mut load = Load {
-        count: 0,
-        used: 0,
-        head: 0,
-    };
+    let mut used = 0;
     let mut found = false;
     let mut cur = start;
     loop {
@@ -248,7 +205,7 @@ pub fn measure_part(
         match t {
             Turn::Done => {
                 return Part {
-                    load: load,
+                    used: used,
                     found: found,
                     cursor: cur,
                 };
@@ -258,9 +215,10 @@ pub fn measure_part(
                 cur = advance(order, run, next, word, length, fresh);
             }
             Turn::Old => {
-                let fit = measure_entry(
+                let fit = append(
                     limit,
-                    load,
+                    part,
+                    used,
                     &mut last,
                     held,
                     &word[..length],
@@ -269,30 +227,30 @@ pub fn measure_part(
                 match fit {
                     Fit::Full => {
                         return Part {
-                            load: load,
+                            used: used,
                             found: found,
                             cursor: cur,
                         };
                     }
-                    Fit::Taken(more) => {
-                        load = more;
+                    Fit::Used(whole) => {
+                        used = whole;
                         held = length;
                         cur = advance(order, run, next, word, length, fresh);
                     }
                 }
             }
             Turn::New => {
-                let fit = measure_entry(limit, load, &mut last, held, h, body);
+                let fit = append(limit, part, used, &mut last, held, h, body);
                 match fit {
                     Fit::Full => {
                         return Part {
-                            load: load,
+                            used: used,
                             found: found,
                             cursor: cur,
                         };
                     }
-                    Fit::Taken(more) => {
-                        load = more;
+                    Fit::Used(whole) => {
+                        used = whole;
                         held = h.len();
                         cur = Cursor {
                             length: length,
@@ -307,127 +265,13 @@ pub fn measure_part(
     }
 }
 
-// Writes one entry more at `used`, after one whose headword is the first `held` bytes of `last`; answers the bytes used then. Its
-// headword is then in `last`.
-fn append(
-    dst: &mut [u8],
-    used: usize,
-    last: &mut [u8],
-    held: usize,
-    headword: &[u8],
-    body: &[u8],
-) -> usize
-    requires headword_len_bound { (length headword.now ≤ longest_headword) × (length body.now ≤ longest_body) }
-    requires held_le_longest_headword { (held ≤ longest_headword) × (longest_headword ≤ length last.old) }
-    requires body_in_bounds { used + length (entry_bytes (take held last.old) (record { headword = headword.now; body = body.now })) ≤ length dst.old }
-    ensures appended { Appended used (take held last.old) (record { headword = headword.entry.now; body = body.now })
-        dst.old dst.new last.new result }
-    ensures dst_len_unchanged { (length dst.new ≡ length dst.old) × (length last.new ≡ length last.old) }
+// How many bytes the headword of a part's first entry has, which starts at 3.
+pub fn head_length(part: &[u8], used: usize) -> usize
+    requires { (3 ≤ used) × (used ≤ length part.now) }
+    ensures result_bound { 3 + result ≤ used }
+    ensures value { (e : Entry) (es : List Entry) → take used part.now ≡ entries_bytes [] (e ∷ es) → no_zero e.headword ≡ true → result ≡ length e.headword }
 {
-    let size = entry_size(&last[..held], headword, body);
-    encoder::put_entry(dst, used, &last[..held], headword, body);
-    remember(last, headword);
-    used + size
-}
-
-// Writes the entries of a span from the front of `dst` on.
-fn write_entries(
-    order: usize,
-    dst: &mut [u8],
-    run: &[u8],
-    span: Span,
-    word: &mut [u8],
-    h: &[u8],
-    body: &[u8],
-) -> Written
-    requires cursor_ok { CursorOk run.now word.old span.start }
-    requires h_value { (headword_ok h.now ≡ true) × (length body.now ≤ longest_body) }
-    requires span_in_bounds { length (entries_bytes [] (spanned order run.now word.old h.now body.now span)) ≤ length dst.old }
-    ensures dst_after { dst.new ≡ write 0 (entries_bytes [] (spanned order run.now word.old h.now body.now span)) dst.old }
-    ensures used_value { result.used ≡ length (entries_bytes [] (spanned order run.now word.old h.now body.now span)) }
-    ensures cursor_after { todo order run.now word.new h.now body.now result.cursor
-        ≡ past_span order run.now word.old h.now body.now span }
-    ensures cursor_ok_2 { CursorOk run.now word.new result.cursor }
-    ensures dst_len_unchanged { (length dst.new ≡ length dst.old) × (length word.new ≡ length word.old) }
-{
-    let mut last = [0u8; WORD];
-    let mut held = 0;
-    let mut used = 0;
-    let mut left = span.count;
-    let mut cur = span.start;
-    loop {
-        if left == 0 {
-            return Written {
-                used: used,
-                cursor: cur,
-            };
-        }
-        let length = cur.length;
-        let zero = cur.zero;
-        let next = cur.next;
-        let fresh = cur.fresh;
-        let t = next_turn(order, word, length, fresh, h);
-        match t {
-            Turn::Done => {
-                return Written {
-                    used: used,
-                    cursor: cur,
-                };
-            }
-            Turn::Skip => {
-                cur = advance(order, run, next, word, length, fresh);
-            }
-            Turn::Old => {
-                used = append(
-                    dst,
-                    used,
-                    &mut last,
-                    held,
-                    &word[..length],
-                    &run[zero + 1..next],
-                );
-                left -= 1;
-                held = length;
-                cur = advance(order, run, next, word, length, fresh);
-            }
-            Turn::New => {
-                used = append(dst, used, &mut last, held, h, body);
-                left -= 1;
-                held = h.len();
-                cur = Cursor {
-                    length: length,
-                    zero: zero,
-                    next: next,
-                    fresh: false,
-                };
-            }
-        }
-    }
-}
-
-// Writes the entries of a span as a run, from its first block on, and answers where the merging stands behind them.
-pub fn write_part(
-    order: usize,
-    dst: &mut [u8],
-    run: &[u8],
-    span: Span,
-    word: &mut [u8],
-    h: &[u8],
-    body: &[u8],
-) -> Cursor
-    requires cursor_ok { CursorOk run.now word.old span.start }
-    requires h_value { (headword_ok h.now ≡ true) × (length body.now ≤ longest_body) }
-    requires span_len_bound { length (entries_bytes [] (spanned order run.now word.old h.now body.now span)) ≤ longest_entry }
-    requires span_in_bounds { 256 * run_size (spanned order run.now word.old h.now body.now span) ≤ length dst.old }
-    ensures dst_after { dst.new ≡ write 0 (run_bytes (spanned order run.now word.old h.now body.now span)) dst.old }
-    ensures result_after { todo order run.now word.new h.now body.now result
-        ≡ past_span order run.now word.old h.now body.now span }
-    ensures cursor_ok_2 { CursorOk run.now word.new result }
-    ensures dst_len_unchanged { (length dst.new ≡ length dst.old) × (length word.new ≡ length word.old) }
-{
-    let w = write_entries(order, &mut dst[2..], run, span, word, h, body);
-    encoder::close_run(dst, w.used);
-    w.cursor
+    scans::first_zero(part, 3, used) - 3
 }
 
 // All parts of a changed run, measured.
@@ -436,22 +280,22 @@ pub fn measure(edit: Edit, run: &[u8], h: &[u8], body: &[u8]) -> Sizes
     requires width { Width edit.form.width × (edit.form.limit ≤ largest_limit) }
     ensures measured { Measured edit.form.width
         (map new_run (cut edit.form.limit (changed_entries edit.form.order run.now h.now body.now edit.fresh))) result.parts result.bytes result.blocks }
-    ensures parts_bound { (result.parts ≤ 8388609) × (result.bytes ≤ 2122318077) × (result.blocks ≤ longest_run * 8388609) }
+    ensures parts_bound { (result.parts ≤ 8388609) × (result.bytes ≤ 2122318077) × (result.blocks ≤ 109051917) }
     ensures found_value { result.found ≡ is_there (lookup h.now (entries_left (below_of edit.form.order) [] run.now)) }
 {
     let form = edit.form;
     let fresh = edit.fresh;
     let mut word = [0u8; WORD];
+    let mut part = [0u8; PART];
     let mut cur = advance(form.order, run, 0, &mut word, 0, fresh);
     let mut parts = 0;
     let mut bytes = 0;
     let mut blocks = 0;
     let mut found = false;
     loop {
-        let p = measure_part(form, run, cur, &mut word, h, body);
-        let load = p.load;
+        let p = encode_part(form, run, cur, &mut word, h, body, &mut part);
         found = found | p.found;
-        if load.used == 0 {
+        if p.used == 0 {
             return Sizes {
                 parts: parts,
                 bytes: bytes,
@@ -459,10 +303,10 @@ pub fn measure(edit: Edit, run: &[u8], h: &[u8], body: &[u8]) -> Sizes
                 found: found,
             };
         }
-        let long = form.width + 1 + load.head;
+        let long = form.width + 1 + head_length(&part, p.used);
         parts += 1;
         bytes += long;
-        blocks += encoder::run_blocks(load.used);
+        blocks += encoder::run_blocks(p.used);
         cur = p.cursor;
     }
 }

@@ -8,10 +8,9 @@ use lib.Dec.{eqb}
 use Rattle.spec.specs.Outcome.{Outcome, refused}
 use Rattle.spec.specs.Lists as Lists
 use Rattle.spec.specs.Lists.{any, ◌∈◌}
-use Rattle.spec.specs.PartList.{PartAt}
 use Rattle.spec.specs.Calls.{CreateResult, Figures, LookUpResult, WalkResult, ChangeResult}
 use Rattle.spec.specs.Answers as Answers
-use Rattle.spec.specs.Answers.{length_answer, check_answer, look_up_answer, walk_answer, delete_answer, part_step_answer}
+use Rattle.spec.specs.Answers.{length_answer, check_answer, look_up_answer, walk_answer, delete_answer}
 use Rattle.spec.specs.Rows as Rows
 use Rattle.spec.specs.Rows.{No}
 use Rattle.spec.specs.CallRows.{change_numbers}
@@ -19,10 +18,9 @@ use Rattle.spec.specs.declared.LengthAnswer.{LengthAnswer}
 use Rattle.spec.specs.declared.CheckAnswer.{CheckAnswer}
 use Rattle.spec.specs.declared.LookUpAnswer.{LookUpAnswer}
 use Rattle.spec.specs.declared.WalkAnswer.{WalkAnswer}
-use Rattle.spec.specs.declared.PartStep.{PartStep}
 use Rattle.spec.specs.declared.DeleteAnswer.{DeleteAnswer}
 use Rattle.spec.proofs.ListsLaws.{or_right}
-use Rattle.pdic.specs.Lent.{create_lent, check_lent, look_up_lent, walk_lent, part_step_lent, change_lent, delete_lent}
+use Rattle.pdic.specs.Lent.{create_lent, check_lent, look_up_lent, walk_lent, change_lent, delete_lent}
 
 module _ (r : CheckAnswer) (o : Outcome Figures) (e : check_answer r ≡ o) (h₀ i₀ d₀ f₀ : ℕ) where
   -- a refusal returns its number alone
@@ -35,57 +33,37 @@ module _ (r : CheckAnswer) (o : Outcome Figures) (e : check_answer r ≡ o) (h�
   unfolding check_lent Answers.check_answer Answers.code Answers.lent_number
   check_counted h i d f q = rw (← e, q)
 
-module _ (r : LookUpAnswer) (t p : List ℕ) (o : LookUpResult) (e : record { answer = look_up_answer r; text = t; parts = p } ≡ o) (a₀ t₀ p₀ : ℕ) where
+module _ (r : LookUpAnswer) (t : List ℕ) (o : LookUpResult) (e : record { answer = look_up_answer r; text = t } ≡ o) (a₀ n₀ : ℕ) where
   -- a refusal's number
-  pub look_up_refused : (k : ℕ) → r ≡ LookUpAnswer.Refused k
-      → record { returned = k; text = t; parts = p; attribute = a₀; text_length = t₀; parts_length = p₀ } ≡ look_up_lent o a₀ t₀ p₀
+  pub look_up_refused : (k : ℕ) → r ≡ LookUpAnswer.Refused k → record { returned = k; text = t; attribute = a₀; text_length = n₀ } ≡ look_up_lent o a₀ n₀
   unfolding look_up_lent Answers.look_up_answer Answers.code_or_absent Answers.lent_number_or_absent
   look_up_refused k q = rw (← e, q)
 
   -- absent: 100
-  pub look_up_absent : r ≡ LookUpAnswer.Absent → record { returned = 100; text = t; parts = p; attribute = a₀; text_length = t₀; parts_length = p₀ } ≡ look_up_lent o a₀ t₀ p₀
+  pub look_up_absent : r ≡ LookUpAnswer.Absent → record { returned = 100; text = t; attribute = a₀; text_length = n₀ } ≡ look_up_lent o a₀ n₀
   unfolding look_up_lent Answers.look_up_answer Answers.code_or_absent Answers.lent_number_or_absent
   look_up_absent q = rw (← e, q)
 
-  -- found: 0, the attribute, the text's length and the part list's
-  pub look_up_found : (a n m : ℕ) → r ≡ LookUpAnswer.Found a n m → record { returned = 0; text = t; parts = p; attribute = a; text_length = n; parts_length = m } ≡ look_up_lent o a₀ t₀ p₀
+  -- found: 0, the attribute and the text's length
+  pub look_up_found : (a n : ℕ) → r ≡ LookUpAnswer.Found a n → record { returned = 0; text = t; attribute = a; text_length = n } ≡ look_up_lent o a₀ n₀
   unfolding look_up_lent Answers.look_up_answer Answers.code_or_absent Answers.lent_number_or_absent
-  look_up_found a n m q = rw (← e, q)
+  look_up_found a n q = rw (← e, q)
 
-module _ (r : WalkAnswer) (h t p : List ℕ) (o : WalkResult) (e : record { answer = walk_answer r; headword = h; text = t; parts = p } ≡ o) (a₀ h₀ t₀ p₀ : ℕ) where
+module _ (r : WalkAnswer) (h t : List ℕ) (o : WalkResult) (e : record { answer = walk_answer r; headword = h; text = t } ≡ o) (a₀ m₀ n₀ : ℕ) where
   -- a refusal's number
-  pub walk_refused : (k : ℕ) → r ≡ WalkAnswer.Refused k
-      → record { returned = k; headword = h; text = t; parts = p; attribute = a₀; headword_length = h₀; text_length = t₀; parts_length = p₀ } ≡ walk_lent o a₀ h₀ t₀ p₀
+  pub walk_refused : (k : ℕ) → r ≡ WalkAnswer.Refused k → record { returned = k; headword = h; text = t; attribute = a₀; headword_length = m₀; text_length = n₀ } ≡ walk_lent o a₀ m₀ n₀
   unfolding walk_lent Answers.walk_answer Answers.code_or_absent Answers.lent_number_or_absent
   walk_refused k q = rw (← e, q)
 
   -- absent: 100
-  pub walk_absent : r ≡ WalkAnswer.Absent
-      → record { returned = 100; headword = h; text = t; parts = p; attribute = a₀; headword_length = h₀; text_length = t₀; parts_length = p₀ } ≡ walk_lent o a₀ h₀ t₀ p₀
+  pub walk_absent : r ≡ WalkAnswer.Absent → record { returned = 100; headword = h; text = t; attribute = a₀; headword_length = m₀; text_length = n₀ } ≡ walk_lent o a₀ m₀ n₀
   unfolding walk_lent Answers.walk_answer Answers.code_or_absent Answers.lent_number_or_absent
   walk_absent q = rw (← e, q)
 
-  -- found: 0, the attribute and the three lengths
-  pub walk_found : (a n m l : ℕ) → r ≡ WalkAnswer.Found a n m l
-      → record { returned = 0; headword = h; text = t; parts = p; attribute = a; headword_length = n; text_length = m; parts_length = l } ≡ walk_lent o a₀ h₀ t₀ p₀
+  -- found: 0, the attribute and both lengths
+  pub walk_found : (a m n : ℕ) → r ≡ WalkAnswer.Found a m n → record { returned = 0; headword = h; text = t; attribute = a; headword_length = m; text_length = n } ≡ walk_lent o a₀ m₀ n₀
   unfolding walk_lent Answers.walk_answer Answers.code_or_absent Answers.lent_number_or_absent
-  walk_found a n m l q = rw (← e, q)
-
-module _ (r : PartStep) (o : Outcome (Option PartAt)) (e : part_step_answer r ≡ o) (k₀ p₀ n₀ x₀ : ℕ) where
-  -- a refusal's number
-  pub step_refused : (k : ℕ) → r ≡ PartStep.Refused k → record { returned = k; kind = k₀; place = p₀; part_length = n₀; next = x₀ } ≡ part_step_lent o k₀ p₀ n₀ x₀
-  unfolding part_step_lent Answers.part_step_answer Answers.code_or_absent Answers.lent_number_or_absent
-  step_refused k q = rw (← e, q)
-
-  -- the end: 100
-  pub step_end : r ≡ PartStep.End → record { returned = 100; kind = k₀; place = p₀; part_length = n₀; next = x₀ } ≡ part_step_lent o k₀ p₀ n₀ x₀
-  unfolding part_step_lent Answers.part_step_answer Answers.code_or_absent Answers.lent_number_or_absent
-  step_end q = rw (← e, q)
-
-  -- a part: 0, its kind, place and length, and the next offset
-  pub step_part : (k p n x : ℕ) → r ≡ PartStep.Part k p n x → record { returned = 0; kind = k; place = p; part_length = n; next = x } ≡ part_step_lent o k₀ p₀ n₀ x₀
-  unfolding part_step_lent Answers.part_step_answer Answers.code_or_absent Answers.lent_number_or_absent
-  step_part k p n x q = rw (← e, q)
+  walk_found a m n q = rw (← e, q)
 
 module _ (r : LengthAnswer) (s : List ℕ) (o : CreateResult) (e : record { answer = length_answer r; image = s } ≡ o) (n₀ : ℕ) where
   -- a refusal's number

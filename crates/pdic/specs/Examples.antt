@@ -2,14 +2,13 @@
 use Rattle.std.specs.Prelude.{ℕ, Bool, List, [], ◌∷◌, ◌++◌, T}
 use Rattle.spec.specs.Lists.{all}
 use Rattle.spec.specs.Bytes.{bytes_equal}
-use Rattle.spec.specs.Answers.{length_answer, check_answer, look_up_answer, walk_answer, delete_answer, part_step_answer}
+use Rattle.spec.specs.Answers.{length_answer, check_answer, look_up_answer, walk_answer, delete_answer}
 use Rattle.spec.specs.declared.LengthAnswer.{LengthAnswer}
 use Rattle.spec.specs.declared.CheckAnswer.{CheckAnswer}
 use Rattle.spec.specs.declared.LookUpAnswer.{LookUpAnswer}
 use Rattle.spec.specs.declared.WalkAnswer.{WalkAnswer}
-use Rattle.spec.specs.declared.PartStep.{PartStep}
 use Rattle.spec.specs.declared.DeleteAnswer.{DeleteAnswer}
-use Rattle.pdic.specs.Lent.{CreateLent, CheckLent, LookUpLent, WalkLent, PartStepLent, ChangeLent, create_lent, check_lent, look_up_lent, walk_lent, part_step_lent, change_lent, delete_lent}
+use Rattle.pdic.specs.Lent.{CreateLent, CheckLent, LookUpLent, WalkLent, ChangeLent, create_lent, check_lent, look_up_lent, walk_lent, change_lent, delete_lent}
 
 -- create: the number returned, *new_len, image
 unfoldable pub seen_create : CreateLent → List ℕ
@@ -21,11 +20,11 @@ seen_check l = l.returned ∷ l.headwords ∷ l.index_blocks ∷ l.data_blocks �
 
 -- look up: the number returned, *attribute, *text_len, text
 unfoldable pub seen_look_up : LookUpLent → List ℕ
-seen_look_up l = l.returned ∷ l.attribute ∷ l.text_length ∷ l.parts_length ∷ l.text ++ l.parts
+seen_look_up l = l.returned ∷ l.attribute ∷ l.text_length ∷ l.text
 
 -- walk: the number returned, *attribute, *headword_len, *text_len, headword_out, text
 unfoldable pub seen_walk : WalkLent → List ℕ
-seen_walk l = l.returned ∷ l.attribute ∷ l.headword_length ∷ l.text_length ∷ l.parts_length ∷ l.headword ++ l.text ++ l.parts
+seen_walk l = l.returned ∷ l.attribute ∷ l.headword_length ∷ l.text_length ∷ l.headword ++ l.text
 
 -- insert, delete, optimise: the number returned, *new_len, image, working slice
 unfoldable pub seen_change : ChangeLent → List ℕ
@@ -48,32 +47,17 @@ check_rows =
 -- look up: found, absent, refused
 unfoldable pub look_up_rows : List Bool
 look_up_rows =
-    bytes_equal (seen_look_up (look_up_lent (record { answer = look_up_answer (LookUpAnswer.Found 128 3 8); text = 4 ∷ 5 ∷ []; parts = 6 ∷ 7 ∷ [] }) 71 72 73)) (0 ∷ 128 ∷ 3 ∷ 8 ∷ 4 ∷ 5 ∷ 6 ∷ 7 ∷ [])
-    ∷ bytes_equal (seen_look_up (look_up_lent (record { answer = look_up_answer LookUpAnswer.Absent; text = 4 ∷ 5 ∷ []; parts = 6 ∷ 7 ∷ [] }) 71 72 73)) (100 ∷ 71 ∷ 72 ∷ 73 ∷ 4 ∷ 5 ∷ 6 ∷ 7 ∷ [])
-    ∷ bytes_equal (seen_look_up (look_up_lent (record { answer = look_up_answer (LookUpAnswer.Refused 14); text = 4 ∷ 5 ∷ []; parts = 6 ∷ 7 ∷ [] }) 71 72 73)) (14 ∷ 71 ∷ 72 ∷ 73 ∷ 4 ∷ 5 ∷ 6 ∷ 7 ∷ [])
+    bytes_equal (seen_look_up (look_up_lent (record { answer = look_up_answer (LookUpAnswer.Found 128 3); text = 4 ∷ 5 ∷ [] }) 71 72)) (0 ∷ 128 ∷ 3 ∷ 4 ∷ 5 ∷ [])
+    ∷ bytes_equal (seen_look_up (look_up_lent (record { answer = look_up_answer LookUpAnswer.Absent; text = 4 ∷ 5 ∷ [] }) 71 72)) (100 ∷ 71 ∷ 72 ∷ 4 ∷ 5 ∷ [])
+    ∷ bytes_equal (seen_look_up (look_up_lent (record { answer = look_up_answer (LookUpAnswer.Refused 14); text = 4 ∷ 5 ∷ [] }) 71 72)) (14 ∷ 71 ∷ 72 ∷ 4 ∷ 5 ∷ [])
     ∷ []
 
 -- walk: found, absent, refused
 unfoldable pub walk_rows : List Bool
 walk_rows =
-    bytes_equal (seen_walk (walk_lent (record { answer = walk_answer (WalkAnswer.Found 128 2 3 9); headword = 4 ∷ 5 ∷ []; text = 6 ∷ 7 ∷ []; parts = 8 ∷ [] }) 71 72 73 74))
-    (0 ∷ 128 ∷ 2 ∷ 3 ∷ 9 ∷ 4 ∷ 5 ∷ 6 ∷ 7 ∷ 8 ∷ [])
-    ∷ bytes_equal (seen_walk (walk_lent (record { answer = walk_answer WalkAnswer.Absent; headword = 4 ∷ 5 ∷ []; text = 6 ∷ 7 ∷ []; parts = 8 ∷ [] }) 71 72 73 74))
-    (100 ∷ 71 ∷ 72 ∷ 73 ∷ 74 ∷ 4 ∷ 5 ∷ 6 ∷ 7 ∷ 8 ∷ [])
-    ∷ bytes_equal (seen_walk (walk_lent (record { answer = walk_answer (WalkAnswer.Refused 12); headword = 4 ∷ 5 ∷ []; text = 6 ∷ 7 ∷ []; parts = 8 ∷ [] }) 71 72 73 74))
-    (12 ∷ 71 ∷ 72 ∷ 73 ∷ 74 ∷ 4 ∷ 5 ∷ 6 ∷ 7 ∷ 8 ∷ [])
-    ∷ []
-
--- what C sees of a part step
-unfoldable pub seen_step : PartStepLent → List ℕ
-seen_step l = l.returned ∷ l.kind ∷ l.place ∷ l.part_length ∷ l.next ∷ []
-
--- part step: a part, the end, refused
-unfoldable pub step_rows : List Bool
-step_rows =
-    bytes_equal (seen_step (part_step_lent (part_step_answer (PartStep.Part 1 2 3 4)) 71 72 73 74)) (0 ∷ 1 ∷ 2 ∷ 3 ∷ 4 ∷ [])
-    ∷ bytes_equal (seen_step (part_step_lent (part_step_answer PartStep.End) 71 72 73 74)) (100 ∷ 71 ∷ 72 ∷ 73 ∷ 74 ∷ [])
-    ∷ bytes_equal (seen_step (part_step_lent (part_step_answer (PartStep.Refused 16)) 71 72 73 74)) (16 ∷ 71 ∷ 72 ∷ 73 ∷ 74 ∷ [])
+    bytes_equal (seen_walk (walk_lent (record { answer = walk_answer (WalkAnswer.Found 128 2 3); headword = 4 ∷ 5 ∷ []; text = 6 ∷ 7 ∷ [] }) 71 72 73)) (0 ∷ 128 ∷ 2 ∷ 3 ∷ 4 ∷ 5 ∷ 6 ∷ 7 ∷ [])
+    ∷ bytes_equal (seen_walk (walk_lent (record { answer = walk_answer WalkAnswer.Absent; headword = 4 ∷ 5 ∷ []; text = 6 ∷ 7 ∷ [] }) 71 72 73)) (100 ∷ 71 ∷ 72 ∷ 73 ∷ 4 ∷ 5 ∷ 6 ∷ 7 ∷ [])
+    ∷ bytes_equal (seen_walk (walk_lent (record { answer = walk_answer (WalkAnswer.Refused 12); headword = 4 ∷ 5 ∷ []; text = 6 ∷ 7 ∷ [] }) 71 72 73)) (12 ∷ 71 ∷ 72 ∷ 73 ∷ 4 ∷ 5 ∷ 6 ∷ 7 ∷ [])
     ∷ []
 
 -- insert: done, refused
@@ -100,9 +84,9 @@ optimise_rows =
 
 -- THE THEOREM: every row holds
 unfoldable pub LentHold : Type 0
-LentHold = T (all (λ b. b) (create_rows ++ check_rows ++ look_up_rows ++ walk_rows ++ step_rows ++ insert_rows ++ delete_rows ++ optimise_rows))
+LentHold = T (all (λ b. b) (create_rows ++ check_rows ++ look_up_rows ++ walk_rows ++ insert_rows ++ delete_rows ++ optimise_rows))
 
 -- names all definitions of this module: who unfolds it unfolds them
 unfoldable pub open_examples : Unit {0}
-unfolding seen_create seen_check seen_look_up seen_walk seen_step seen_change create_rows check_rows look_up_rows walk_rows step_rows insert_rows delete_rows optimise_rows LentHold
+unfolding seen_create seen_check seen_look_up seen_walk seen_change create_rows check_rows look_up_rows walk_rows insert_rows delete_rows optimise_rows LentHold
 open_examples = tt

@@ -2,7 +2,6 @@
 use Rattle.std.specs.Prelude.{ℕ, List}
 use Rattle.std.proofs.Math.Option.{Option}
 use Rattle.spec.specs.Outcome.{Outcome}
-use Rattle.spec.specs.PartList.{PartAt}
 use Rattle.spec.specs.Calls.{CreateResult, Figures, LookUpResult, WalkResult, ChangeResult}
 use Rattle.spec.specs.Answers.{code, code_or_absent, lent_number, lent_number_or_absent}
 
@@ -39,21 +38,17 @@ check_lent o h i d f =
 pub record LookUpLent : Type 0 where
   pub returned : ℕ
   pub text : List ℕ
-  pub parts : List ℕ
   pub attribute : ℕ
   pub text_length : ℕ
-  pub parts_length : ℕ
 
 -- by look up's result and what the lent numbers held
-unfoldable pub look_up_lent : LookUpResult → ℕ → ℕ → ℕ → LookUpLent
-look_up_lent r a t p =
+unfoldable pub look_up_lent : LookUpResult → ℕ → ℕ → LookUpLent
+look_up_lent r a n =
     record {
       returned = code_or_absent r.answer;
       text = r.text;
-      parts = r.parts;
       attribute = lent_number_or_absent (λ f. f.attribute) a r.answer;
-      text_length = lent_number_or_absent (λ f. f.text_length) t r.answer;
-      parts_length = lent_number_or_absent (λ f. f.parts_length) p r.answer;
+      text_length = lent_number_or_absent (λ f. f.text_length) n r.answer;
     }
 
 -- walk from C
@@ -61,43 +56,20 @@ pub record WalkLent : Type 0 where
   pub returned : ℕ
   pub headword : List ℕ
   pub text : List ℕ
-  pub parts : List ℕ
   pub attribute : ℕ
   pub headword_length : ℕ
   pub text_length : ℕ
-  pub parts_length : ℕ
 
 -- by walk's result and what the lent numbers held
-unfoldable pub walk_lent : WalkResult → ℕ → ℕ → ℕ → ℕ → WalkLent
-walk_lent r a h t p =
+unfoldable pub walk_lent : WalkResult → ℕ → ℕ → ℕ → WalkLent
+walk_lent r a h t =
     record {
       returned = code_or_absent r.answer;
       headword = r.headword;
       text = r.text;
-      parts = r.parts;
       attribute = lent_number_or_absent (λ f. f.attribute) a r.answer;
       headword_length = lent_number_or_absent (λ f. f.headword_length) h r.answer;
       text_length = lent_number_or_absent (λ f. f.text_length) t r.answer;
-      parts_length = lent_number_or_absent (λ f. f.parts_length) p r.answer;
-    }
-
--- part step from C
-pub record PartStepLent : Type 0 where
-  pub returned : ℕ
-  pub kind : ℕ
-  pub place : ℕ
-  pub part_length : ℕ
-  pub next : ℕ
-
--- by the step's answer and what the lent numbers held; the end is 100
-unfoldable pub part_step_lent : Outcome (Option PartAt) → ℕ → ℕ → ℕ → ℕ → PartStepLent
-part_step_lent o k p n x =
-    record {
-      returned = code_or_absent o;
-      kind = lent_number_or_absent (λ f. f.kind) k o;
-      place = lent_number_or_absent (λ f. f.place) p o;
-      part_length = lent_number_or_absent (λ f. f.part_length) n o;
-      next = lent_number_or_absent (λ f. f.next) x o;
     }
 
 -- insert, delete and optimise from C
@@ -117,5 +89,5 @@ delete_lent r n = record { returned = code_or_absent r.answer; image = r.image; 
 
 -- names all definitions of this module: who unfolds it unfolds them
 unfoldable pub open_lent : Unit {0}
-unfolding create_lent check_lent look_up_lent walk_lent part_step_lent change_lent delete_lent
+unfolding create_lent check_lent look_up_lent walk_lent change_lent delete_lent
 open_lent = tt

@@ -1,16 +1,12 @@
 // The calls from C, as include/pdic.h declares them.
 ghost use Rattle.std.specs.Prelude.{◌≡◌, not, ◌∷◌, eqb};
 ghost use Rattle.spec.specs.Lists.{◌∈◌};
-ghost use Rattle.spec.specs.PartList.{part_step};
 ghost use Rattle.spec.specs.Calls.{create, check, look_up, walk, insert, delete, optimise};
 ghost use Rattle.spec.specs.Rows.{No};
 ghost use Rattle.spec.specs.CallRows.{change_numbers};
-ghost use Rattle.bodies.specs.Given.{marked};
-ghost use Rattle.pdic.specs.Lent.{create_lent, check_lent, look_up_lent, walk_lent, part_step_lent, change_lent, delete_lent};
+ghost use Rattle.pdic.specs.Lent.{create_lent, check_lent, look_up_lent, walk_lent, change_lent, delete_lent};
 
-use bodies::Marked;
-use editor::Given;
-use spec::{CheckAnswer, DeleteAnswer, LengthAnswer, LookUpAnswer, NewFile, PartStep, WalkAnswer};
+use spec::{CheckAnswer, DeleteAnswer, LengthAnswer, LookUpAnswer, NewFile, WalkAnswer};
 
 // What a call returns where there is no such entry.
 const ABSENT: u32 = 100;
@@ -76,30 +72,25 @@ pub extern "C" fn pdic_look_up(
     len: usize,
     headword: &[u8],
     text: &mut [u8],
-    parts: &mut [u8],
     attribute: &mut u8,
     text_len: &mut usize,
-    parts_len: &mut usize,
 ) -> u32
     ensures { record {
       returned = result;
       text = text.new;
-      parts = parts.new;
       attribute = attribute.new;
       text_length = text_len.new;
-      parts_length = parts_len.new;
     }
-        ≡ look_up_lent (look_up image.now len headword.now text.old parts.old)
-        attribute.old text_len.old parts_len.old }
+        ≡ look_up_lent (look_up image.now len headword.now text.old)
+        attribute.old text_len.old }
 {
-    let r = reader::look_up(image, len, headword, text, parts);
+    let r = reader::look_up(image, len, headword, text);
     match r {
         LookUpAnswer::Refused(k) => k,
         LookUpAnswer::Absent => ABSENT,
-        LookUpAnswer::Found(a, t, p) => {
+        LookUpAnswer::Found(a, n) => {
             *attribute = a;
-            *text_len = t;
-            *parts_len = p;
+            *text_len = n;
             0
         }
     }
@@ -113,68 +104,30 @@ pub extern "C" fn pdic_walk(
     above: u8,
     headword_out: &mut [u8],
     text: &mut [u8],
-    parts: &mut [u8],
     attribute: &mut u8,
     headword_len: &mut usize,
     text_len: &mut usize,
-    parts_len: &mut usize,
 ) -> u32
     ensures { record {
       returned = result;
       headword = headword_out.new;
       text = text.new;
-      parts = parts.new;
       attribute = attribute.new;
       headword_length = headword_len.new;
       text_length = text_len.new;
-      parts_length = parts_len.new;
     }
         ≡ walk_lent
-        (walk image.now len (not (eqb above 0)) headword.now headword_out.old text.old parts.old)
-        attribute.old headword_len.old text_len.old parts_len.old }
+        (walk image.now len (not (eqb above 0)) headword.now headword_out.old text.old)
+        attribute.old headword_len.old text_len.old }
 {
-    let r = reader::walk(image, len, headword, above != 0, headword_out, text, parts);
+    let r = reader::walk(image, len, headword, above != 0, headword_out, text);
     match r {
         WalkAnswer::Refused(k) => k,
         WalkAnswer::Absent => ABSENT,
-        WalkAnswer::Found(a, h, t, p) => {
+        WalkAnswer::Found(a, m, n) => {
             *attribute = a;
-            *headword_len = h;
-            *text_len = t;
-            *parts_len = p;
-            0
-        }
-    }
-}
-
-#[unsafe(no_mangle)]
-pub extern "C" fn pdic_part_step(
-    parts: &[u8],
-    offset: usize,
-    kind: &mut u8,
-    place: &mut usize,
-    part_len: &mut usize,
-    next: &mut usize,
-) -> u32
-    ensures { record {
-      returned = result;
-      kind = kind.new;
-      place = place.new;
-      part_length = part_len.new;
-      next = next.new;
-    }
-        ≡ part_step_lent (part_step parts.now offset)
-        kind.old place.old part_len.old next.old }
-{
-    let r = partlist::step_from(parts, offset);
-    match r {
-        PartStep::Refused(k) => k,
-        PartStep::End => ABSENT,
-        PartStep::Part(k, p, n, x) => {
-            *kind = k;
-            *place = p;
-            *part_len = n;
-            *next = x;
+            *headword_len = m;
+            *text_len = n;
             0
         }
     }
@@ -188,10 +141,6 @@ pub extern "C" fn pdic_insert(
     headword: &[u8],
     attribute: u8,
     text: &[u8],
-    has_example: u8,
-    example: &[u8],
-    has_pronunciation: u8,
-    pronunciation: &[u8],
     new_len: &mut usize,
 ) -> u32
     ensures { record {
@@ -200,32 +149,10 @@ pub extern "C" fn pdic_insert(
       work = work.new;
       new_length = new_len.new;
     }
-        ≡ change_lent (insert image.old len work.old (record {
-          headword = headword.entry.now;
-          attribute = attribute;
-          text = text.now;
-          example = marked (not (eqb has_example 0)) example.now;
-          pronunciation = marked (not (eqb has_pronunciation 0)) pronunciation.now;
-        }))
+        ≡ change_lent (insert image.old len work.old headword.now attribute text.now)
         new_len.old }
 {
-    let given = Given {
-        attribute: attribute,
-        parts: Marked {
-            example: has_example != 0,
-            pronunciation: has_pronunciation != 0,
-        },
-    };
-    let r = editor::insert(
-        image,
-        len,
-        work,
-        headword,
-        given,
-        text,
-        example,
-        pronunciation,
-    );
+    let r = editor::insert(image, len, work, headword, attribute, text);
     match r {
         LengthAnswer::Refused(k) => k,
         LengthAnswer::Done(n) => {
@@ -262,7 +189,7 @@ pub extern "C" fn pdic_delete(
     }
 }
 
-// Never 15, but 0 or one of 1 to 11 and 16.
+// Never 15, but 0 or one of 1 to 11.
 #[unsafe(no_mangle)]
 pub extern "C" fn pdic_optimise(
     image: &mut [u8],

@@ -35,15 +35,13 @@ module _ (s : List ℕ) (len : ℕ) (t : Bool) (slice : t ≡ accepted (slice_ok
   unfolding Calls.check Answers.check_answer
   check_slice q = sym (rw (unsliced q))
 
-  pub look_up_slice : not t ≡ true → (h text list : List ℕ)
-      → record { answer = look_up_answer (LookUpAnswer.Refused 1); text = text; parts = list } ≡ look_up s len h text list
+  pub look_up_slice : not t ≡ true → (h out : List ℕ) → record { answer = look_up_answer (LookUpAnswer.Refused 1); text = out } ≡ look_up s len h out
   unfolding Calls.look_up Calls.look_up_entry Calls.look_up_result Answers.look_up_answer
-  look_up_slice q h text list = sym (rw (unsliced q))
+  look_up_slice q h out = sym (rw (unsliced q))
 
-  pub walk_slice : not t ≡ true → (above : Bool) (h out text list : List ℕ)
-      → record { answer = walk_answer (WalkAnswer.Refused 1); headword = out; text = text; parts = list } ≡ walk s len above h out text list
+  pub walk_slice : not t ≡ true → (above : Bool) (h out text : List ℕ) → record { answer = walk_answer (WalkAnswer.Refused 1); headword = out; text = text } ≡ walk s len above h out text
   unfolding Calls.walk Calls.walk_entry Calls.walk_result Answers.walk_answer
-  walk_slice q above h out text list = sym (rw (unsliced q))
+  walk_slice q above h out text = sym (rw (unsliced q))
 
   module _ (q : not t ≡ false) where
     sliced : image_in s len ≡ image_from (take len s)
@@ -70,16 +68,15 @@ module _ (s : List ℕ) (len : ℕ) (t : Bool) (slice : t ≡ accepted (slice_ok
       check_refused j h = sym (rw (image_refused j h))
 
       -- rows 3 to 10 of a look up
-      pub look_up_refused : (j : ℕ) → r ≡ Inspected.Refused j → (h text list : List ℕ)
-          → record { answer = look_up_answer (LookUpAnswer.Refused j); text = text; parts = list } ≡ look_up s len h text list
+      pub look_up_refused : (j : ℕ) → r ≡ Inspected.Refused j → (h out : List ℕ) → record { answer = look_up_answer (LookUpAnswer.Refused j); text = out } ≡ look_up s len h out
       unfolding Calls.look_up Calls.look_up_entry Calls.look_up_result Answers.look_up_answer
-      look_up_refused j e h text list = sym (rw (image_refused j e))
+      look_up_refused j e h out = sym (rw (image_refused j e))
 
       -- rows 3 to 10 of a walk
-      pub walk_refused : (j : ℕ) → r ≡ Inspected.Refused j → (above : Bool) (h out text list : List ℕ)
-          → record { answer = walk_answer (WalkAnswer.Refused j); headword = out; text = text; parts = list } ≡ walk s len above h out text list
+      pub walk_refused : (j : ℕ) → r ≡ Inspected.Refused j → (above : Bool) (h out text : List ℕ)
+          → record { answer = walk_answer (WalkAnswer.Refused j); headword = out; text = text } ≡ walk s len above h out text
       unfolding Calls.walk Calls.walk_entry Calls.walk_result Answers.walk_answer
-      walk_refused j e above h out text list = sym (rw (image_refused j e))
+      walk_refused j e above h out text = sym (rw (image_refused j e))
 
       module _ (v : Overview) (h : r ≡ Inspected.Sound v) where
         sound : AcceptedImage (take len s) v
@@ -98,17 +95,15 @@ module _ (s : List ℕ) (len : ℕ) (t : Bool) (slice : t ≡ accepted (slice_ok
         accepted_start = accepted_index (take len s) v sound
 
         -- a look up by the answer in the image
-        pub look_up_answered : (g text list : List ℕ) (x : LookUpAnswer) (text' list' : List ℕ)
-            → ((i : Image) → image_from (take len s) ≡ ok i
-            → record { answer = look_up_answer x; text = text'; parts = list' } ≡ look_up_result text list (look_up_in i g text list))
-            → record { answer = look_up_answer x; text = text'; parts = list' } ≡ look_up s len g text list
+        pub look_up_answered : (g out : List ℕ) (x : LookUpAnswer) (out' : List ℕ)
+            → ((i : Image) → image_from (take len s) ≡ ok i → record { answer = look_up_answer x; text = out' } ≡ look_up_result out (look_up_in i g out))
+            → record { answer = look_up_answer x; text = out' } ≡ look_up s len g out
         unfolding Calls.look_up Calls.look_up_entry Calls.look_up_in Calls.text_fitted
-        look_up_answered g text list x text' list' f = f sound.image sound.is ∙ ap (look_up_result text list) (sym (rw (image_ok)))
+        look_up_answered g out x out' f = f sound.image sound.is ∙ ap (look_up_result out) (sym (rw (image_ok)))
 
         -- a walk by the answer in the image
-        pub walk_answered : (above : Bool) (g out text list : List ℕ) (x : WalkAnswer) (out' text' list' : List ℕ)
-            → ((i : Image) → image_from (take len s) ≡ ok i
-            → record { answer = walk_answer x; headword = out'; text = text'; parts = list' } ≡ walk_result out text list (walk_in i above g out text list))
-            → record { answer = walk_answer x; headword = out'; text = text'; parts = list' } ≡ walk s len above g out text list
+        pub walk_answered : (above : Bool) (g out text : List ℕ) (x : WalkAnswer) (out' text' : List ℕ)
+            → ((i : Image) → image_from (take len s) ≡ ok i → record { answer = walk_answer x; headword = out'; text = text' } ≡ walk_result out text (walk_in i above g out text))
+            → record { answer = walk_answer x; headword = out'; text = text' } ≡ walk s len above g out text
         unfolding Calls.walk Calls.walk_entry Calls.walk_in Calls.start_ok Calls.entry_fitted
-        walk_answered above g out text list x out' text' list' f = f sound.image sound.is ∙ ap (walk_result out text list) (sym (rw (image_ok)))
+        walk_answered above g out text x out' text' f = f sound.image sound.is ∙ ap (walk_result out text) (sym (rw (image_ok)))

@@ -31,64 +31,30 @@ pub fn check(s: &[u8], len: usize) -> CheckAnswer
     }
 }
 
-// Where the part list of a body stands whose text ends at `end`: behind the zero byte there, or, without one, where the body ends.
-fn list_start(end: usize, next: usize) -> usize
-    requires { end ≤ next }
-    ensures by_index { (s : List ℕ) → bytes_at result (next - result) s ≡ bytes_at (end + 1) (next - (end + 1)) s }
-    ensures upper_bound { result ≤ next }
-{
-    if end < next {
-        return end + 1;
-    }
-    next
-}
-
-// The text and the part list of an entry go to the fronts of the outputs: row 14, then the attribute and both lengths.
-fn give_text(
-    area: &[u8],
-    zero: usize,
-    next: usize,
-    text: &mut [u8],
-    parts: &mut [u8],
-) -> LookUpAnswer
+// The text of an entry goes to the front of `text`: row 14, then the attribute and the text's length.
+fn give_text(area: &[u8], zero: usize, next: usize, text: &mut [u8]) -> LookUpAnswer
     requires { (zero + 2 ≤ next) × (next ≤ length area.now) }
     ensures { (h : List ℕ)
-        → record { answer = look_up_answer result; text = text.new; parts = parts.new }
-        ≡ look_up_result text.old parts.old
-        (text_fitted text.old parts.old
-        (some (record { headword = h; body = bytes_at (zero + 1) (next - (zero + 1)) area.now }))) }
+        → record { answer = look_up_answer result; text = text.new }
+        ≡ look_up_result text.old
+        (text_fitted text.old (some (record { headword = h; body = bytes_at (zero + 1) (next - (zero + 1)) area.now }))) }
 {
-    let body = zero + 1;
-    let attribute = area[body];
-    let end = bodies::text_end(area, body, next);
-    let list = list_start(end, next);
-    let from = body + 1;
-    let long = end - from;
-    let rest = next - list;
+    let from = zero + 2;
+    let long = next - from;
     if text.len() < long {
         return LookUpAnswer::Refused(14);
     }
-    if parts.len() < rest {
-        return LookUpAnswer::Refused(14);
-    }
     byteops::copy(text, 0, area, from, long);
-    byteops::copy(parts, 0, area, list, rest);
-    LookUpAnswer::Found(attribute, long, rest)
+    LookUpAnswer::Found(area[zero + 1], long)
 }
 
 // Look up in an accepted image: rows 12 and 14, and the answer.
-fn look_up_in(
-    image: &[u8],
-    v: Overview,
-    headword: &[u8],
-    text: &mut [u8],
-    parts: &mut [u8],
-) -> LookUpAnswer
+fn look_up_in(image: &[u8], v: Overview, headword: &[u8], text: &mut [u8]) -> LookUpAnswer
     requires accepted_image { AcceptedImage image.now v }
     requires in_bounds { (256 ≤ length image.now) × (length image.now % 256 ≡ 0) × (area_start v.form v.n ≤ length image.now) }
     ensures { (i : Image) → image_from image.now ≡ ok i
-        → record { answer = look_up_answer result; text = text.new; parts = parts.new }
-        ≡ look_up_result text.old parts.old (look_up_in i headword.now text.old parts.old) }
+        → record { answer = look_up_answer result; text = text.new }
+        ≡ look_up_result text.old (look_up_in i headword.now text.old) }
 {
     if !runs::headword_ok(headword) {
         return LookUpAnswer::Refused(12);
@@ -111,23 +77,17 @@ fn look_up_in(
         Spot::Absent => LookUpAnswer::Absent,
         Spot::At { length, zero, next } => {
             if scans::is_equal(&word[..length], headword) {
-                return give_text(area, zero, next, text, parts);
+                return give_text(area, zero, next, text);
             }
             LookUpAnswer::Absent
         }
     }
 }
 
-// Look up: the text and the part list of the entry with that headword go to the fronts of the outputs.
-pub fn look_up(
-    s: &[u8],
-    len: usize,
-    headword: &[u8],
-    text: &mut [u8],
-    parts: &mut [u8],
-) -> LookUpAnswer
-    ensures { record { answer = look_up_answer result; text = text.new; parts = parts.new }
-        ≡ look_up s.now len headword.now text.old parts.old }
+// Look up: the text of the entry with that headword goes to the front of `text`.
+pub fn look_up(s: &[u8], len: usize, headword: &[u8], text: &mut [u8]) -> LookUpAnswer
+    ensures { record { answer = look_up_answer result; text = text.new }
+        ≡ look_up s.now len headword.now text.old }
 {
     if !header::slice_ok(s, len) {
         return LookUpAnswer::Refused(1);
@@ -137,7 +97,7 @@ pub fn look_up(
     let r = inspect::inspect(image, &mut free);
     match r {
         Inspected::Refused(k) => LookUpAnswer::Refused(k),
-        Inspected::Sound(v) => look_up_in(image, v, headword, text, parts),
+        Inspected::Sound(v) => look_up_in(image, v, headword, text),
     }
 }
 
@@ -151,7 +111,7 @@ fn start_ok(h: &[u8]) -> bool
     scans::no_zero(h, 0, h.len())
 }
 
-// The headword of an entry too, to the front of `out`: row 14 of all three outputs, then the attribute and the lengths.
+// The headword and the text of an entry go to the fronts of the outputs: row 14, then the attribute and both lengths.
 fn give_entry(
     headword: &[u8],
     area: &[u8],
@@ -159,26 +119,24 @@ fn give_entry(
     next: usize,
     out: &mut [u8],
     text: &mut [u8],
-    parts: &mut [u8],
 ) -> WalkAnswer
     requires { (zero + 2 ≤ next) × (next ≤ length area.now) }
-    ensures { record { answer = walk_answer result; headword = out.new; text = text.new; parts = parts.new }
-        ≡ walk_result out.old text.old parts.old
-        (entry_fitted out.old text.old parts.old
+    ensures { record { answer = walk_answer result; headword = out.new; text = text.new }
+        ≡ walk_result out.old text.old
+        (entry_fitted out.old text.old
         (some (record { headword = headword.entry.now; body = bytes_at (zero + 1) (next - (zero + 1)) area.now }))) }
 {
+    let start = zero + 2;
+    let long = next - start;
     if out.len() < headword.len() {
         return WalkAnswer::Refused(14);
     }
-    let given = give_text(area, zero, next, text, parts);
-    match given {
-        LookUpAnswer::Refused(k) => WalkAnswer::Refused(k),
-        LookUpAnswer::Absent => WalkAnswer::Absent,
-        LookUpAnswer::Found(attribute, long, rest) => {
-            byteops::copy(out, 0, headword, 0, headword.len());
-            WalkAnswer::Found(attribute, headword.len(), long, rest)
-        }
+    if text.len() < long {
+        return WalkAnswer::Refused(14);
     }
+    byteops::copy(out, 0, headword, 0, headword.len());
+    byteops::copy(text, 0, area, start, long);
+    WalkAnswer::Found(area[zero + 1], headword.len(), long)
 }
 
 // Walk in an accepted image: rows 12 and 14, and the answer.
@@ -189,14 +147,13 @@ fn walk_in(
     above: bool,
     out: &mut [u8],
     text: &mut [u8],
-    parts: &mut [u8],
 ) -> WalkAnswer
     requires accepted_image { AcceptedImage image.now v }
     requires in_bounds { (256 ≤ length image.now) × (length image.now % 256 ≡ 0) × (area_start v.form v.n ≤ length image.now) }
     ensures { (i : Image) → image_from image.now ≡ ok i
-        → record { answer = walk_answer result; headword = out.new; text = text.new; parts = parts.new }
-        ≡ walk_result out.old text.old parts.old
-        (walk_in i above headword.now out.old text.old parts.old) }
+        → record { answer = walk_answer result; headword = out.new; text = text.new }
+        ≡ walk_result out.old text.old
+        (walk_in i above headword.now out.old text.old) }
 {
     if !start_ok(headword) {
         return WalkAnswer::Refused(12);
@@ -217,13 +174,11 @@ fn walk_in(
     );
     match found {
         Spot::Absent => WalkAnswer::Absent,
-        Spot::At { length, zero, next } => {
-            give_entry(&word[..length], area, zero, next, out, text, parts)
-        }
+        Spot::At { length, zero, next } => give_entry(&word[..length], area, zero, next, out, text),
     }
 }
 
-// Walk: the least entry not below the headword, or above it; its headword, its text and its part list go to the fronts of the outputs.
+// Walk: the least entry not below the headword, or above it; its headword and its text go to the fronts of the outputs.
 pub fn walk(
     s: &[u8],
     len: usize,
@@ -231,10 +186,9 @@ pub fn walk(
     above: bool,
     out: &mut [u8],
     text: &mut [u8],
-    parts: &mut [u8],
 ) -> WalkAnswer
-    ensures { record { answer = walk_answer result; headword = out.new; text = text.new; parts = parts.new }
-        ≡ walk s.now len above headword.now out.old text.old parts.old }
+    ensures { record { answer = walk_answer result; headword = out.new; text = text.new }
+        ≡ walk s.now len above headword.now out.old text.old }
 {
     if !header::slice_ok(s, len) {
         return WalkAnswer::Refused(1);
@@ -244,6 +198,6 @@ pub fn walk(
     let r = inspect::inspect(image, &mut free);
     match r {
         Inspected::Refused(k) => WalkAnswer::Refused(k),
-        Inspected::Sound(v) => walk_in(image, v, headword, above, out, text, parts),
+        Inspected::Sound(v) => walk_in(image, v, headword, above, out, text),
     }
 }

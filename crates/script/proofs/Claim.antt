@@ -11,15 +11,13 @@ use lib.Pow.{are_bytes}
 use Rattle.spec.specs.Order.{HeadwordOrder}
 use Rattle.spec.specs.Lists.{all}
 use Rattle.spec.specs.Bytes.{bytes_at, zeros}
-use Rattle.spec.specs.Entry.{Entry, NewEntry}
+use Rattle.spec.specs.Entry.{Entry}
 use Rattle.spec.specs.Check.{entries_of}
-use Rattle.spec.specs.Claim.{Call, perform, is_refused, list_step, Matches, History, part_are_bytes, new_bytes, call_bytes, SortedListClaim}
+use Rattle.spec.specs.Claim.{Call, perform, is_refused, list_step, Matches, History, call_bytes, SortedListClaim}
 use Rattle.spec.proofs.ListsLaws.{hold_both}
 use Rattle.spec.proofs.BytesLaws.{Small, all_bytes, small_of, bytes_of, small_drop, small_at}
 use Rattle.spec.proofs.ClaimLaws.{sorted_list_claim}
-use Rattle.bodies.specs.Given.{marked}
-use Rattle.script.specs.Script.{headword_size, text_size, example_size, pronunciation_size, headword_end, text_end, example_end, call_size}
-use Rattle.script.specs.Script.{example_there, pronunciation_there, front_entry, kinds, call_of, front_call, calls_from, calls_of, Told, told, Played, played_from, played, fed, Claimed}
+use Rattle.script.specs.Script.{headword_size, text_size, call_size, kinds, call_of, front_call, calls_from, calls_of, Told, told, Played, played_from, played, fed, Claimed}
 
 -- after the last call the image is accepted and its entries are the sorted list's
 last_matches : (below : HeadwordOrder) (n : ℕ) (cs : List Call) (s : List ℕ) (L : ℕ) (es : List Entry) (work codes : List ℕ) → History below s L es cs
@@ -57,63 +55,35 @@ small_get [] k h = omega arith
 small_get (b ∷ s) zero h = h.0
 small_get (b ∷ s) (suc k) h = small_get s k h.1
 
--- every kind with what an entry of bytes has is a call of bytes
-kinds_bytes : (w : ℕ) (new : NewEntry) → T (are_bytes new.headword) → T (new_bytes new) → AllBytes (kinds w new)
+-- every kind with arguments of bytes is a call of bytes
+kinds_bytes : (w : ℕ) (h : List ℕ) (a : ℕ) (t : List ℕ) → T (are_bytes h) → T (ltb a 256) → T (are_bytes t) → AllBytes (kinds w h a t)
 unfolding kinds call_bytes
-kinds_bytes w new p q =
-    let h : Bool = are_bytes new.headword in
-    let word : Bool = are_bytes (zeros 248) in
-    let text : Bool = are_bytes (zeros 3000) in
-    let parts : Bool = are_bytes (zeros 21_005) in
-    let z : T (are_bytes (zeros w)) = zeros_bytes w in
-    let x : T (h && text && parts) = hold_both (h && text) parts (hold_both h text p (zeros_bytes 3000)) (zeros_bytes 21_005) in
-    let y : T (h && word && text && parts) =
-    hold_both (h && word && text) parts (hold_both (h && word) text (hold_both h word p (zeros_bytes 248)) (zeros_bytes 3000)) (zeros_bytes 21_005) in
-    bytes_cons _ _ x
-    (bytes_cons _ _ y
-    (bytes_cons _ _ y
-    (bytes_cons _ _ (hold_both (are_bytes (zeros w)) (new_bytes new) z q)
-    (bytes_cons _ _ (hold_both (are_bytes (zeros w)) h z p)
-    (bytes_cons _ _ z bytes_nil)))))
-
--- a part of bytes, there or not
-marked_bytes : (there : Bool) (b : List ℕ) → T (are_bytes b) → T (part_are_bytes (marked there b))
-unfolding marked part_are_bytes
-marked_bytes true b p = p
-marked_bytes false b p = tt
-
--- what stands in a script of bytes
-at_bytes : (i n : ℕ) (s : List ℕ) → Small s → T (are_bytes (bytes_at i n s))
-at_bytes i n s h = bytes_of (bytes_at i n s) (small_at i n s h)
-
--- the entry at the front of a script of bytes
-entry_bytes : (s : List ℕ) → Small s → T (new_bytes (front_entry s))
-unfolding front_entry new_bytes
-entry_bytes s k =
-    let h : List ℕ = bytes_at 10 (headword_size s) s in
-    let t : List ℕ = bytes_at (headword_end s) (text_size s) s in
-    let x : List ℕ = bytes_at (text_end s) (example_size s) s in
-    let p : List ℕ = bytes_at (example_end s) (pronunciation_size s) s in
-    let a : Bool = ltb (get_or s 4 0) 256 in
-    let mx : Bool = part_are_bytes (marked (example_there s) x) in
-    let mp : Bool = part_are_bytes (marked (pronunciation_there s) p) in
-    hold_both (are_bytes h && a && are_bytes t && mx) mp
-    (hold_both (are_bytes h && a && are_bytes t) mx
-    (hold_both (are_bytes h && a) (are_bytes t)
-    (hold_both (are_bytes h) a (at_bytes 10 (headword_size s) s k) (lt→ltb (get_or s 4 0) 256 (small_get s 4 k)))
-    (at_bytes (headword_end s) (text_size s) s k))
-    (marked_bytes (example_there s) x (at_bytes (text_end s) (example_size s) s k)))
-    (marked_bytes (pronunciation_there s) p (at_bytes (example_end s) (pronunciation_size s) s k))
+kinds_bytes w h a t p q r =
+    let o : T (are_bytes (zeros 3000)) = zeros_bytes 3000 in
+    let x : T (are_bytes (zeros w) && are_bytes h) = hold_both (are_bytes (zeros w)) (are_bytes h) (zeros_bytes w) p in
+    let y : T (are_bytes h && are_bytes (zeros 248)) = hold_both (are_bytes h) (are_bytes (zeros 248)) p (zeros_bytes 248) in
+    let z : T (are_bytes h && are_bytes (zeros 248) && are_bytes (zeros 3000)) = hold_both (are_bytes h && are_bytes (zeros 248)) (are_bytes (zeros 3000)) y o in
+    bytes_cons _ _ (hold_both (are_bytes h) (are_bytes (zeros 3000)) p o)
+    (bytes_cons _ _ z
+    (bytes_cons _ _ z
+    (bytes_cons _ _ (hold_both (are_bytes (zeros w) && are_bytes h && ltb a 256) (are_bytes t) (hold_both (are_bytes (zeros w) && are_bytes h) (ltb a 256) x q) r)
+    (bytes_cons _ _ x
+    (bytes_cons _ _ (zeros_bytes w) bytes_nil)))))
 
 -- the call at the front of a script of bytes
 call_of_bytes : (w : ℕ) (s : List ℕ) → Small s → (c : Call) → call_of w s ≡ some c → T (call_bytes c)
-unfolding call_of AllBytes front_entry
-call_of_bytes w s h c e = kinds_bytes w (front_entry s) (at_bytes 10 (headword_size s) s h) (entry_bytes s h) (get_or s 0 0) c e
+unfolding call_of AllBytes
+call_of_bytes w s h c e =
+    let x : List ℕ = bytes_at 5 (headword_size s) s in
+    let y : List ℕ = bytes_at (5 + headword_size s) (text_size s) s in
+    let p : T (are_bytes x) = bytes_of x (small_at 5 (headword_size s) s h) in
+    let q : T (are_bytes y) = bytes_of y (small_at (5 + headword_size s) (text_size s) s h) in
+    kinds_bytes w x (get_or s 4 0) y p (lt→ltb (get_or s 4 0) 256 (small_get s 4 h)) q (get_or s 0 0) c e
 
 -- the same where it must be whole
 front_bytes : (w : ℕ) (s : List ℕ) → Small s → (c : Call) → front_call w s ≡ some c → T (call_bytes c)
 unfolding front_call
-front_bytes w s h c e = go (leb 10 (length s) && leb (call_size s) (length s)) e
+front_bytes w s h c e = go (leb 5 (length s) && leb (call_size s) (length s)) e
   where
     go : (t : Bool) → ◌≡◌ {A = Option Call} (elim t [ true ↦ call_of w s | false ↦ none ]) (some c) → T (call_bytes c)
     go true q = call_of_bytes w s h c q

@@ -21,18 +21,18 @@ use Rattle.spec.proofs.CallRowsLaws.{first_numbers}
 use Rattle.script.specs.Script.{code_of, Told, told}
 
 -- a look up that is refused by bytes alone has a byte for its code
-text_code : (o : Outcome (Option FoundText)) (t p : List ℕ) → ((n : ℕ) → o ≡ refused n → n < 256) → code_of (observed_text o t p) < 256
+text_code : (o : Outcome (Option FoundText)) (t : List ℕ) → ((n : ℕ) → o ≡ refused n → n < 256) → code_of (observed_text o t) < 256
 unfolding code_of observed_text
-text_code (refused n) t p h = omega (arith, h n refl)
-text_code (ok none) t p h = omega arith
-text_code (ok (some f)) t p h = omega arith
+text_code (refused n) t h = omega (arith, h n refl)
+text_code (ok none) t h = omega arith
+text_code (ok (some f)) t h = omega arith
 
 -- a walk
-entry_code : (o : Outcome (Option FoundEntry)) (h t p : List ℕ) → ((n : ℕ) → o ≡ refused n → n < 256) → code_of (observed_entry o h t p) < 256
+entry_code : (o : Outcome (Option FoundEntry)) (h t : List ℕ) → ((n : ℕ) → o ≡ refused n → n < 256) → code_of (observed_entry o h t) < 256
 unfolding code_of observed_entry
-entry_code (refused n) h t p k = omega (arith, k n refl)
-entry_code (ok none) h t p k = omega arith
-entry_code (ok (some f)) h t p k = omega arith
+entry_code (refused n) h t k = omega (arith, k n refl)
+entry_code (ok none) h t k = omega arith
+entry_code (ok (some f)) h t k = omega arith
 
 -- an insertion or an optimising
 done_code : (o : Outcome ℕ) → ((n : ℕ) → o ≡ refused n → n < 256) → code_of (observed_done o) < 256
@@ -54,15 +54,14 @@ in_bytes ns b n h = ltb-true n 256 (in_all (λ m. ltb m 256) ns n b h)
 -- every call's code is a byte
 code_byte : (s : List ℕ) (L : ℕ) → T (are_bytes s) → (c : Call) → code_of (perform s L c).observed < 256
 unfolding perform all numbers content_numbers image_numbers change_numbers
-code_byte s L small (look_up_call h text parts) =
-    let r = look_up s L h text parts in
-    text_code r.answer r.text r.parts (λ n e. in_bytes (image_numbers ++ 12 ∷ 14 ∷ []) refl n ((first_numbers.look_up_rows s L h text parts small).no_other n e))
-code_byte s L small (walk_call above h word text parts) =
-    let r = walk s L above h word text parts in
-    entry_code r.answer r.headword r.text r.parts
-    (λ n e. in_bytes (image_numbers ++ 12 ∷ 14 ∷ []) refl n ((first_numbers.walk_rows s L above h word text parts small).no_other n e))
-code_byte s L small (insert_call work new) =
-    done_code (insert s L work new).answer (λ n e. in_bytes (change_numbers ++ 12 ∷ 13 ∷ 15 ∷ []) refl n ((first_numbers.insert_rows s L work new small).no_other n e))
+code_byte s L small (look_up_call h out) =
+    let r = look_up s L h out in
+    text_code r.answer r.text (λ n e. in_bytes (image_numbers ++ 12 ∷ 14 ∷ []) refl n ((first_numbers.look_up_rows s L h out small).no_other n e))
+code_byte s L small (walk_call above h word text) =
+    let r = walk s L above h word text in
+    entry_code r.answer r.headword r.text (λ n e. in_bytes (image_numbers ++ 12 ∷ 14 ∷ []) refl n ((first_numbers.walk_rows s L above h word text small).no_other n e))
+code_byte s L small (insert_call work h a t) =
+    done_code (insert s L work h a t).answer (λ n e. in_bytes (change_numbers ++ 12 ∷ 13 ∷ 15 ∷ []) refl n ((first_numbers.insert_rows s L work h a t small).no_other n e))
 code_byte s L small (delete_call work h) =
     removed_code (delete s L work h).answer (λ n e. in_bytes (change_numbers ++ 12 ∷ 15 ∷ []) refl n ((first_numbers.delete_rows s L work h small).no_other n e))
 code_byte s L small (optimise_call work) = done_code (optimise s L work).answer (λ n e. in_bytes change_numbers refl n ((first_numbers.optimise_rows s L work small).no_other n e))

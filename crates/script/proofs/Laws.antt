@@ -9,10 +9,9 @@ use Rattle.spec.specs.Outcome.{Outcome, refused, ok}
 use Rattle.spec.specs.Bytes.{zeros}
 use Rattle.spec.specs.Check.{work_ok}
 use Rattle.spec.specs.Place.{Plan}
-use Rattle.spec.specs.Entry.{NewEntry}
 use Rattle.spec.specs.Calls.{ChangeResult, look_up, walk, insert, delete, optimise, changeable, work_after, changed}
 use Rattle.spec.specs.Calls.{insert_plan, insert_result, delete_plan, delete_result, optimise_plan, optimise_result}
-use Rattle.spec.specs.Claim.{insert_call, delete_call, optimise_call, perform, new_length, new_length_or, observed_text, observed_entry, observed_done, observed_removed}
+use Rattle.spec.specs.Claim.{look_up_call, walk_call, insert_call, delete_call, optimise_call, perform, new_length, new_length_or, observed_text, observed_entry, observed_done, observed_removed}
 use Rattle.spec.specs.Answers as Answers
 use Rattle.spec.specs.Answers.{length_answer, look_up_answer, walk_answer, delete_answer}
 use Rattle.spec.specs.declared.LengthAnswer.{LengthAnswer}
@@ -20,7 +19,7 @@ use Rattle.spec.specs.declared.LookUpAnswer.{LookUpAnswer}
 use Rattle.spec.specs.declared.WalkAnswer.{WalkAnswer}
 use Rattle.spec.specs.declared.DeleteAnswer.{DeleteAnswer}
 use Rattle.spec.proofs.BytesLaws.{length_zeros}
-use Rattle.script.specs.Script.{look_up_of, walk_of, code_of, work_left, Told, told}
+use Rattle.script.specs.Script.{code_of, work_left, Told, told}
 
 -- zeros, as an array has them
 zeros_are : (n : ℕ) → replicate n 0 ≡ zeros n
@@ -28,47 +27,46 @@ unfolding zeros
 zeros_are n = refl
 
 -- A look up by its answer: what is observed of it,
-module _ (r : LookUpAnswer) (t p s h : List ℕ) (L : ℕ) (e : record { answer = look_up_answer r; text = t; parts = p } ≡ look_up s L h (replicate 3000 0) (replicate 21_005 0)) where
-  look_up_given : (perform s L (look_up_of h)).observed ≡ observed_text (look_up_answer r) t p
+module _ (r : LookUpAnswer) (t s h : List ℕ) (L : ℕ) (e : record { answer = look_up_answer r; text = t } ≡ look_up s L h (replicate 3000 0)) where
+  look_up_given : (perform s L (look_up_call h (zeros 3000))).observed ≡ observed_text (look_up_answer r) t
   unfolding perform
-  look_up_given = rw (← zeros_are 3000, ← zeros_are 21_005, ← e)
+  look_up_given = rw (← zeros_are 3000, ← e)
 
   -- a refusal's number
-  pub look_up_refused : (k : ℕ) → r ≡ LookUpAnswer.Refused k → k ≡ code_of (perform s L (look_up_of h)).observed
+  pub look_up_refused : (k : ℕ) → r ≡ LookUpAnswer.Refused k → k ≡ code_of (perform s L (look_up_call h (zeros 3000))).observed
   unfolding code_of observed_text Answers.look_up_answer
   look_up_refused k q = rw (look_up_given, q)
 
   -- absent: 100
-  pub look_up_absent : r ≡ LookUpAnswer.Absent → 100 ≡ code_of (perform s L (look_up_of h)).observed
+  pub look_up_absent : r ≡ LookUpAnswer.Absent → 100 ≡ code_of (perform s L (look_up_call h (zeros 3000))).observed
   unfolding code_of observed_text Answers.look_up_answer
   look_up_absent q = rw (look_up_given, q)
 
   -- found: 0
-  pub look_up_found : (a n m : ℕ) → r ≡ LookUpAnswer.Found a n m → 0 ≡ code_of (perform s L (look_up_of h)).observed
+  pub look_up_found : (a n : ℕ) → r ≡ LookUpAnswer.Found a n → 0 ≡ code_of (perform s L (look_up_call h (zeros 3000))).observed
   unfolding code_of observed_text Answers.look_up_answer
-  look_up_found a n m q = rw (look_up_given, q)
+  look_up_found a n q = rw (look_up_given, q)
 
 -- A walk by its answer: what is observed of it,
-module _ (r : WalkAnswer) (w t p s h : List ℕ) (L : ℕ) (above : Bool)
-    (e : record { answer = walk_answer r; headword = w; text = t; parts = p } ≡ walk s L above h (replicate 248 0) (replicate 3000 0) (replicate 21_005 0)) where
-  walk_given : (perform s L (walk_of above h)).observed ≡ observed_entry (walk_answer r) w t p
+module _ (r : WalkAnswer) (w t s h : List ℕ) (L : ℕ) (above : Bool) (e : record { answer = walk_answer r; headword = w; text = t } ≡ walk s L above h (replicate 248 0) (replicate 3000 0)) where
+  walk_given : (perform s L (walk_call above h (zeros 248) (zeros 3000))).observed ≡ observed_entry (walk_answer r) w t
   unfolding perform
-  walk_given = rw (← zeros_are 3000, ← zeros_are 248, ← zeros_are 21_005, ← e)
+  walk_given = rw (← zeros_are 3000, ← zeros_are 248, ← e)
 
   -- a refusal's number
-  pub walk_refused : (k : ℕ) → r ≡ WalkAnswer.Refused k → k ≡ code_of (perform s L (walk_of above h)).observed
+  pub walk_refused : (k : ℕ) → r ≡ WalkAnswer.Refused k → k ≡ code_of (perform s L (walk_call above h (zeros 248) (zeros 3000))).observed
   unfolding code_of observed_entry Answers.walk_answer
   walk_refused k q = rw (walk_given, q)
 
   -- absent: 100
-  pub walk_absent : r ≡ WalkAnswer.Absent → 100 ≡ code_of (perform s L (walk_of above h)).observed
+  pub walk_absent : r ≡ WalkAnswer.Absent → 100 ≡ code_of (perform s L (walk_call above h (zeros 248) (zeros 3000))).observed
   unfolding code_of observed_entry Answers.walk_answer
   walk_absent q = rw (walk_given, q)
 
   -- found: 0
-  pub walk_found : (a m n l : ℕ) → r ≡ WalkAnswer.Found a m n l → 0 ≡ code_of (perform s L (walk_of above h)).observed
+  pub walk_found : (a m n : ℕ) → r ≡ WalkAnswer.Found a m n → 0 ≡ code_of (perform s L (walk_call above h (zeros 248) (zeros 3000))).observed
   unfolding code_of observed_entry Answers.walk_answer
-  walk_found a m n l q = rw (walk_given, q)
+  walk_found a m n q = rw (walk_given, q)
 
 -- rows 1 to 11 go by the working slice's length alone
 changeable_work : (s : List ℕ) (L : ℕ) (work other : List ℕ) → length work ≡ length other → changeable s L work ≡ changeable s L other
@@ -105,22 +103,21 @@ unfolding optimise_result changed observed_done work_after
 optimise_by s L work other (refused n) = refl
 optimise_by s L work other (ok p) = refl
 
--- An insertion of what is given for an entry, by its answer and the slices then: what is left of it,
-module _ (s : List ℕ) (given new : NewEntry) (same : given ≡ new) (r : LengthAnswer) (s' work' work : List ℕ) (L : ℕ)
-    (e : record { answer = length_answer r; image = s'; work = work' } ≡ insert s L work given) where
-  insert_given : told s L work (insert_call (zeros (length work)) new) ≡ done_by L (record { answer = length_answer r; image = s'; work = work' }) work'
+-- An insertion by its answer and the slices then: what is left of it,
+module _ (r : LengthAnswer) (s' work' s work h : List ℕ) (a : ℕ) (t : List ℕ) (L : ℕ) (e : record { answer = length_answer r; image = s'; work = work' } ≡ insert s L work h a t) where
+  insert_given : told s L work (insert_call (zeros (length work)) h a t) ≡ done_by L (record { answer = length_answer r; image = s'; work = work' }) work'
   unfolding told work_left perform insert insert_plan
   insert_given =
       let z : List ℕ = zeros (length work) in
-      rw (← same, changeable_work s L z work (length_zeros (length work))) (insert_by s L work z (insert_plan s L work given)) ∙ ap (λ (x : ChangeResult ℕ). done_by L x x.work) (sym e)
+      rw (changeable_work s L z work (length_zeros (length work))) (insert_by s L work z (insert_plan s L work h a t)) ∙ ap (λ (x : ChangeResult ℕ). done_by L x x.work) (sym e)
 
   -- refused: its number, and the length stays
-  pub insert_refused : (k : ℕ) → r ≡ LengthAnswer.Refused k → record { code = k; image = s'; length_after = L; work = work' } ≡ told s L work (insert_call (zeros (length work)) new)
+  pub insert_refused : (k : ℕ) → r ≡ LengthAnswer.Refused k → record { code = k; image = s'; length_after = L; work = work' } ≡ told s L work (insert_call (zeros (length work)) h a t)
   unfolding code_of observed_done new_length Answers.length_answer
   insert_refused k q = rw (insert_given, q)
 
   -- done: 0, and the new length
-  pub insert_done : (n : ℕ) → r ≡ LengthAnswer.Done n → record { code = 0; image = s'; length_after = n; work = work' } ≡ told s L work (insert_call (zeros (length work)) new)
+  pub insert_done : (n : ℕ) → r ≡ LengthAnswer.Done n → record { code = 0; image = s'; length_after = n; work = work' } ≡ told s L work (insert_call (zeros (length work)) h a t)
   unfolding code_of observed_done new_length Answers.length_answer
   insert_done n q = rw (insert_given, q)
 

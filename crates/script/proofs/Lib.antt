@@ -1,7 +1,6 @@
 pub mod Laws
 pub mod Turns
 pub mod Codes
-pub mod Given
 pub mod ByKind
 pub mod Claim
 pub mod Examples

@@ -9,9 +9,9 @@ use lib.ListN.{length, get_or, get_elem?, take, drop, set, length-drop}
 use lib.Seq.{take-length, drop-drop}
 use lib.Dec.{leb}
 use borrow.Author.Tests.{le-leb, lt-leb}
-use Rattle.spec.specs.Entry.{NewEntry}
+use Rattle.spec.specs.Bytes.{from_little_endian, bytes_at}
 use Rattle.spec.specs.Claim.{Call}
-use Rattle.script.specs.Script.{call_size, front_entry, kinds, call_of, front_call, FrontOf, calls_from, calls_of, told, Played, played_from, played}
+use Rattle.script.specs.Script.{headword_size, text_size, call_size, kinds, call_of, front_call, FrontOf, calls_from, calls_of, told, Played, played_from, played}
 use Rattle.script.specs.declared.Front.{Front}
 
 -- nothing stands past the end
@@ -21,24 +21,26 @@ none_past (c ∷ l) zero p = absurd (omega arith)
 none_past (c ∷ l) (suc i) p = none_past l i (omega arith)
 
 -- there are six kinds
-six_kinds : (w : ℕ) (new : NewEntry) → length (kinds w new) ≡ 6
+six_kinds : (w : ℕ) (h : List ℕ) (a : ℕ) (t : List ℕ) → length (kinds w h a t) ≡ 6
 unfolding kinds
-six_kinds w new = refl
+six_kinds w h a t = refl
 
 -- another kind is no call
 kind_past : (w : ℕ) (s : List ℕ) → 5 < get_or s 0 0 → call_of w s ≡ none
 unfolding call_of
-kind_past w s p = none_past (kinds w (front_entry s)) (get_or s 0 0) (omega (arith, six_kinds w (front_entry s)))
+kind_past w s p =
+    let l : List Call = kinds w (bytes_at 5 (headword_size s) s) (get_or s 4 0) (bytes_at (5 + headword_size s) (text_size s) s) in
+    none_past l (get_or s 0 0) (omega (arith, six_kinds w (bytes_at 5 (headword_size s) s) (get_or s 4 0) (bytes_at (5 + headword_size s) (text_size s) s)))
 
 -- a script that holds its first call whole
 front_whole : (w : ℕ) (s : List ℕ) → call_size s ≤ length s → front_call w s ≡ call_of w s
 unfolding front_call
-front_whole w s p = rw (le-leb 10 (length s) (omega arith), le-leb (call_size s) (length s) p, front_call)
+front_whole w s p = rw (le-leb 5 (length s) (omega arith), le-leb (call_size s) (length s) p, front_call)
 
 -- and one that does not
 front_broken : (w : ℕ) (s : List ℕ) → length s < call_size s → front_call w s ≡ none
 unfolding front_call
-front_broken w s p = rw (lt-leb (call_size s) (length s) p, front_call) (go (leb 10 (length s)))
+front_broken w s p = rw (lt-leb (call_size s) (length s) p, front_call) (go (leb 5 (length s)))
   where
     go : (t : Bool) → ◌≡◌ {A = Option Call} (elim (t && false) [ true ↦ call_of w s | false ↦ none ]) none
     go true = refl
@@ -46,25 +48,25 @@ front_broken w s p = rw (lt-leb (call_size s) (length s) p, front_call) (go (leb
 
 -- The size of the first call.
 -- a script too short for the front of a call
-pub size_short : (s : List ℕ) → length s < 10 → FrontOf s Front.End
+pub size_short : (s : List ℕ) → length s < 5 → FrontOf s Front.End
 size_short s p w = front_broken w s (omega arith)
 
 -- another kind
 pub size_kind : (s : List ℕ) → 5 < get_or s 0 0 → FrontOf s Front.End
 unfolding front_call
-size_kind s p w = go w (leb 10 (length s) && leb (call_size s) (length s))
+size_kind s p w = go w (leb 5 (length s) && leb (call_size s) (length s))
   where
     go : (w : ℕ) (t : Bool) → ◌≡◌ {A = Option Call} (elim t [ true ↦ call_of w s | false ↦ none ]) none
     go w true = kind_past w s p
     go w false = refl
 
 -- a call that does not fit
-pub size_past : (s : List ℕ) (n : ℕ) → n ≡ call_size s → length s < n → FrontOf s Front.End
-size_past s n e p w = front_broken w s (omega arith)
+pub size_past : (s : List ℕ) (a b : ℕ) → a ≡ get_or s 1 0 → b ≡ from_little_endian (bytes_at 2 2 s) → length s < 5 + a + b → FrontOf s Front.End
+size_past s a b e f p w = front_broken w s (omega arith)
 
 -- a call
-pub size_whole : (s : List ℕ) (n : ℕ) → n ≡ call_size s → n ≤ length s → get_or s 0 0 ≤ 5 → FrontOf s (Front.Call n)
-size_whole s n e p k = (e, p, k)
+pub size_whole : (s : List ℕ) (a b : ℕ) → a ≡ get_or s 1 0 → b ≡ from_little_endian (bytes_at 2 2 s) → 5 + a + b ≤ length s → get_or s 0 0 ≤ 5 → FrontOf s (Front.Call (5 + a + b))
+size_whole s a b e f p k = (rw (e, f), p, k)
 
 -- where the script ends it has no calls
 calls_none : (w n : ℕ) (s : List ℕ) → front_call w s ≡ none → calls_from w n s ≡ []
@@ -110,7 +112,9 @@ some_at (c ∷ l) (suc i) p = some_at l i (omega arith)
 -- a kind up to 5 is a call
 pub call_there : (w : ℕ) (s : List ℕ) → get_or s 0 0 ≤ 5 → (c : Call) × (call_of w s ≡ some c)
 unfolding call_of
-call_there w s p = some_at (kinds w (front_entry s)) (get_or s 0 0) (omega (arith, six_kinds w (front_entry s)))
+call_there w s p =
+    let l : List Call = kinds w (bytes_at 5 (headword_size s) s) (get_or s 4 0) (bytes_at (5 + headword_size s) (text_size s) s) in
+    some_at l (get_or s 0 0) (omega (arith, six_kinds w (bytes_at 5 (headword_size s) s) (get_or s 4 0) (bytes_at (5 + headword_size s) (text_size s) s)))
 
 -- the first call performed, then the rest
 played_call : (n : ℕ) (c : Call) (cs : List Call) (s : List ℕ) (L : ℕ) (work codes : List ℕ) (code : ℕ) (s' : List ℕ) (L' : ℕ) (work' : List ℕ)

@@ -1,20 +1,16 @@
 -- A script: calls written in bytes, one after the other, and what comes of them.
--- A call: kind (1) | headword length (1) | text length (2) | attribute (1) | marks (1) | example length (2) | pronunciation length (2)
--- | headword | text | example | pronunciation; numbers low byte first. Marks: 1 an example is there, 2 a pronunciation is, 3 both are.
-use Rattle.std.specs.Prelude.{ℕ, zero, suc, ◌+◌, ◌/◌, ◌%◌, ◌≤◌, ◌≡◌, Bool, true, false, ◌&&◌, List, [], ◌∷◌, length, get_or, drop, set, leb, eqb}
+-- A call: kind (1) | headword length (1) | text length (2, low byte first) | attribute (1) | headword | text.
+use Rattle.std.specs.Prelude.{ℕ, zero, suc, ◌+◌, ◌≤◌, ◌≡◌, true, false, ◌&&◌, List, [], ◌∷◌, length, get_or, drop, set, leb}
 use Rattle.std.proofs.Math.Option.{Option, none, some}
 use Rattle.std.proofs.Math.ListN.{get_elem?}
 use Rattle.spec.specs.Order.{HeadwordOrder}
 use Rattle.spec.specs.Outcome.{Outcome, refused, ok}
 use Rattle.spec.specs.Bytes.{from_little_endian, bytes_at, zeros}
-use Rattle.spec.specs.Entry.{Entry, NewEntry}
+use Rattle.spec.specs.Entry.{Entry}
 use Rattle.spec.specs.Check.{Image, image_in, entries_of}
 use Rattle.spec.specs.Calls.{work_after}
 use Rattle.spec.specs.Claim.{Call, look_up_call, walk_call, insert_call, delete_call, optimise_call, perform, is_refused, list_step, Matches, History}
 use Rattle.spec.specs.Claim.{Observed, absent, text_found, entry_found, done, removed}
-use Rattle.bodies.specs.Given.{marked}
-use Rattle.editor.specs.declared.Given.{Given}
-use Rattle.script.specs.declared.Ends.{Ends}
 use Rattle.script.specs.declared.Front.{Front}
 
 -- the length of the headword of the call at the front of s
@@ -25,83 +21,28 @@ headword_size s = get_or s 1 0
 abbrev pub text_size : List ℕ → ℕ
 text_size s = from_little_endian (bytes_at 2 2 s)
 
--- of its example
-abbrev pub example_size : List ℕ → ℕ
-example_size s = from_little_endian (bytes_at 6 2 s)
-
--- and of its pronunciation
-abbrev pub pronunciation_size : List ℕ → ℕ
-pronunciation_size s = from_little_endian (bytes_at 8 2 s)
-
--- where its headword ends, and its text begins
-abbrev pub headword_end : List ℕ → ℕ
-headword_end s = 10 + headword_size s
-
--- where its text ends, and its example begins
-abbrev pub text_end : List ℕ → ℕ
-text_end s = headword_end s + text_size s
-
--- where its example ends, and its pronunciation begins
-abbrev pub example_end : List ℕ → ℕ
-example_end s = text_end s + example_size s
-
--- how many bytes it takes: it ends with its pronunciation
+-- how many bytes it takes
 abbrev pub call_size : List ℕ → ℕ
-call_size s = example_end s + pronunciation_size s
+call_size s = 5 + headword_size s + text_size s
 
--- what is known of the ends of the call at the front of s
-abbrev pub EndsOf : List ℕ → Ends → Type 0
-EndsOf s r = (r.headword ≡ headword_end s) × (r.text ≡ text_end s) × (r.example ≡ example_end s) × (r.pronunciation ≡ call_size s)
-
--- whether its example is there
-abbrev pub example_there : List ℕ → Bool
-example_there s = eqb (get_or s 5 0 % 2) 1
-
--- whether its pronunciation is there
-abbrev pub pronunciation_there : List ℕ → Bool
-pronunciation_there s = eqb (get_or s 5 0 / 2 % 2) 1
-
--- what is known of its attribute and its marks
-abbrev pub GivenBy : List ℕ → Given → Type 0
-GivenBy s g = (g.attribute ≡ get_or s 4 0) × (g.parts.example ≡ example_there s) × (g.parts.pronunciation ≡ pronunciation_there s)
-
--- the entry of the call at the front of s
-unfoldable pub front_entry : List ℕ → NewEntry
-front_entry s =
-    record {
-      headword = bytes_at 10 (headword_size s) s;
-      attribute = get_or s 4 0;
-      text = bytes_at (headword_end s) (text_size s) s;
-      example = marked (example_there s) (bytes_at (text_end s) (example_size s) s);
-      pronunciation = marked (pronunciation_there s) (bytes_at (example_end s) (pronunciation_size s) s);
-    }
-
--- a look up whose output slices are zeros, as many as an answer may have
-abbrev pub look_up_of : List ℕ → Call
-look_up_of h = look_up_call h (zeros 3000) (zeros 21_005)
-
--- such a walk
-abbrev pub walk_of : Bool → List ℕ → Call
-walk_of above h = walk_call above h (zeros 248) (zeros 3000) (zeros 21_005)
-
--- the calls of all kinds with what this entry has, kind 0 first; working slices are w zeros
-unfoldable pub kinds : ℕ → NewEntry → List Call
-kinds w new =
-    look_up_of new.headword
-    ∷ walk_of false new.headword
-    ∷ walk_of true new.headword
-    ∷ insert_call (zeros w) new
-    ∷ delete_call (zeros w) new.headword
+-- the calls of all kinds with these arguments, kind 0 first; working slices are w zeros, output slices zeros
+unfoldable pub kinds : ℕ → List ℕ → ℕ → List ℕ → List Call
+kinds w h a t =
+    look_up_call h (zeros 3000)
+    ∷ walk_call false h (zeros 248) (zeros 3000)
+    ∷ walk_call true h (zeros 248) (zeros 3000)
+    ∷ insert_call (zeros w) h a t
+    ∷ delete_call (zeros w) h
     ∷ optimise_call (zeros w)
     ∷ []
 
 -- the call written at the front of s; another kind is no call
 unfoldable pub call_of : ℕ → List ℕ → Option Call
-call_of w s = get_elem? (kinds w (front_entry s)) (get_or s 0 0)
+call_of w s = get_elem? (kinds w (bytes_at 5 (headword_size s) s) (get_or s 4 0) (bytes_at (5 + headword_size s) (text_size s) s)) (get_or s 0 0)
 
 -- the same, if s holds it whole; none: the script ends
 unfoldable pub front_call : ℕ → List ℕ → Option Call
-front_call w s = elim (leb 10 (length s) && leb (call_size s) (length s)) [ true ↦ call_of w s | false ↦ none ]
+front_call w s = elim (leb 5 (length s) && leb (call_size s) (length s)) [ true ↦ call_of w s | false ↦ none ]
 
 -- what is known of the front of s: where the script ends it has no call, else one of that size, which it holds whole
 abbrev pub FrontOf : List ℕ → Front → Type 0
@@ -121,16 +62,16 @@ calls_of w s = calls_from w (length s) s
 unfoldable pub code_of : Outcome Observed → ℕ
 code_of (refused n) = n
 code_of (ok absent) = 100
-code_of (ok (text_found a t n parts m)) = 0
-code_of (ok (entry_found h t a m n parts l)) = 0
+code_of (ok (text_found a t n)) = 0
+code_of (ok (entry_found h t a m n)) = 0
 code_of (ok done) = 0
 code_of (ok removed) = 0
 
 -- the working slice after a call: a reading call is not lent it; "all zero after each changing call, except that 1 and 2 leave it untouched"
 unfoldable pub work_left : Call → Outcome Observed → List ℕ → List ℕ
-work_left (look_up_call h out-text out-parts) o work = work
-work_left (walk_call above h out-headword out-text out-parts) o work = work
-work_left (insert_call other new) o work = work_after o work
+work_left (look_up_call h out) o work = work
+work_left (walk_call above h out-headword out-text) o work = work
+work_left (insert_call other h a t) o work = work_after o work
 work_left (delete_call other h) o work = work_after o work
 work_left (optimise_call other) o work = work_after o work
 
@@ -180,5 +121,5 @@ Claimed cs s L image length_after =
 
 -- names all definitions of this module: who unfolds it unfolds them
 unfoldable pub open_script : Unit {0}
-unfolding front_entry kinds call_of front_call calls_from calls_of code_of work_left told played_from played fed Claimed
+unfolding kinds call_of front_call calls_from calls_of code_of work_left told played_from played fed Claimed
 open_script = tt

@@ -28,7 +28,7 @@ module _ (area : List ℕ) (p : Spot) (h : SpotInside area p) (n z e : ℕ) (q :
 
   -- its headword has at most 248 bytes
   pub spot_short : n ≤ 248
-  spot_short = (h n z e q).3
+  spot_short = (h n z e q).4
 
   -- has room in the buffer
   pub spot_room : (word : List ℕ) → length word ≡ 256 → n ≤ length word

@@ -194,8 +194,8 @@ module _ (at : ℕ) (run : List ℕ) (st : Step) (h : StepSpec.Inside at run st)
   -- an entry behind a position is behind each before it
   pub inside_from : (from : ℕ) → from ≤ at → StepSpec.Inside from run (Step.Entry n z e)
   inside_from from p n' z' e' s =
-      let (a₀, a₁, a₂, a₃, a₄) = h n' z' e' (q ∙ s) in
-      (omega arith, a₁, a₂, a₃, a₄)
+      let (a₀, a₁, a₂, a₃, a₄, a₅) = h n' z' e' (q ∙ s) in
+      (omega arith, a₁, a₂, a₃, a₄, a₅)
 
 -- ---- find_at
 -- what a search in the run of an element finds, where that can be read
@@ -267,7 +267,7 @@ module _ (w : ℕ) (low : HeadwordOrder) (below : HeadwordOrder) (above : Bool) 
           → FoundAtAll low below above h area (element_at w index at) word (Spot.At k (256 * b + z) (256 * b + e))
       unfolding step_found spot_entry
       at_entry i k z e y B long next q r =
-          let (a₀, a₁, a₂, a₃, a₄) = i k z e y in
+          let (a₀, a₁, a₂, a₃, a₄, a₅) = i k z e y in
           let body_same : bytes_at (z + 1) (e - (z + 1)) (run_slice area b n) ≡ bytes_at (256 * b + z + 1) (256 * b + e - (256 * b + z + 1)) area = shifted z e a₁ (omega (arith, slice_bytes)) in
           let u : spot_entry area word (Spot.At k (256 * b + z) (256 * b + e)) ≡ step_found (run_slice area b n) word (Step.Entry k z e) = rw body_same in
           u ∙ sym (ap (step_found (run_slice area b n) word) y) ∙ f (suc (length q.bytes)) q.entries (same_run B long next q r)
@@ -282,23 +282,23 @@ module _ (w : ℕ) (low : HeadwordOrder) (below : HeadwordOrder) (above : Bool) 
       -- inside the data area
       pub at_inside : SpotInside area (Spot.At k (256 * b + z) (256 * b + e))
       at_inside k' z' e' s =
-          let (a₀, a₁, a₂, a₃, a₄) = i k z e y in
+          let (a₀, a₁, a₂, a₃, a₄, a₅) = i k z e y in
           let x : k ≡ k' = cc in
           let u : 256 * b + z ≡ z' = cc in
           let v : 256 * b + e ≡ e' = cc in
-          (omega arith, omega (arith, slice_bytes, at_area), omega arith, omega arith)
+          (omega arith, omega (arith, slice_bytes, at_area), omega arith, omega arith, omega arith)
 
       module _ (few : length area ≤ 4_294_967_040) where
         -- its zero byte's position fits
         pub at_zero_fits : Fits w64 (256 * b + z)
         at_zero_fits =
-            let (a₀, a₁, a₂, a₃, a₄) = i k z e y in
+            let (a₀, a₁, a₂, a₃, a₄, a₅) = i k z e y in
             Fits-below {n = 4_294_967_296} tt (omega (arith, slice_bytes, at_area))
 
         -- and so does its end
         pub at_next_fits : Fits w64 (256 * b + e)
         at_next_fits =
-            let (a₀, a₁, a₂, a₃, a₄) = i k z e y in
+            let (a₀, a₁, a₂, a₃, a₄, a₅) = i k z e y in
             Fits-below {n = 4_294_967_296} tt (omega (arith, slice_bytes, at_area))
 
     module _ (few : length area ≤ 4_294_967_040) where

@@ -25,7 +25,7 @@ first_entries (r ∷ rs) = r.entries
 
 -- a spot lies inside the data area
 abbrev pub SpotInside : List ℕ → Spot → Type 0
-SpotInside area p = (n z e : ℕ) → p ≡ Spot.At n z e → (z + 2 ≤ e) × (e ≤ length area) × (1 ≤ n) × (n ≤ 248)
+SpotInside area p = (n z e : ℕ) → p ≡ Spot.At n z e → (z + 2 ≤ e) × (e ≤ length area) × (e ≤ z + 3002) × (1 ≤ n) × (n ≤ 248)
 
 -- names all definitions of this module: who unfolds it unfolds them
 unfoldable pub open_spot : Unit {0}

@@ -5,15 +5,14 @@ use mathlib.Core.Bool.{Bool, true, false, not, ◌&&◌, ◌||◌}
 use mathlib.Core.List.{List, [], ◌∷◌}
 use mathlib.Core.Option.{Option, none, some}
 use lib.ListN.{length, take}
-use Rattle.spec.specs.Bytes.{write}
 use lib.Dec.{ltb}
 use Rattle.spec.specs.Outcome.{Outcome, refused, ok, ◌>>=◌, ◌>>◌, refuse◌when◌}
 use Rattle.spec.specs.Header.{writable}
-use Rattle.spec.specs.Entry.{Entry, NewEntry, headword_ok, attribute, text, part_list}
+use Rattle.spec.specs.Entry.{Entry, headword_ok, attribute, text}
 use Rattle.spec.specs.Check.{Image, image_in, image_from, slice_ok, work_ok, entries_of}
 use Rattle.spec.specs.SortedList.{lookup, successor}
 use Rattle.spec.specs.Place.{Plan, plan_full, plan_written}
-use Rattle.spec.specs.Calls.{body_unfit, text_fitted, look_up_in, look_up_entry, look_up_result, look_up, entry_fitted, start_ok, walk_in, walk_entry, walk_result, walk, changeable, fitting, changed, plan_length, insert_plan, insert_result, insert, delete_plan, delete_result, delete, optimise_plan, given_up_zeroed, optimise_result, optimise}
+use Rattle.spec.specs.Calls.{text_fitted, look_up_in, look_up_entry, look_up_result, look_up, entry_fitted, start_ok, walk_in, walk_entry, walk_result, walk, changeable, fitting, changed, plan_length, insert_plan, insert_result, insert, delete_plan, delete_result, delete, optimise_plan, given_up_zeroed, optimise_result, optimise}
 use Rattle.spec.specs.Claim.{look_up_call, walk_call, insert_call, delete_call, optimise_call, Observed, text_found, entry_found, done, tell_text, tell_entry, tell_removed, Performed, new_length, new_length_or, observed_text, observed_entry, observed_done, observed_removed, perform, Row, ◌if◌, first_row, too_short, short_for_text, short_for_entry, is_there, insert_placing, delete_placing, optimise_placing, rows, expected}
 use Rattle.spec.proofs.OutcomeLaws.{next_ok}
 use Rattle.spec.proofs.WriteLaws.{written_front}
@@ -44,65 +43,55 @@ unfolding image_in
 in_told s L i h = let (u, a, k) = next_ok (slice_ok s L) (image_from (take L s)) i h in (a, k)
 
 module _ (s : List ℕ) (L : ℕ) (i : Image) (got : image_in s L ≡ ok i) where
-  short_text : (out-text out-parts : List ℕ) (o : Option Entry) → elim o [ none ↦ false | some e ↦ body_unfit out-text out-parts e ] ≡ short_for_text out-text out-parts o
-  unfolding body_unfit short_for_text too_short
-  short_text out-text out-parts none = refl
-  short_text out-text out-parts (some e) = refl
+  short_text : (out : List ℕ) (o : Option Entry) → elim o [ none ↦ false | some e ↦ ltb (length out) (length (text e)) ] ≡ short_for_text out o
+  unfolding short_for_text too_short
+  short_text out none = refl
+  short_text out (some e) = refl
 
-  look_up_verdict : (h out-text out-parts : List ℕ)
-      → look_up_entry s L h out-text out-parts ≡ verdict (first_row (rows s i (entries_of i) (look_up_call h out-text out-parts))) (lookup h (entries_of i))
+  look_up_verdict : (h out : List ℕ) → look_up_entry s L h out ≡ verdict (first_row (rows s i (entries_of i) (look_up_call h out))) (lookup h (entries_of i))
   unfolding look_up_entry look_up_in text_fitted rows ◌if◌
-  look_up_verdict h out-text out-parts =
-      rw (got, short_text out-text out-parts (lookup h (entries_of i))) (rows_verdict (rows s i (entries_of i) (look_up_call h out-text out-parts)) (lookup h (entries_of i)))
+  look_up_verdict h out = rw (got, short_text out (lookup h (entries_of i))) (rows_verdict (rows s i (entries_of i) (look_up_call h out)) (lookup h (entries_of i)))
 
   -- what is observed of a look up
-  pub look_up_observed : (h out-text out-parts : List ℕ)
-      → (perform s L (look_up_call h out-text out-parts)).observed
-      ≡ expected (first_row (rows s i (entries_of i) (look_up_call h out-text out-parts))) (tell_text (lookup h (entries_of i)))
+  pub look_up_observed : (h out : List ℕ) → (perform s L (look_up_call h out)).observed ≡ expected (first_row (rows s i (entries_of i) (look_up_call h out))) (tell_text (lookup h (entries_of i)))
   unfolding perform look_up look_up_result observed_text expected tell_text
-  look_up_observed h out-text out-parts =
-      rw (look_up_verdict h out-text out-parts) (go (first_row (rows s i (entries_of i) (look_up_call h out-text out-parts))) (lookup h (entries_of i)))
+  look_up_observed h out = rw (look_up_verdict h out) (go (first_row (rows s i (entries_of i) (look_up_call h out))) (lookup h (entries_of i)))
     where
-      go : (n : Option ℕ) (o : Option Entry)
-          → let r = look_up_result out-text out-parts (verdict n o) in observed_text r.answer r.text r.parts ≡ expected n (tell_text o)
+      go : (n : Option ℕ) (o : Option Entry) → observed_text (look_up_result out (verdict n o)).answer (look_up_result out (verdict n o)).text ≡ expected n (tell_text o)
       go (some n) o = refl
       go none none = refl
-      go none (some e) =
-          ap₂ (λ (x y : List ℕ). ok (text_found (attribute e) x (length (text e)) y (length (part_list e))))
-          (written_front (text e) out-text (length (text e)) refl) (written_front (part_list e) out-parts (length (part_list e)) refl)
+      go none (some e) = ap (λ (x : List ℕ). ok (text_found (attribute e) x (length (text e)))) (written_front (text e) out (length (text e)) refl)
 
-  short_entry : (out-headword out-text out-parts : List ℕ) (o : Option Entry)
-      → elim o [ none ↦ false | some e ↦ ltb (length out-headword) (length e.headword) || body_unfit out-text out-parts e ] ≡ short_for_entry out-headword out-text out-parts o
-  unfolding body_unfit short_for_entry too_short
-  short_entry out-headword out-text out-parts none = refl
-  short_entry out-headword out-text out-parts (some e) = refl
+  short_entry : (out-headword out-text : List ℕ) (o : Option Entry)
+      → elim o [ none ↦ false | some e ↦ ltb (length out-headword) (length e.headword) || ltb (length out-text) (length (text e)) ] ≡ short_for_entry out-headword out-text o
+  unfolding short_for_entry too_short
+  short_entry out-headword out-text none = refl
+  short_entry out-headword out-text (some e) = refl
 
-  walk_verdict : (above : Bool) (h out-headword out-text out-parts : List ℕ)
-      → walk_entry s L above h out-headword out-text out-parts
-      ≡ verdict (first_row (rows s i (entries_of i) (walk_call above h out-headword out-text out-parts))) (successor i.frame.format.below above h (entries_of i))
+  walk_verdict : (above : Bool) (h out-headword out-text : List ℕ)
+      → walk_entry s L above h out-headword out-text
+      ≡ verdict (first_row (rows s i (entries_of i) (walk_call above h out-headword out-text))) (successor i.frame.format.below above h (entries_of i))
   unfolding walk_entry walk_in entry_fitted start_ok rows ◌if◌
-  walk_verdict above h out-headword out-text out-parts =
+  walk_verdict above h out-headword out-text =
       let found : Option Entry = successor i.frame.format.below above h (entries_of i) in
-      rw (got, short_entry out-headword out-text out-parts found) (rows_verdict (rows s i (entries_of i) (walk_call above h out-headword out-text out-parts)) found)
+      rw (got, short_entry out-headword out-text found) (rows_verdict (rows s i (entries_of i) (walk_call above h out-headword out-text)) found)
 
   -- what is observed of a walk
-  pub walk_observed : (above : Bool) (h out-headword out-text out-parts : List ℕ)
-      → (perform s L (walk_call above h out-headword out-text out-parts)).observed
-      ≡ expected (first_row (rows s i (entries_of i) (walk_call above h out-headword out-text out-parts))) (tell_entry (successor i.frame.format.below above h (entries_of i)))
+  pub walk_observed : (above : Bool) (h out-headword out-text : List ℕ)
+      → (perform s L (walk_call above h out-headword out-text)).observed
+      ≡ expected (first_row (rows s i (entries_of i) (walk_call above h out-headword out-text))) (tell_entry (successor i.frame.format.below above h (entries_of i)))
   unfolding perform walk walk_result observed_entry expected tell_entry
-  walk_observed above h out-headword out-text out-parts =
-      let found : Option Entry = successor i.frame.format.below above h (entries_of i) in
-      rw (walk_verdict above h out-headword out-text out-parts) (go (first_row (rows s i (entries_of i) (walk_call above h out-headword out-text out-parts))) found)
+  walk_observed above h out-headword out-text =
+      rw (walk_verdict above h out-headword out-text) (go (first_row (rows s i (entries_of i) (walk_call above h out-headword out-text))) (successor i.frame.format.below above h (entries_of i)))
     where
       go : (n : Option ℕ) (o : Option Entry)
-          → let r = walk_result out-headword out-text out-parts (verdict n o) in observed_entry r.answer r.headword r.text r.parts ≡ expected n (tell_entry o)
+          → observed_entry (walk_result out-headword out-text (verdict n o)).answer (walk_result out-headword out-text (verdict n o)).headword (walk_result out-headword out-text (verdict n o)).text
+          ≡ expected n (tell_entry o)
       go (some n) o = refl
       go none none = refl
       go none (some e) =
-          ap₂ (λ (x y : List ℕ). ok (entry_found x y (attribute e) (length e.headword) (length (text e)) (take (length (part_list e)) (write 0 (part_list e) out-parts)) (length (part_list e))))
+          ap₂ (λ (x y : List ℕ). ok (entry_found x y (attribute e) (length e.headword) (length (text e))))
           (written_front e.headword out-headword (length e.headword) refl) (written_front (text e) out-text (length (text e)) refl)
-          ∙ ap (λ (z : List ℕ). ok (entry_found e.headword (text e) (attribute e) (length e.headword) (length (text e)) z (length (part_list e))))
-          (written_front (part_list e) out-parts (length (part_list e)) refl)
 
   -- rows 2 and 11 of a changing call, then what follows
   changes : {A : Type 0} (work : List ℕ) (k : Image → Outcome A)
@@ -122,23 +111,23 @@ module _ (s : List ℕ) (L : ℕ) (i : Image) (got : image_in s L ≡ ok i) wher
   left told (some n) image after = record { observed = refused n; image = s; length_after = L }
   left told none image after = record { observed = ok told; image = image; length_after = after }
 
-  insert_verdict : (work : List ℕ) (new : NewEntry) → insert_plan s L work new ≡ verdict (first_row (rows s i (entries_of i) (insert_call work new))) (insert_placing i new)
+  insert_verdict : (work h : List ℕ) (a : ℕ) (t : List ℕ) → insert_plan s L work h a t ≡ verdict (first_row (rows s i (entries_of i) (insert_call work h a t))) (insert_placing i h a t)
   unfolding insert_plan fitting rows ◌if◌ too_short insert_placing
-  insert_verdict work new = changes work _ ∙ rows_verdict (rows s i (entries_of i) (insert_call work new)) (insert_placing i new)
+  insert_verdict work h a t = changes work _ ∙ rows_verdict (rows s i (entries_of i) (insert_call work h a t)) (insert_placing i h a t)
 
   -- an insertion
-  pub insert_performed : (work : List ℕ) (new : NewEntry)
-      → perform s L (insert_call work new) ≡ left done (first_row (rows s i (entries_of i) (insert_call work new))) (plan_written (insert_placing i new) s) (plan_length (insert_placing i new))
+  pub insert_performed : (work h : List ℕ) (a : ℕ) (t : List ℕ)
+      → perform s L (insert_call work h a t) ≡ left done (first_row (rows s i (entries_of i) (insert_call work h a t))) (plan_written (insert_placing i h a t) s) (plan_length (insert_placing i h a t))
   unfolding perform insert insert_result changed observed_done new_length
-  insert_performed work new = rw (insert_verdict work new) (go (first_row (rows s i (entries_of i) (insert_call work new))))
+  insert_performed work h a t = rw (insert_verdict work h a t) (go (first_row (rows s i (entries_of i) (insert_call work h a t))))
     where
       go : (n : Option ℕ)
           → record {
-            observed = observed_done (insert_result s work (verdict n (insert_placing i new))).answer;
-            image = (insert_result s work (verdict n (insert_placing i new))).image;
-            length_after = new_length L (insert_result s work (verdict n (insert_placing i new))).answer;
+            observed = observed_done (insert_result s work (verdict n (insert_placing i h a t))).answer;
+            image = (insert_result s work (verdict n (insert_placing i h a t))).image;
+            length_after = new_length L (insert_result s work (verdict n (insert_placing i h a t))).answer;
           }
-          ≡ left done n (plan_written (insert_placing i new) s) (plan_length (insert_placing i new))
+          ≡ left done n (plan_written (insert_placing i h a t) s) (plan_length (insert_placing i h a t))
       go (some n) = refl
       go none = refl
 

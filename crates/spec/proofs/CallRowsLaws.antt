@@ -3,7 +3,7 @@ use Prim.Native.Nat.{ℕ, ◌<◌, ◌≤◌}
 use mathlib.Core.Path.{◌≡◌, refl, sym, ap, ◌∙◌}
 use mathlib.Core.Logic.Iff
 use mathlib.Core.Logic.{◌⊎◌, inl, inr, ⊎_elim, ◌↔◌}
-use mathlib.Core.Bool.{Bool, true, false, not, ◌||◌, false≢true}
+use mathlib.Core.Bool.{Bool, true, false, not, ◌&&◌, ◌||◌, false≢true}
 use mathlib.Core.List.{List, [], ◌∷◌, ◌++◌}
 use mathlib.Core.Option.{Option, none, some}
 use native.Mathlib.Omega.{arith}
@@ -14,11 +14,11 @@ use borrow.Author.Tests.{ltb-true, ltb-false, lt-ltb, le-ltb, eqb-true, eqb-fals
 use Rattle.spec.specs.Outcome.{Outcome, refused, ok, ◌>>=◌, ◌>>◌, refuse◌when◌}
 use Rattle.spec.specs.Lists.{all, any, ◌∈◌}
 use Rattle.spec.specs.Header.{known_version, new_image, writable}
-use Rattle.spec.specs.Entry.{Entry, NewEntry, headword_ok, new_body_ok, attribute, text, part_list}
+use Rattle.spec.specs.Entry.{Entry, headword_ok, text_ok, attribute_ok, attribute, text}
 use Rattle.spec.specs.Check.{Image, slice_ok, work_ok, image_from, image_in, entries_of}
 use Rattle.spec.specs.SortedList.{lookup, successor}
 use Rattle.spec.specs.Place.{Plan, plan_full}
-use Rattle.spec.specs.Calls.{create_bytes, create_result, create, figures, check, body_unfit, text_fitted, look_up_in, look_up_entry, look_up_result, look_up, entry_fitted, start_ok, walk_in, walk_entry, walk_result, walk, changeable, fitting, changed, plan_length, insert_plan, insert_result, insert, delete_plan, delete_result, delete, optimise_plan, optimise_result, optimise}
+use Rattle.spec.specs.Calls.{create_bytes, create_result, create, figures, check, text_fitted, look_up_in, look_up_entry, look_up_result, look_up, entry_fitted, start_ok, walk_in, walk_entry, walk_result, walk, changeable, fitting, changed, plan_length, insert_plan, insert_result, insert, delete_plan, delete_result, delete, optimise_plan, optimise_result, optimise}
 use Rattle.spec.specs.Rows.{No, slices, numbers, content_numbers, image_numbers, SliceRule, FirstRowBroken}
 use Rattle.spec.specs.Claim.{insert_placing, delete_placing, optimise_placing}
 use Rattle.spec.specs.CallRows.{ImageRows, CreateRows, CheckRows, LookUpRows, WalkRows, change_numbers, ChangeRows, MayChange, InsertRows, DeleteRows, OptimiseRows, FirstNumbers}
@@ -103,66 +103,55 @@ module _ (s : List ℕ) (L : ℕ) (bad : Bool) (found : Image → Option Entry) 
         go (by_argument i got b m) = in_back image_numbers (12 ∷ 14 ∷ []) n (rw m)
         go (by_output i e got b l t m) = in_back image_numbers (12 ∷ 14 ∷ []) n (rw m)
 
--- output slices are too short for a text or for a part list
-unfit_cases : (y z : List ℕ) (e : Entry) → body_unfit y z e ≡ true → (length y < length (text e)) ⊎ (length z < length (part_list e))
-unfolding body_unfit
-unfit_cases y z e t = or_cases (ltb (length y) (length (text e))) (ltb (length z) (length (part_list e))) (λ p. inl (ltb-true _ _ p)) (λ p. inr (ltb-true _ _ p)) t
-
--- and back
-cases_unfit : (y z : List ℕ) (e : Entry) → (length y < length (text e)) ⊎ (length z < length (part_list e)) → body_unfit y z e ≡ true
-unfolding body_unfit
-cases_unfit y z e (inl p) = rw (lt-ltb (length y) (length (text e)) p)
-cases_unfit y z e (inr p) = or_right (ltb (length y) (length (text e))) (ltb (length z) (length (part_list e))) (lt-ltb (length z) (length (part_list e)) p)
-
 -- a look up's answer is refused where the outcome is
-look_up_answered : (s : List ℕ) (L : ℕ) (h y z : List ℕ) (n : ℕ)
-    → ((look_up s L h y z).answer ≡ refused n) ↔ (reads s L (not (headword_ok h)) (λ i. lookup h (entries_of i)) (body_unfit y z) ≡ refused n)
+look_up_answered : (s : List ℕ) (L : ℕ) (h out : List ℕ) (n : ℕ) → ((look_up s L h out).answer ≡ refused n)
+    ↔ (reads s L (not (headword_ok h)) (λ i. lookup h (entries_of i)) (λ e. ltb (length out) (length (text e))) ≡ refused n)
 unfolding look_up look_up_entry look_up_in text_fitted look_up_result reads fitted
-look_up_answered s L h y z n = (go (look_up_entry s L h y z), λ e. rw e)
+look_up_answered s L h out n = (go (look_up_entry s L h out), λ e. rw e)
   where
-    go : (o : Outcome (Option Entry)) → (look_up_result y z o).answer ≡ refused n → o ≡ refused n
+    go : (o : Outcome (Option Entry)) → (look_up_result out o).answer ≡ refused n → o ≡ refused n
     go (refused k) p = let e : k ≡ n = cc in rw e
     go (ok none) p = absurd (ok_not_refused none n p)
-    go (ok (some e)) p = absurd (ok_not_refused _ n p)
+    go (ok (some e)) p = absurd (ok_not_refused (some (record { attribute = attribute e; text_length = length (text e) })) n p)
 
-look_up_rows : (s : List ℕ) (L : ℕ) (h y z : List ℕ) → T (are_bytes s) → LookUpRows s L h y z
+look_up_rows : (s : List ℕ) (L : ℕ) (h out : List ℕ) → T (are_bytes s) → LookUpRows s L h out
 unfolding ImageRows
-look_up_rows s L h y z small =
+look_up_rows s L h out small =
     let bad : Bool = not (headword_ok h) in
     let found : Image → Option Entry = λ i. lookup h (entries_of i) in
-    let short : Entry → Bool = body_unfit y z in
-    let a : (n : ℕ) → ((look_up s L h y z).answer ≡ refused n) ↔ (reads s L bad found short ≡ refused n) = look_up_answered s L h y z in
+    let short : Entry → Bool = λ e. ltb (length out) (length (text e)) in
+    let a : (n : ℕ) → ((look_up s L h out).answer ≡ refused n) ↔ (reads s L bad found short ≡ refused n) = look_up_answered s L h out in
     record {
       image_rows = λ n few. Iff.trans (a n) (reads_image s L bad found short small n few);
       row_12 = Iff.trans (a 12) (Iff.trans (reads_twelve s L bad found short small) (λ (i, got, b). (i, got, not-true (headword_ok h) b), λ (i, got, b). (i, got, ap not b)));
       row_14 =
           Iff.trans (a 14)
           (Iff.trans (reads_fourteen s L bad found short small) (
-            λ (i, e, got, b, l, t). (i, e, got, not-false (headword_ok h) b, l, unfit_cases y z e t),
-            λ (i, e, got, b, l, t). (i, e, got, ap not b, l, cases_unfit y z e t),
+            λ (i, e, got, b, l, t). (i, e, got, not-false (headword_ok h) b, l, ltb-true (length out) (length (text e)) t),
+            λ (i, e, got, b, l, t). (i, e, got, ap not b, l, lt-ltb (length out) (length (text e)) t),
           ));
       no_other = λ n p. reads_others s L bad found short small n ((a n).0 p);
     }
 
 -- a walk's
-walk_answered : (s : List ℕ) (L : ℕ) (above : Bool) (h x y z : List ℕ) (n : ℕ)
-    → ((walk s L above h x y z).answer ≡ refused n)
-    ↔ (reads s L (not (start_ok h)) (λ i. successor i.frame.format.below above h (entries_of i)) (λ e. ltb (length x) (length e.headword) || body_unfit y z e) ≡ refused n)
+walk_answered : (s : List ℕ) (L : ℕ) (above : Bool) (h x y : List ℕ) (n : ℕ)
+    → ((walk s L above h x y).answer ≡ refused n)
+    ↔ (reads s L (not (start_ok h)) (λ i. successor i.frame.format.below above h (entries_of i)) (λ e. ltb (length x) (length e.headword) || ltb (length y) (length (text e))) ≡ refused n)
 unfolding walk walk_entry walk_in entry_fitted walk_result reads fitted
-walk_answered s L above h x y z n = (go (walk_entry s L above h x y z), λ e. rw e)
+walk_answered s L above h x y n = (go (walk_entry s L above h x y), λ e. rw e)
   where
-    go : (o : Outcome (Option Entry)) → (walk_result x y z o).answer ≡ refused n → o ≡ refused n
+    go : (o : Outcome (Option Entry)) → (walk_result x y o).answer ≡ refused n → o ≡ refused n
     go (refused k) p = let e : k ≡ n = cc in rw e
     go (ok none) p = absurd (ok_not_refused none n p)
-    go (ok (some e)) p = absurd (ok_not_refused _ n p)
+    go (ok (some e)) p = absurd (ok_not_refused (some (record { attribute = attribute e; headword_length = length e.headword; text_length = length (text e) })) n p)
 
-walk_rows : (s : List ℕ) (L : ℕ) (above : Bool) (h x y z : List ℕ) → T (are_bytes s) → WalkRows s L above h x y z
+walk_rows : (s : List ℕ) (L : ℕ) (above : Bool) (h x y : List ℕ) → T (are_bytes s) → WalkRows s L above h x y
 unfolding ImageRows
-walk_rows s L above h x y z small =
+walk_rows s L above h x y small =
     let bad : Bool = not (start_ok h) in
     let found : Image → Option Entry = λ i. successor i.frame.format.below above h (entries_of i) in
-    let short : Entry → Bool = λ e. ltb (length x) (length e.headword) || body_unfit y z e in
-    let a : (n : ℕ) → ((walk s L above h x y z).answer ≡ refused n) ↔ (reads s L bad found short ≡ refused n) = walk_answered s L above h x y z in
+    let short : Entry → Bool = λ e. ltb (length x) (length e.headword) || ltb (length y) (length (text e)) in
+    let a : (n : ℕ) → ((walk s L above h x y).answer ≡ refused n) ↔ (reads s L bad found short ≡ refused n) = walk_answered s L above h x y in
     record {
       image_rows = λ n few. Iff.trans (a n) (reads_image s L bad found short small n few);
       row_12 = Iff.trans (a 12) (Iff.trans (reads_twelve s L bad found short small) (λ (i, got, b). (i, got, not-true (start_ok h) b), λ (i, got, b). (i, got, ap not b)));
@@ -173,14 +162,12 @@ walk_rows s L above h x y z small =
       no_other = λ n p. reads_others s L bad found short small n ((a n).0 p);
     }
   where
-    either_short : (e : Entry) → (ltb (length x) (length e.headword) || body_unfit y z e) ≡ true
-        → (length x < length e.headword) ⊎ (length y < length (text e)) ⊎ (length z < length (part_list e))
-    either_short e t = or_cases (ltb (length x) (length e.headword)) (body_unfit y z e) (λ p. inl (ltb-true _ _ p)) (λ p. inr (unfit_cases y z e p)) t
+    either_short : (e : Entry) → (ltb (length x) (length e.headword) || ltb (length y) (length (text e))) ≡ true → (length x < length e.headword) ⊎ (length y < length (text e))
+    either_short e t = or_cases (ltb (length x) (length e.headword)) (ltb (length y) (length (text e))) (λ p. inl (ltb-true _ _ p)) (λ p. inr (ltb-true _ _ p)) t
 
-    short_either : (e : Entry) → (length x < length e.headword) ⊎ (length y < length (text e)) ⊎ (length z < length (part_list e))
-        → (ltb (length x) (length e.headword) || body_unfit y z e) ≡ true
+    short_either : (e : Entry) → (length x < length e.headword) ⊎ (length y < length (text e)) → (ltb (length x) (length e.headword) || ltb (length y) (length (text e))) ≡ true
     short_either e (inl p) = rw (lt-ltb (length x) (length e.headword) p)
-    short_either e (inr p) = or_right (ltb (length x) (length e.headword)) (body_unfit y z e) (cases_unfit y z e p)
+    short_either e (inr p) = or_right (ltb (length x) (length e.headword)) (ltb (length y) (length (text e))) (lt-ltb (length y) (length (text e)) p)
 
 -- none of these numbers is one with which a changing call begins
 abbrev Later : List ℕ → Type 0
@@ -329,40 +316,40 @@ module _ (s : List ℕ) (L : ℕ) (work : List ℕ) where
         eleven (by_low_byte i l got w m) = (i, l, got, w)
 
 -- what follows row 11 of an insertion
-abbrev inserts : List ℕ → NewEntry → Image → Outcome Plan
-inserts s new i = do
-  refuse 12 when not (headword_ok new.headword)
-  refuse 13 when not (new_body_ok new)
-  fitting s (insert_placing i new)
+abbrev inserts : List ℕ → List ℕ → ℕ → List ℕ → Image → Outcome Plan
+inserts s h a t i = do
+  refuse 12 when not (headword_ok h)
+  refuse 13 when not (text_ok t && attribute_ok a)
+  fitting s (insert_placing i h a t)
 
 -- why that is refused
-data InsertCase (s : List ℕ) (new : NewEntry) (i : Image) (n : ℕ) : Type 0 where
-  by_headword : headword_ok new.headword ≡ false → n ≡ 12 → InsertCase s new i n
-  by_body : headword_ok new.headword ≡ true → new_body_ok new ≡ false → n ≡ 13 → InsertCase s new i n
-  by_placing : headword_ok new.headword ≡ true → new_body_ok new ≡ true → plan_full s (insert_placing i new) ≡ true → n ≡ 15 → InsertCase s new i n
+data InsertCase (s h : List ℕ) (a : ℕ) (t : List ℕ) (i : Image) (n : ℕ) : Type 0 where
+  by_headword : headword_ok h ≡ false → n ≡ 12 → InsertCase s h a t i n
+  by_text : headword_ok h ≡ true → text_ok t && attribute_ok a ≡ false → n ≡ 13 → InsertCase s h a t i n
+  by_placing : headword_ok h ≡ true → text_ok t && attribute_ok a ≡ true → plan_full s (insert_placing i h a t) ≡ true → n ≡ 15 → InsertCase s h a t i n
 
-module _ (s : List ℕ) (L : ℕ) (work : List ℕ) (new : NewEntry) where
-  inserts_told : (i : Image) (n : ℕ) → inserts s new i ≡ refused n → InsertCase s new i n
+module _ (s : List ℕ) (L : ℕ) (work h : List ℕ) (a : ℕ) (t : List ℕ) where
+  inserts_told : (i : Image) (n : ℕ) → inserts s h a t i ≡ refused n → InsertCase s h a t i n
   unfolding fitting
   inserts_told i n p =
-      ⊎_elim (λ (x, m). by_headword (not-true (headword_ok new.headword) x) m)
+      ⊎_elim (λ (x, m). by_headword (not-true (headword_ok h) x) m)
       (λ (x, q).
-      ⊎_elim (λ (y, m). by_body (not-false (headword_ok new.headword) x) (not-true (new_body_ok new) y) m)
+      ⊎_elim (λ (y, m). by_text (not-false (headword_ok h) x) (not-true (text_ok t && attribute_ok a) y) m)
       (λ (y, r).
-      ⊎_elim (λ (z, m). by_placing (not-false (headword_ok new.headword) x) (not-false (new_body_ok new) y) z m) (λ (z, u). absurd (ok_not_refused (insert_placing i new) n u))
-      (when_refused 15 (plan_full s (insert_placing i new)) (ok (insert_placing i new)) n r))
-      (when_refused 13 (not (new_body_ok new)) (fitting s (insert_placing i new)) n q))
-      (when_refused 12 (not (headword_ok new.headword)) _ n p)
+      ⊎_elim (λ (z, m). by_placing (not-false (headword_ok h) x) (not-false (text_ok t && attribute_ok a) y) z m) (λ (z, u). absurd (ok_not_refused (insert_placing i h a t) n u))
+      (when_refused 15 (plan_full s (insert_placing i h a t)) (ok (insert_placing i h a t)) n r))
+      (when_refused 13 (not (text_ok t && attribute_ok a)) (fitting s (insert_placing i h a t)) n q))
+      (when_refused 12 (not (headword_ok h)) _ n p)
 
-  inserts_back : (i : Image) (n : ℕ) → InsertCase s new i n → inserts s new i ≡ refused n
+  inserts_back : (i : Image) (n : ℕ) → InsertCase s h a t i n → inserts s h a t i ≡ refused n
   unfolding fitting
   inserts_back i n (by_headword x m) = rw (x, m)
-  inserts_back i n (by_body x y m) = rw (x, y, m)
+  inserts_back i n (by_text x y m) = rw (x, y, m)
   inserts_back i n (by_placing x y z m) = rw (x, y, z, m)
 
-  insert_answered : (n : ℕ) → ((insert s L work new).answer ≡ refused n) ↔ ((changeable s L work >>= inserts s new) ≡ refused n)
+  insert_answered : (n : ℕ) → ((insert s L work h a t).answer ≡ refused n) ↔ ((changeable s L work >>= inserts s h a t) ≡ refused n)
   unfolding insert insert_plan insert_result changed insert_placing
-  insert_answered n = (go (insert_plan s L work new), λ e. rw e)
+  insert_answered n = (go (insert_plan s L work h a t), λ e. rw e)
     where
       go : (o : Outcome Plan) → (insert_result s work o).answer ≡ refused n → o ≡ refused n
       go (refused k) p = let e : k ≡ n = cc in rw e
@@ -378,45 +365,45 @@ module _ (s : List ℕ) (L : ℕ) (work : List ℕ) (new : NewEntry) where
   insert_later = refl
 
   -- it gives no others behind row 11
-  insert_told : (i : Image) → Among insert_own (inserts s new i)
+  insert_told : (i : Image) → Among insert_own (inserts s h a t i)
   unfolding any
   insert_told i n p = go (inserts_told i n p)
     where
-      go : InsertCase s new i n → n ∈ insert_own
+      go : InsertCase s h a t i n → n ∈ insert_own
       go (by_headword x m) = rw m
-      go (by_body x y m) = rw m
+      go (by_text x y m) = rw m
       go (by_placing x y z m) = rw m
 
   -- the rows behind row 11
-  insert_behind : T (are_bytes s) → (n : ℕ) → n ∈ insert_own → ((insert s L work new).answer ≡ refused n) ↔ ((i : Image) × MayChange s L work i × InsertCase s new i n)
+  insert_behind : T (are_bytes s) → (n : ℕ) → n ∈ insert_own → ((insert s L work h a t).answer ≡ refused n) ↔ ((i : Image) × MayChange s L work i × InsertCase s h a t i n)
   insert_behind small n q =
-      Iff.trans (behind s L work small (insert s L work new).answer (inserts s new) insert_answered insert_own insert_later insert_told n q)
+      Iff.trans (behind s L work small (insert s L work h a t).answer (inserts s h a t) insert_answered insert_own insert_later insert_told n q)
       (λ (i, m, e). (i, m, inserts_told i n e), λ (i, m, c). (i, m, inserts_back i n c))
 
-  insert_rows : T (are_bytes s) → InsertRows s L work new
+  insert_rows : T (are_bytes s) → InsertRows s L work h a t
   unfolding any
   insert_rows small =
       record {
-        change_rows = change_rows s L work small (insert s L work new).answer (inserts s new) insert_answered insert_own insert_later insert_told;
+        change_rows = change_rows s L work small (insert s L work h a t).answer (inserts s h a t) insert_answered insert_own insert_later insert_told;
         row_12 = Iff.trans (insert_behind small 12 refl) (λ (i, m, c). (i, m, twelve c), λ (i, m, x). (i, m, by_headword x refl));
-        row_13 = Iff.trans (insert_behind small 13 refl) (λ (i, m, c). let (x, y) = thirteen c in (i, m, x, y), λ (i, m, x, y). (i, m, by_body x y refl));
+        row_13 = Iff.trans (insert_behind small 13 refl) (λ (i, m, c). let (x, y) = thirteen c in (i, m, x, y), λ (i, m, x, y). (i, m, by_text x y refl));
         row_15 = Iff.trans (insert_behind small 15 refl) (λ (i, m, c). let (x, y, z) = fifteen c in (i, m, x, y, z), λ (i, m, x, y, z). (i, m, by_placing x y z refl));
-        no_other = begins_or_own s L work small (insert s L work new).answer (inserts s new) insert_answered insert_own insert_later insert_told;
+        no_other = begins_or_own s L work small (insert s L work h a t).answer (inserts s h a t) insert_answered insert_own insert_later insert_told;
       }
     where
-      twelve : {i : Image} → InsertCase s new i 12 → headword_ok new.headword ≡ false
+      twelve : {i : Image} → InsertCase s h a t i 12 → headword_ok h ≡ false
       twelve (by_headword x m) = x
-      twelve (by_body x y m) = absurd (omega arith)
+      twelve (by_text x y m) = absurd (omega arith)
       twelve (by_placing x y z m) = absurd (omega arith)
 
-      thirteen : {i : Image} → InsertCase s new i 13 → (headword_ok new.headword ≡ true) × (new_body_ok new ≡ false)
+      thirteen : {i : Image} → InsertCase s h a t i 13 → (headword_ok h ≡ true) × (text_ok t && attribute_ok a ≡ false)
       thirteen (by_headword x m) = absurd (omega arith)
-      thirteen (by_body x y m) = (x, y)
+      thirteen (by_text x y m) = (x, y)
       thirteen (by_placing x y z m) = absurd (omega arith)
 
-      fifteen : {i : Image} → InsertCase s new i 15 → (headword_ok new.headword ≡ true) × (new_body_ok new ≡ true) × (plan_full s (insert_placing i new) ≡ true)
+      fifteen : {i : Image} → InsertCase s h a t i 15 → (headword_ok h ≡ true) × (text_ok t && attribute_ok a ≡ true) × (plan_full s (insert_placing i h a t) ≡ true)
       fifteen (by_headword x m) = absurd (omega arith)
-      fifteen (by_body x y m) = absurd (omega arith)
+      fifteen (by_text x y m) = absurd (omega arith)
       fifteen (by_placing x y z m) = (x, y, z)
 
 -- what follows row 12 of a deletion, by the entry looked up

@@ -14,9 +14,8 @@ use Rattle.spec.specs.Outcome.{Outcome, refused, ok}
 use Rattle.spec.specs.Lists.{all, count, All}
 use Rattle.spec.specs.Bytes.{from_little_endian, bytes_at, zeros}
 use Rattle.spec.specs.Header.{Format, Lawful, format_of, get, writable, tested_fields, written_fields, lies_in, header_bytes, block_position}
-use Rattle.spec.specs.Entry.{Entry, NewEntry, headword_ok, new_body_ok, entry_of}
+use Rattle.spec.specs.Entry.{Entry, headword_ok, text_ok, attribute_ok, body_ok, entry_of}
 use Rattle.spec.specs.Run.{Run}
-use Rattle.spec.proofs.BodyLaws.{given_body}
 use Rattle.spec.specs.Blocks.{covers, run_blocks, free_blocks, each_once}
 use Rattle.spec.specs.Check.{Frame, Image, image_in, image_by, image_from, slice_ok, kind_ok, options_ok, frame_length, entries_of, all_entries}
 use Rattle.spec.specs.SortedList.{lookup}
@@ -24,7 +23,7 @@ use Rattle.spec.specs.Place.{Plan, plan_change, plan_packed, plan_full, plan_wri
 use Rattle.spec.specs.Calls.{figures, check, plan_length, given_up_zeroed}
 use Rattle.spec.specs.ImageForm.{IsImage, Accepted}
 use Rattle.spec.specs.Rows.{SliceRule}
-use Rattle.spec.specs.Claim.{Call, look_up_call, walk_call, insert_call, delete_call, optimise_call, Observed, done, removed, absent, too_short, tell_removed, is_there, Row, ◌if◌, Performed, perform, is_refused, first_row, rows, expected, insert_placing, delete_placing, optimise_placing, slice_after, slice_kept, list_answer, list_after, list_step, is_change, next_count, Zeroed, Matches, AnswersAs, History, part_are_bytes, new_bytes, call_bytes, SortedListClaim, slice_after_all, IdentifierKept, good_change, InsertRefused, DeleteRefused, OptimiseDone}
+use Rattle.spec.specs.Claim.{Call, look_up_call, walk_call, insert_call, delete_call, optimise_call, Observed, done, removed, absent, too_short, tell_removed, is_there, Row, ◌if◌, Performed, perform, is_refused, first_row, rows, expected, insert_placing, delete_placing, optimise_placing, slice_after, slice_kept, list_answer, list_after, list_step, is_change, next_count, Zeroed, Matches, AnswersAs, History, call_bytes, SortedListClaim, slice_after_all, IdentifierKept, good_change, InsertRefused, DeleteRefused, OptimiseDone}
 use Rattle.spec.specs.PackedForm.{PackedNeedsNoMore, PackedNeverFull}
 use Rattle.spec.proofs.ListsLaws.{range_all, and_left, and_right, both_hold, hold_both, holds_true}
 use Rattle.spec.proofs.PartLaws.{bytes_same}
@@ -39,7 +38,7 @@ use Rattle.spec.proofs.AcceptedLaws.{accepted}
 use Rattle.spec.proofs.ChangeLaws.{Sound, image_sound, image_ascends, insert_entries, insert_sound, delete_entries, delete_sound, optimise_entries, optimise_sound}
 use Rattle.spec.proofs.PlanLaws.{written_inside, plan_back, written_length, written_past, written_header, written_count}
 use Rattle.spec.proofs.WrittenLaws.{zeroed_length, zeroed_image, zeroed_past, zeroed_given_up, zeroed_front}
-use Rattle.spec.proofs.StillBytesLaws.{given_bytes, EntryBytes, written_bytes, zeroed_bytes}
+use Rattle.spec.proofs.StillBytesLaws.{EntryBytes, written_bytes, zeroed_bytes}
 use Rattle.spec.proofs.ChangeBytesLaws.{insert_bytes, delete_bytes, optimise_bytes}
 use Rattle.spec.proofs.PackedLaws.{packed_needs_no_more, packed_never_full}
 use Rattle.spec.proofs.AnswerLaws.{in_told, look_up_observed, walk_observed, left, insert_performed, delete_performed, optimise_performed, slice_without, length_without}
@@ -132,9 +131,9 @@ module _ (s : List ℕ) (L : ℕ) (i : Image) (got : image_in s L ≡ ok i) (sma
   -- nothing is given up where L stands
   none_given_up : (c : Call) → Zeroed c s L L
   unfolding Zeroed bytes_at zeros
-  none_given_up (look_up_call h y z) = tt
-  none_given_up (walk_call above h x y z) = tt
-  none_given_up (insert_call work new) = tt
+  none_given_up (look_up_call h out) = tt
+  none_given_up (walk_call above h out-headword out-text) = tt
+  none_given_up (insert_call work h a t) = tt
   none_given_up (delete_call work h) = tt
   none_given_up (optimise_call work) = let z : L - L ≡ 0 = omega arith in (omega arith, rw z)
 
@@ -165,24 +164,24 @@ module _ (s : List ℕ) (L : ℕ) (i : Image) (got : image_in s L ≡ ok i) (sma
   refusal c n e = idle c (refused n) (rw e) refl refl refl
 
   -- a look up
-  look_up_next : (h y z : List ℕ) → Next (look_up_call h y z) (perform s L (look_up_call h y z))
+  look_up_next : (h out : List ℕ) → Next (look_up_call h out) (perform s L (look_up_call h out))
   unfolding perform list_answer slice_after list_step list_after is_change
-  look_up_next h y z =
-      idle (look_up_call h y z) _ (look_up_observed s L i got h y z) (slice_same (is_refused (perform s L (look_up_call h y z)).observed))
-      (go (is_refused (perform s L (look_up_call h y z)).observed)) (never (is_refused (perform s L (look_up_call h y z)).observed))
+  look_up_next h out =
+      idle (look_up_call h out) _ (look_up_observed s L i got h out) (slice_same (is_refused (perform s L (look_up_call h out)).observed))
+      (go (is_refused (perform s L (look_up_call h out)).observed)) (never (is_refused (perform s L (look_up_call h out)).observed))
     where
-      go : (t : Bool) → entries_of i ≡ list_step i.frame.format.below t (look_up_call h y z) (entries_of i)
+      go : (t : Bool) → entries_of i ≡ list_step i.frame.format.below t (look_up_call h out) (entries_of i)
       go true = refl
       go false = refl
 
   -- a walk
-  walk_next : (above : Bool) (h x y z : List ℕ) → Next (walk_call above h x y z) (perform s L (walk_call above h x y z))
+  walk_next : (above : Bool) (h out-headword out-text : List ℕ) → Next (walk_call above h out-headword out-text) (perform s L (walk_call above h out-headword out-text))
   unfolding perform list_answer slice_after list_step list_after is_change
-  walk_next above h x y z =
-      idle (walk_call above h x y z) _ (walk_observed s L i got above h x y z) (slice_same (is_refused (perform s L (walk_call above h x y z)).observed))
-      (go (is_refused (perform s L (walk_call above h x y z)).observed)) (never (is_refused (perform s L (walk_call above h x y z)).observed))
+  walk_next above h x y =
+      idle (walk_call above h x y) _ (walk_observed s L i got above h x y) (slice_same (is_refused (perform s L (walk_call above h x y)).observed))
+      (go (is_refused (perform s L (walk_call above h x y)).observed)) (never (is_refused (perform s L (walk_call above h x y)).observed))
     where
-      go : (t : Bool) → entries_of i ≡ list_step i.frame.format.below t (walk_call above h x y z) (entries_of i)
+      go : (t : Bool) → entries_of i ≡ list_step i.frame.format.below t (walk_call above h x y) (entries_of i)
       go true = refl
       go false = refl
 
@@ -193,25 +192,25 @@ module _ (s : List ℕ) (L : ℕ) (i : Image) (got : image_in s L ≡ ok i) (sma
     plan = plan_of i.frame.format n D rs
 
     -- and its L
-    abbrev new_L : ℕ
-    new_L = block_position i.frame.format.extended n D
+    abbrev new : ℕ
+    new = block_position i.frame.format.extended n D
 
-    new_inside : new_L ≤ length s
+    new_inside : new ≤ length s
     new_inside = written_inside i.frame.format law n D rs s plan-sound kind options room
 
     -- it is an accepted image of the slice
-    module _ (t : List ℕ) (size : length t ≡ length s) (front : take new_L t ≡ take new_L (plan_written plan s)) where
-      new_slice : slice_ok t new_L ≡ ok tt
-      new_slice = (slice_stored t new_L).1 (record { long_enough = omega arith; whole_blocks = omega (arith, law.extended_in_blocks); in_slice = omega (arith, new_inside) })
+    module _ (t : List ℕ) (size : length t ≡ length s) (front : take new t ≡ take new (plan_written plan s)) where
+      new_slice : slice_ok t new ≡ ok tt
+      new_slice = (slice_stored t new).1 (record { long_enough = omega arith; whole_blocks = omega (arith, law.extended_in_blocks); in_slice = omega (arith, new_inside) })
 
       abbrev new_image : Image
       new_image = record { frame = frame_of i.frame.format n D; runs = rs; free_list = free_blocks rs D }
 
-      new_read : image_in t new_L ≡ ok new_image
+      new_read : image_in t new ≡ ok new_image
       unfolding image_in image_from
       new_read =
           let F : Format = i.frame.format in
-          let u : List ℕ = take new_L (plan_written plan s) in
+          let u : List ℕ = take new (plan_written plan s) in
           let back : image_by F u ≡ ok new_image = plan_back F law n D rs s plan-sound kind options room in
           let kept : kind_ok F.layout u ≡ true = (frame_fits F u new_image.frame (image_told F u new_image back).frame).kind in
           let same : format_of u ≡ F = format_stays (take L s) u (subst (λ (G : Format). kind_ok G.layout u ≡ true) format_is kept) ∙ sym format_is in
@@ -219,10 +218,10 @@ module _ (s : List ℕ) (L : ℕ) (i : Image) (got : image_in s L ≡ ok i) (sma
 
       -- a change that is done
       placed : (c : Call) (x : Observed) → first_row (rows s i (entries_of i) c) ≡ none → list_answer i.frame.format.below c (entries_of i) ≡ x → slice_after s L i c ≡ t
-          → all_entries rs ≡ list_after i.frame.format.below c (entries_of i) → drop (max L new_L) t ≡ drop (max L new_L) s
+          → all_entries rs ≡ list_after i.frame.format.below c (entries_of i) → drop (max L new) t ≡ drop (max L new) s
           → ((j : ℕ) → j < header_bytes i.frame.format → all (λ f. not (lies_in j f)) (written_fields i.frame.format.layout) ≡ true → bytes_at j 1 t ≡ bytes_at j 1 s)
-          → Zeroed c t new_L L → get i.frame.format.layout.update_count t ≡ (get i.frame.format.layout.update_count s + 1) % 4_294_967_296
-          → is_change c (entries_of i) ≡ true → (T (call_bytes c) → T (are_bytes t)) → Next c (record { observed = ok x; image = t; length_after = new_L })
+          → Zeroed c t new L → get i.frame.format.layout.update_count t ≡ (get i.frame.format.layout.update_count s + 1) % 4_294_967_296
+          → is_change c (entries_of i) ≡ true → (T (call_bytes c) → T (are_bytes t)) → Next c (record { observed = ok x; image = t; length_after = new })
       unfolding expected is_refused slice_kept list_step entries_of next_count
       placed c x e a b l past header zeroed up ch still =
           record {
@@ -244,15 +243,14 @@ module _ (s : List ℕ) (L : ℕ) (i : Image) (got : image_in s L ≡ ok i) (sma
       go false e = (e, rw (e, first_row) at h)
 
   -- arguments by their rules make an entry that may stand alone
-  entry_good : (new : NewEntry) → headword_ok new.headword ≡ true → new_body_ok new ≡ true → EntriesOk i.frame.format.below [] (entry_of new ∷ [])
-  unfolding new_body_ok entry_of
-  entry_good new p q =
-      (p, given_body new.attribute new.text new.example new.pronunciation q, empty_below i.frame.format.below law.ordered new.headword p, tt)
+  entry_good : (h : List ℕ) (a : ℕ) (t : List ℕ) → headword_ok h ≡ true → text_ok t && attribute_ok a ≡ true → EntriesOk i.frame.format.below [] (entry_of h a t ∷ [])
+  unfolding entry_of body_ok
+  entry_good h a t p q = (p, rw (and_right (text_ok t) (attribute_ok a) q, and_left (text_ok t) (attribute_ok a) q), empty_below i.frame.format.below law.ordered h p, tt)
 
   -- an insertion
-  module _ (work : List ℕ) (new : NewEntry) where
-    insert_rows_none : first_row (rows s i (entries_of i) (insert_call work new)) ≡ none
-        → (headword_ok new.headword ≡ true) × (new_body_ok new ≡ true) × (plan_full s (insert_placing i new) ≡ false)
+  module _ (work h : List ℕ) (a : ℕ) (t : List ℕ) where
+    insert_rows_none : first_row (rows s i (entries_of i) (insert_call work h a t)) ≡ none
+        → (headword_ok h ≡ true) × (text_ok t && attribute_ok a ≡ true) × (plan_full s (insert_placing i h a t) ≡ false)
     unfolding rows ◌if◌
     insert_rows_none e =
         let (x₁, e₁) = first_none _ _ e in
@@ -260,47 +258,41 @@ module _ (s : List ℕ) (L : ℕ) (i : Image) (got : image_in s L ≡ ok i) (sma
         let (x₃, e₃) = first_none _ _ e₂ in
         let (x₄, e₄) = first_none _ _ e₃ in
         let (x₅, e₅) = first_none _ _ e₄ in
-        (not-false (headword_ok new.headword) x₃, not-false (new_body_ok new) x₄, x₅)
+        (not-false (headword_ok h) x₃, not-false (text_ok t && attribute_ok a) x₄, x₅)
 
-    insert_argument : T (call_bytes (insert_call work new)) → EntryBytes (entry_of new)
-    unfolding call_bytes new_bytes entry_of
+    insert_argument : T (call_bytes (insert_call work h a t)) → EntryBytes (entry_of h a t)
+    unfolding call_bytes entry_of
     insert_argument k =
-        let h : Bool = are_bytes new.headword in
-        let a : Bool = ltb new.attribute 256 in
-        let t : Bool = are_bytes new.text in
-        let x : Bool = part_are_bytes new.example in
-        let (w, k₁) = both_hold (are_bytes work) (new_bytes new) k in
-        let (k₂, m) = both_hold (h && a && t && x) (part_are_bytes new.pronunciation) k₁ in
-        let (k₃, l) = both_hold (h && a && t) x k₂ in
-        let (k₄, u) = both_hold (h && a) t k₃ in
-        let (v, y) = both_hold h a k₄ in
-        (v, given_bytes new.attribute new.text new.example new.pronunciation y u l m)
+        let (k₁, x) = both_hold (are_bytes work && are_bytes h && ltb a 256) (are_bytes t) k in
+        let (k₂, y) = both_hold (are_bytes work && are_bytes h) (ltb a 256) k₁ in
+        let (k₃, z) = both_hold (are_bytes work) (are_bytes h) k₂ in
+        (z, hold_both (ltb a 256) (are_bytes t) y x)
 
-    insert_placed : first_row (rows s i (entries_of i) (insert_call work new)) ≡ none
-        → Next (insert_call work new) (record { observed = ok done; image = plan_written (insert_placing i new) s; length_after = plan_length (insert_placing i new) })
+    insert_placed : first_row (rows s i (entries_of i) (insert_call work h a t)) ≡ none
+        → Next (insert_call work h a t) (record { observed = ok done; image = plan_written (insert_placing i h a t) s; length_after = plan_length (insert_placing i h a t) })
     unfolding insert_placing entry_of plan_change plan_length frame_length list_answer slice_after list_after Zeroed is_change
     insert_placed e =
         let (p, q, room) = insert_rows_none e in
         let F : Format = i.frame.format in
-        let good : EntriesOk F.below [] (entry_of new ∷ []) = entry_good new p q in
-        let plan : Plan = insert_placing i new in
-        let k = insert_sound F law (take L s) i sound (entry_of new) good in
+        let good : EntriesOk F.below [] (entry_of h a t ∷ []) = entry_good h a t p q in
+        let plan : Plan = insert_placing i h a t in
+        let k = insert_sound F law (take L s) i sound (entry_of h a t) good in
         placed plan.frame.index_blocks plan.frame.data_blocks plan.runs k room (plan_written plan s)
-        (written_length F law _ _ _ s k kind options room) refl (insert_call work new) done e refl refl
-        (insert_entries F law (take L s) i sound (entry_of new) good)
+        (written_length F law _ _ _ s k kind options room) refl (insert_call work h a t) done e refl refl
+        (insert_entries F law (take L s) i sound (entry_of h a t) good)
         (written_past F law _ _ _ s k kind options room (max L (plan_length plan)) (omega arith))
         (written_header F law _ _ _ s k kind options room)
         tt
         (written_count F law _ _ _ s k kind options room)
         refl
-        (λ c. written_bytes plan s small (insert_bytes F law L s i read sound small (entry_of new) good (insert_argument c)))
+        (λ c. written_bytes plan s small (insert_bytes F law L s i read sound small (entry_of h a t) good (insert_argument c)))
 
-    insert_next : Next (insert_call work new) (perform s L (insert_call work new))
-    insert_next = rw (insert_performed s L i got work new) (go (first_row (rows s i (entries_of i) (insert_call work new))) refl)
+    insert_next : Next (insert_call work h a t) (perform s L (insert_call work h a t))
+    insert_next = rw (insert_performed s L i got work h a t) (go (first_row (rows s i (entries_of i) (insert_call work h a t))) refl)
       where
-        go : (o : Option ℕ) → first_row (rows s i (entries_of i) (insert_call work new)) ≡ o
-            → Next (insert_call work new) (left s L i got done o (plan_written (insert_placing i new) s) (plan_length (insert_placing i new)))
-        go (some n) e = refusal (insert_call work new) n e
+        go : (o : Option ℕ) → first_row (rows s i (entries_of i) (insert_call work h a t)) ≡ o
+            → Next (insert_call work h a t) (left s L i got done o (plan_written (insert_placing i h a t) s) (plan_length (insert_placing i h a t)))
+        go (some n) e = refusal (insert_call work h a t) n e
         go none e = insert_placed e
 
   -- a deletion
@@ -402,9 +394,9 @@ module _ (s : List ℕ) (L : ℕ) (i : Image) (got : image_in s L ≡ ok i) (sma
 
   -- any call
   next : (c : Call) → Next c (perform s L c)
-  next (look_up_call h y z) = look_up_next h y z
-  next (walk_call above h x y z) = walk_next above h x y z
-  next (insert_call work new) = insert_next work new
+  next (look_up_call h out) = look_up_next h out
+  next (walk_call above h out-headword out-text) = walk_next above h out-headword out-text
+  next (insert_call work h a t) = insert_next work h a t
   next (delete_call work h) = delete_next work h
   next (optimise_call work) = optimise_next work
 
@@ -484,10 +476,10 @@ good_rows s i work h k =
 -- with good arguments an insertion is refused exactly when its placing passes the slice or a limit
 pub insert_refused : InsertRefused
 unfolding InsertRefused rows
-insert_refused s L i small got work new good arguments =
-    let (x, y, z) = good_rows s i work new.headword good in
-    refused_by s L i got small (insert_call work new) ∙ row_passed 2 _ _ x ∙ row_passed 11 _ _ y ∙ row_passed 12 _ _ z
-    ∙ row_passed 13 _ _ (ap not (holds_true (new_body_ok new) arguments)) ∙ row_last 15 _
+insert_refused s L i small got work h a t good arguments =
+    let (x, y, z) = good_rows s i work h good in
+    refused_by s L i got small (insert_call work h a t) ∙ row_passed 2 _ _ x ∙ row_passed 11 _ _ y ∙ row_passed 12 _ _ z
+    ∙ row_passed 13 _ _ (ap not (holds_true (text_ok t && attribute_ok a) arguments)) ∙ row_last 15 _
 
 -- the same of a deletion of a stored headword
 pub delete_refused : DeleteRefused

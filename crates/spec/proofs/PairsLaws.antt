@@ -112,6 +112,7 @@ inside_pair b c h n p f = record {
 found : (h : List ℕ) (n : ℕ) → n < length h → second_behind false (take n h) ≡ true → EndsInside h n
 unfolding second_behind second_next Characters
 found h zero l e = absurd (false≢true e)
+found [] (suc n) l e = absurd (omega arith)
 found (b ∷ []) (suc n) l e = absurd (omega arith)
 found (b ∷ c ∷ h) (suc zero) l e = record { before = []; lead = b; second = c; rest = h; made_up = refl; characters = tt; begins = lead_begins b e; cut = refl }
 found (b ∷ c ∷ h) (suc (suc n)) l e = go (found h n (omega arith)) (found (c ∷ h) (suc n) (omega arith)) (is_lead b) refl

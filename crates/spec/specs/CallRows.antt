@@ -1,12 +1,12 @@
 -- When each call gives each number, for all inputs, whether the image is accepted or not. Document 01, "Where each refusal is given", rows 1 to 15.
 -- Of the image's rows the first that is broken gives the number of `image_in` (`Rows`); here is what each call makes of it, and the rows behind.
-use Rattle.std.specs.Prelude.{ℕ, ◌<◌, ◌≤◌, ◌≡◌, ◌⊎◌, ◌↔◌, Bool, true, false, List, [], ◌∷◌, ◌++◌, length, T}
+use Rattle.std.specs.Prelude.{ℕ, ◌<◌, ◌≤◌, ◌≡◌, ◌⊎◌, ◌↔◌, Bool, true, false, ◌&&◌, List, [], ◌∷◌, ◌++◌, length, T}
 use Rattle.std.proofs.Math.Option.{some}
 use Rattle.std.proofs.Math.Pow.{are_bytes}
 use Rattle.spec.specs.Outcome.{Outcome, refused, ok}
 use Rattle.spec.specs.Lists.{◌∈◌}
 use Rattle.spec.specs.Header.{writable}
-use Rattle.spec.specs.Entry.{Entry, NewEntry, headword_ok, new_body_ok, text, part_list}
+use Rattle.spec.specs.Entry.{Entry, headword_ok, text_ok, attribute_ok, text}
 use Rattle.spec.specs.Check.{Image, image_in, entries_of}
 use Rattle.spec.specs.SortedList.{lookup, successor}
 use Rattle.spec.specs.Place.{plan_full}
@@ -30,22 +30,21 @@ unfoldable pub CheckRows : List ℕ → ℕ → Type 0
 CheckRows s L = (n : ℕ) → (check s L ≡ refused n) ↔ (image_in s L ≡ refused n)
 
 -- look up
-pub record LookUpRows (s : List ℕ) (L : ℕ) (h out-text out-parts : List ℕ) : Type 0 where
-  pub image_rows : ImageRows s L (look_up s L h out-text out-parts).answer
-  pub row_12 : ((look_up s L h out-text out-parts).answer ≡ refused 12) ↔ ((i : Image) × (image_in s L ≡ ok i) × (headword_ok h ≡ false))
-  pub row_14 : ((look_up s L h out-text out-parts).answer ≡ refused 14)
-      ↔ ((i : Image) × (e : Entry) × (image_in s L ≡ ok i) × (headword_ok h ≡ true) × (lookup h (entries_of i) ≡ some e)
-      × ((length out-text < length (text e)) ⊎ (length out-parts < length (part_list e))))
-  pub no_other : (n : ℕ) → (look_up s L h out-text out-parts).answer ≡ refused n → n ∈ image_numbers ++ 12 ∷ 14 ∷ []
+pub record LookUpRows (s : List ℕ) (L : ℕ) (h out : List ℕ) : Type 0 where
+  pub image_rows : ImageRows s L (look_up s L h out).answer
+  pub row_12 : ((look_up s L h out).answer ≡ refused 12) ↔ ((i : Image) × (image_in s L ≡ ok i) × (headword_ok h ≡ false))
+  pub row_14 : ((look_up s L h out).answer ≡ refused 14)
+      ↔ ((i : Image) × (e : Entry) × (image_in s L ≡ ok i) × (headword_ok h ≡ true) × (lookup h (entries_of i) ≡ some e) × (length out < length (text e)))
+  pub no_other : (n : ℕ) → (look_up s L h out).answer ≡ refused n → n ∈ image_numbers ++ 12 ∷ 14 ∷ []
 
 -- walk
-pub record WalkRows (s : List ℕ) (L : ℕ) (above : Bool) (h out-headword out-text out-parts : List ℕ) : Type 0 where
-  pub image_rows : ImageRows s L (walk s L above h out-headword out-text out-parts).answer
-  pub row_12 : ((walk s L above h out-headword out-text out-parts).answer ≡ refused 12) ↔ ((i : Image) × (image_in s L ≡ ok i) × (start_ok h ≡ false))
-  pub row_14 : ((walk s L above h out-headword out-text out-parts).answer ≡ refused 14)
+pub record WalkRows (s : List ℕ) (L : ℕ) (above : Bool) (h out-headword out-text : List ℕ) : Type 0 where
+  pub image_rows : ImageRows s L (walk s L above h out-headword out-text).answer
+  pub row_12 : ((walk s L above h out-headword out-text).answer ≡ refused 12) ↔ ((i : Image) × (image_in s L ≡ ok i) × (start_ok h ≡ false))
+  pub row_14 : ((walk s L above h out-headword out-text).answer ≡ refused 14)
       ↔ ((i : Image) × (e : Entry) × (image_in s L ≡ ok i) × (start_ok h ≡ true) × (successor i.frame.format.below above h (entries_of i) ≡ some e)
-      × ((length out-headword < length e.headword) ⊎ (length out-text < length (text e)) ⊎ (length out-parts < length (part_list e))))
-  pub no_other : (n : ℕ) → (walk s L above h out-headword out-text out-parts).answer ≡ refused n → n ∈ image_numbers ++ 12 ∷ 14 ∷ []
+      × ((length out-headword < length e.headword) ⊎ (length out-text < length (text e))))
+  pub no_other : (n : ℕ) → (walk s L above h out-headword out-text).answer ≡ refused n → n ∈ image_numbers ++ 12 ∷ 14 ∷ []
 
 -- the numbers with which a changing call begins: row 2 comes behind row 1, row 11 behind what the image holds
 unfoldable pub change_numbers : List ℕ
@@ -65,13 +64,13 @@ pub record MayChange (s : List ℕ) (L : ℕ) (work : List ℕ) (i : Image) : Ty
   pub version : writable i.frame.format.layout s ≡ true
 
 -- insert
-pub record InsertRows (s : List ℕ) (L : ℕ) (work : List ℕ) (new : NewEntry) : Type 0 where
-  pub change_rows : ChangeRows s L work (insert s L work new).answer
-  pub row_12 : ((insert s L work new).answer ≡ refused 12) ↔ ((i : Image) × MayChange s L work i × (headword_ok new.headword ≡ false))
-  pub row_13 : ((insert s L work new).answer ≡ refused 13) ↔ ((i : Image) × MayChange s L work i × (headword_ok new.headword ≡ true) × (new_body_ok new ≡ false))
-  pub row_15 : ((insert s L work new).answer ≡ refused 15)
-      ↔ ((i : Image) × MayChange s L work i × (headword_ok new.headword ≡ true) × (new_body_ok new ≡ true) × (plan_full s (insert_placing i new) ≡ true))
-  pub no_other : (n : ℕ) → (insert s L work new).answer ≡ refused n → n ∈ change_numbers ++ 12 ∷ 13 ∷ 15 ∷ []
+pub record InsertRows (s : List ℕ) (L : ℕ) (work h : List ℕ) (a : ℕ) (t : List ℕ) : Type 0 where
+  pub change_rows : ChangeRows s L work (insert s L work h a t).answer
+  pub row_12 : ((insert s L work h a t).answer ≡ refused 12) ↔ ((i : Image) × MayChange s L work i × (headword_ok h ≡ false))
+  pub row_13 : ((insert s L work h a t).answer ≡ refused 13) ↔ ((i : Image) × MayChange s L work i × (headword_ok h ≡ true) × (text_ok t && attribute_ok a ≡ false))
+  pub row_15 : ((insert s L work h a t).answer ≡ refused 15)
+      ↔ ((i : Image) × MayChange s L work i × (headword_ok h ≡ true) × (text_ok t && attribute_ok a ≡ true) × (plan_full s (insert_placing i h a t) ≡ true))
+  pub no_other : (n : ℕ) → (insert s L work h a t).answer ≡ refused n → n ∈ change_numbers ++ 12 ∷ 13 ∷ 15 ∷ []
 
 -- delete: "an absent deletion places nothing"
 pub record DeleteRows (s : List ℕ) (L : ℕ) (work h : List ℕ) : Type 0 where
@@ -91,9 +90,9 @@ pub record OptimiseRows (s : List ℕ) (L : ℕ) (work : List ℕ) : Type 0 wher
 pub record FirstNumbers : Type 0 where
   pub create_rows : (s : List ℕ) (k : NewFile) → CreateRows s k
   pub check_rows : (s : List ℕ) (L : ℕ) → CheckRows s L
-  pub look_up_rows : (s : List ℕ) (L : ℕ) (h out-text out-parts : List ℕ) → T (are_bytes s) → LookUpRows s L h out-text out-parts
-  pub walk_rows : (s : List ℕ) (L : ℕ) (above : Bool) (h out-headword out-text out-parts : List ℕ) → T (are_bytes s) → WalkRows s L above h out-headword out-text out-parts
-  pub insert_rows : (s : List ℕ) (L : ℕ) (work : List ℕ) (new : NewEntry) → T (are_bytes s) → InsertRows s L work new
+  pub look_up_rows : (s : List ℕ) (L : ℕ) (h out : List ℕ) → T (are_bytes s) → LookUpRows s L h out
+  pub walk_rows : (s : List ℕ) (L : ℕ) (above : Bool) (h out-headword out-text : List ℕ) → T (are_bytes s) → WalkRows s L above h out-headword out-text
+  pub insert_rows : (s : List ℕ) (L : ℕ) (work h : List ℕ) (a : ℕ) (t : List ℕ) → T (are_bytes s) → InsertRows s L work h a t
   pub delete_rows : (s : List ℕ) (L : ℕ) (work h : List ℕ) → T (are_bytes s) → DeleteRows s L work h
   pub optimise_rows : (s : List ℕ) (L : ℕ) (work : List ℕ) → T (are_bytes s) → OptimiseRows s L work
 

@@ -9,7 +9,7 @@ use Rattle.spec.specs.Ascii.{ascii}
 use Rattle.spec.specs.Lists.{all}
 use Rattle.spec.specs.Bytes.{bytes_at, bytes_equal, zeros}
 use Rattle.spec.specs.Header.{new_image, format_of, header_bytes, block_position}
-use Rattle.spec.specs.Entry.{Entry, shared_front}
+use Rattle.spec.specs.Entry.{Entry, entry_of, shared_front}
 use Rattle.spec.specs.Run.{Run, entries_bytes, encoded_size}
 use Rattle.spec.specs.Check.{image_in}
 use Rattle.spec.specs.Place.{Grown, cut, grown}
@@ -18,7 +18,7 @@ use Rattle.spec.specs.Answers.{length_answer, check_answer, look_up_answer, walk
 use Rattle.spec.specs.Listing.{listing, column}
 use Rattle.spec.specs.CallRows.{change_numbers}
 use Rattle.spec.specs.declared.NewFile.{NewFile}
-use Rattle.spec.specs.Play.{t, entry, refusal, lent, Step, ins, ins_as, del, opt, store, State, play, step, step_with, file4, file5, empty, told_length, told_removed, told_figures, told_text, told_entry, index_blocks_of, runs_at, free_at}
+use Rattle.spec.specs.Play.{t, refusal, lent, Step, ins, ins_as, del, opt, store, State, play, step, step_with, file4, file5, empty, told_length, told_removed, told_figures, told_text, told_entry, index_blocks_of, runs_at, free_at}
 
 -- What is seen of a slice with an image in it. An answer is told as numbers: a refusal as `refusal` writes it, nothing for absent.
 pub data Probe : Type 0 where
@@ -28,10 +28,10 @@ pub data Probe : Type 0 where
   with_length : ℕ → Probe → Probe
   -- check with this L: headwords, index blocks, data blocks, free blocks
   checks : ℕ → List ℕ → Probe
-  -- headword, output slices for text and part list; attribute and both lengths, and the output slices then
-  looks_up_into : List ℕ → List ℕ → List ℕ → List ℕ → List ℕ → List ℕ → Probe
-  -- above, headword, output slices for headword, text and part list; attribute and the three lengths, and the output slices then
-  walks_into : Bool → List ℕ → List ℕ → List ℕ → List ℕ → List ℕ → List ℕ → List ℕ → List ℕ → Probe
+  -- headword and output slice; attribute and text length, and the output slice then
+  looks_up : List ℕ → List ℕ → List ℕ → List ℕ → Probe
+  -- above, headword and output slices; attribute and both lengths, and the output slices then
+  walks : Bool → List ℕ → List ℕ → List ℕ → List ℕ → List ℕ → List ℕ → Probe
   -- with this working slice a step answers so, leaves the image slice as it was, and the working slice so
   keeps : List ℕ → Step → List ℕ → List ℕ → Probe
   -- with this working slice a step answers so, and leaves the working slice so
@@ -43,25 +43,17 @@ pub data Probe : Type 0 where
   -- the program prints these bytes
   prints : List ℕ → Probe
 
--- a look up with no room for parts
-unfoldable pub looks_up : List ℕ → List ℕ → List ℕ → List ℕ → Probe
-looks_up h out told out' = looks_up_into h out [] told out' []
-
--- a walk with no room for parts
-unfoldable pub walks : Bool → List ℕ → List ℕ → List ℕ → List ℕ → List ℕ → List ℕ → Probe
-walks above h out-h out-t told out-h' out-t' = walks_into above h out-h out-t [] told out-h' out-t' []
-
 -- whether a slice with an image is seen so
 unfoldable pub probe_holds : State → Probe → Bool
 probe_holds q (stepped c p) = probe_holds (step q c) p
 probe_holds q (with_length n p) = probe_holds (record { slice = q.slice; L = n; told = q.told; work = q.work }) p
 probe_holds q (checks L told) = bytes_equal (told_figures (check q.slice L)) told
-probe_holds q (looks_up_into h out-t out-p told out-t' out-p') =
-    let r = look_up q.slice q.L h out-t out-p in
-    bytes_equal (told_text r.answer) told && bytes_equal r.text out-t' && bytes_equal r.parts out-p'
-probe_holds q (walks_into above h out-h out-t out-p told out-h' out-t' out-p') =
-    let r = walk q.slice q.L above h out-h out-t out-p in
-    bytes_equal (told_entry r.answer) told && bytes_equal r.headword out-h' && bytes_equal r.text out-t' && bytes_equal r.parts out-p'
+probe_holds q (looks_up h out told out') =
+    let r = look_up q.slice q.L h out in
+    bytes_equal (told_text r.answer) told && bytes_equal r.text out'
+probe_holds q (walks above h out-h out-t told out-h' out-t') =
+    let r = walk q.slice q.L above h out-h out-t in
+    bytes_equal (told_entry r.answer) told && bytes_equal r.headword out-h' && bytes_equal r.text out-t'
 probe_holds q (keeps work c told work') =
     let r = step_with work q c in
     bytes_equal r.told told && bytes_equal r.slice q.slice && eqb r.L q.L && bytes_equal r.work work'
@@ -292,8 +284,8 @@ long_text_probes =
 -- look up on P3's image: found, absent, 12, 14
 unfoldable pub look_up_probes : List Probe
 look_up_probes =
-    looks_up (ascii "ABC") (lent 5) (128 ∷ 3 ∷ 0 ∷ []) (ascii "one" ++ lent 2)
-    ∷ looks_up (ascii "ABDEF") (lent 3) (0xE5 ∷ 3 ∷ 0 ∷ []) (ascii "two")
+    looks_up (ascii "ABC") (lent 5) (128 ∷ 3 ∷ []) (ascii "one" ++ lent 2)
+    ∷ looks_up (ascii "ABDEF") (lent 3) (0xE5 ∷ 3 ∷ []) (ascii "two")
     ∷ looks_up (ascii "ABD") (lent 3) [] (lent 3)
     ∷ looks_up (ascii "ABDEFG") [] [] []
     ∷ looks_up (ascii "ABC") (lent 2) (refusal 14) (lent 2)
@@ -305,11 +297,11 @@ look_up_probes =
 -- walk on P3's image: not below, above, from the start, past the last, 12, 14
 unfoldable pub walk_probes : List Probe
 walk_probes =
-    walks false (ascii "ABC") (lent 4) (lent 4) (128 ∷ 3 ∷ 3 ∷ 0 ∷ []) (ascii "ABC" ++ lent 1) (ascii "one" ++ lent 1)
-    ∷ walks true (ascii "ABC") (lent 5) (lent 3) (0xE5 ∷ 5 ∷ 3 ∷ 0 ∷ []) (ascii "ABDEF") (ascii "two")
-    ∷ walks false (ascii "ABD") (lent 5) (lent 3) (0xE5 ∷ 5 ∷ 3 ∷ 0 ∷ []) (ascii "ABDEF") (ascii "two")
-    ∷ walks false [] (lent 5) (lent 3) (128 ∷ 3 ∷ 3 ∷ 0 ∷ []) (ascii "ABC" ++ lent 2) (ascii "one")
-    ∷ walks true [] (lent 5) (lent 3) (128 ∷ 3 ∷ 3 ∷ 0 ∷ []) (ascii "ABC" ++ lent 2) (ascii "one")
+    walks false (ascii "ABC") (lent 4) (lent 4) (128 ∷ 3 ∷ 3 ∷ []) (ascii "ABC" ++ lent 1) (ascii "one" ++ lent 1)
+    ∷ walks true (ascii "ABC") (lent 5) (lent 3) (0xE5 ∷ 5 ∷ 3 ∷ []) (ascii "ABDEF") (ascii "two")
+    ∷ walks false (ascii "ABD") (lent 5) (lent 3) (0xE5 ∷ 5 ∷ 3 ∷ []) (ascii "ABDEF") (ascii "two")
+    ∷ walks false [] (lent 5) (lent 3) (128 ∷ 3 ∷ 3 ∷ []) (ascii "ABC" ++ lent 2) (ascii "one")
+    ∷ walks true [] (lent 5) (lent 3) (128 ∷ 3 ∷ 3 ∷ []) (ascii "ABC" ++ lent 2) (ascii "one")
     ∷ walks true (ascii "ABDEF") (lent 5) (lent 3) [] (lent 5) (lent 3)
     ∷ walks false (ascii "B") [] [] [] [] []
     ∷ walks false (ascii "ABC") (lent 2) (lent 3) (refusal 14) (lent 2) (lent 3)
@@ -440,7 +432,7 @@ version_probes =
     ∷ patched 194 (1 ∷ []) (checks 768 (refusal 6))
     -- the identifier may be anything
     ∷ patched 216 (lent 8) (checks 768 (2 ∷ 1 ∷ 1 ∷ 0 ∷ []))
-    ∷ looks_up (ascii "ABC") (lent 5) (128 ∷ 3 ∷ 0 ∷ []) (ascii "one" ++ lent 2)
+    ∷ looks_up (ascii "ABC") (lent 5) (128 ∷ 3 ∷ []) (ascii "one" ++ lent 2)
     ∷ []
 
 -- version 5: another program's bytes in all header bytes that no refusal names
@@ -481,7 +473,7 @@ optimise_cases =
     -- a run with blocks to spare keeps them
     ∷ after file4 1_280 spare_blocks (map (with_length 1_280) (checks 1_280 (2 ∷ 1 ∷ 3 ∷ 0 ∷ []) ∷ optimised (lays_out (1_280 ∷ []) 1 (0 ∷ []) []) ∷ []))
     -- the numbers that it can give
-    ∷ gives change_numbers (1 ∷ 2 ∷ 3 ∷ 4 ∷ 5 ∷ 6 ∷ 7 ∷ 8 ∷ 16 ∷ 9 ∷ 10 ∷ 11 ∷ [])
+    ∷ gives change_numbers (1 ∷ 2 ∷ 3 ∷ 4 ∷ 5 ∷ 6 ∷ 7 ∷ 8 ∷ 9 ∷ 10 ∷ 11 ∷ [])
     ∷ []
 
 -- "add in the page's order: header, extended header, index blocks times block size, block size times number"
@@ -513,7 +505,7 @@ pair_cut = 6 ∷ 0 ∷ 1 ∷ 0x41 ∷ 0 ∷ 128 ∷ ascii "two" ++ 0 ∷ 0 ∷ [
 
 -- two entries whose headwords differ in the byte behind b: with a front of one byte they encode in 1,024 bytes
 unfoldable pub two_texts : ℕ → List Entry
-two_texts b = entry (b ∷ 0x40 ∷ []) (t 500) ∷ entry (b ∷ 0x41 ∷ []) (t 507) ∷ []
+two_texts b = entry_of (b ∷ 0x40 ∷ []) 128 (t 500) ∷ entry_of (b ∷ 0x41 ∷ []) 128 (t 507) ∷ []
 
 -- "the largest front, up to the common one, that ends inside no pair of the later headword"
 unfoldable pub pair_cases : List Case
@@ -538,8 +530,8 @@ pair_cases =
     (246 ∷ 247 ∷ [])
     -- the bytes of entries one after the other
     ∷ gives
-    (entries_bytes [] (entry (0x41 ∷ 0x81 ∷ []) [] ∷ entry (0x41 ∷ 0x81 ∷ 0x40 ∷ []) (ascii "x") ∷ entry (0x41 ∷ 0x81 ∷ 0x41 ∷ []) []
-    ∷ entry (0xB1 ∷ 0xB2 ∷ []) [] ∷ entry (0xB1 ∷ 0xB3 ∷ []) [] ∷ []))
+    (entries_bytes [] (entry_of (0x41 ∷ 0x81 ∷ []) 128 [] ∷ entry_of (0x41 ∷ 0x81 ∷ 0x40 ∷ []) 128 (ascii "x") ∷ entry_of (0x41 ∷ 0x81 ∷ 0x41 ∷ []) 128 []
+    ∷ entry_of (0xB1 ∷ 0xB2 ∷ []) 128 [] ∷ entry_of (0xB1 ∷ 0xB3 ∷ []) 128 [] ∷ []))
     (4 ∷ 0 ∷ 0 ∷ 0x41 ∷ 0x81 ∷ 0 ∷ 128 ∷ 5 ∷ 0 ∷ 1 ∷ 0x81 ∷ 0x40 ∷ 0 ∷ 128 ∷ 0x78 ∷ 4 ∷ 0 ∷ 1 ∷ 0x81 ∷ 0x41 ∷ 0 ∷ 128
     ∷ 4 ∷ 0 ∷ 0 ∷ 0xB1 ∷ 0xB2 ∷ 0 ∷ 128 ∷ 3 ∷ 0 ∷ 1 ∷ 0xB3 ∷ 0 ∷ 128 ∷ [])
     -- "cuts and places follow its sizes": letters in the place of lead bytes encode in 1,024 bytes, and pairs in 1,025
@@ -549,7 +541,7 @@ pair_cases =
     -- "Reading is as before": a stored front that ends inside a pair is read, and kept by optimise and by a change of the other run; a change of its own run
     -- writes the entry anew
     ∷ after file4 1_792 pair_runs (stores 1_665 pair_whole ∷ map (patched 1_665 pair_cut) (checks 1_792 (3 ∷ 1 ∷ 5 ∷ 0 ∷ [])
-    ∷ looks_up (0x81 ∷ 0x41 ∷ []) (lent 3) (128 ∷ 3 ∷ 0 ∷ []) (ascii "two") ∷ optimised (stores 1_665 pair_cut) ∷ stepped (del (ascii "a")) (stores 1_665 pair_cut)
+    ∷ looks_up (0x81 ∷ 0x41 ∷ []) (lent 3) (128 ∷ 3 ∷ []) (ascii "two") ∷ optimised (stores 1_665 pair_cut) ∷ stepped (del (ascii "a")) (stores 1_665 pair_cut)
     ∷ stepped (ins (0x81 ∷ 0x40 ∷ []) (t 120)) (stores 1_665 pair_whole) ∷ []))
     ∷ []
 
@@ -576,7 +568,7 @@ cases =
     -- a headword between two runs goes into the lower one
     ∷ after file4 2_560 (ins (ascii "a") (t 500) ∷ ins (ascii "b") (t 509) ∷ ins (ascii "aa") [] ∷ []) (lays_out (2_560 ∷ []) 1 (5 ∷ 2 ∷ []) (0 ∷ 1 ∷ []) ∷ [])
     -- unsigned byte order
-    ∷ after file4 768 (ins (0x83 ∷ 0x41 ∷ []) (ascii "ka") ∷ ins (ascii "Z") (ascii "zed") ∷ []) (walks false [] (lent 2) (lent 3) (128 ∷ 1 ∷ 3 ∷ 0 ∷ []) (ascii "Z" ++ lent 1) (ascii "zed") ∷ [])
+    ∷ after file4 768 (ins (0x83 ∷ 0x41 ∷ []) (ascii "ka") ∷ ins (ascii "Z") (ascii "zed") ∷ []) (walks false [] (lent 2) (lent 3) (128 ∷ 1 ∷ 3 ∷ []) (ascii "Z" ++ lent 1) (ascii "zed") ∷ [])
     -- the last entry deleted: its block is free, the index keeps its block; optimise leaves the header
     ∷ after file4 768 (ins (ascii "ABC") (ascii "one") ∷ del (ascii "ABC") ∷ []) (lays_out (768 ∷ []) 1 [] (0 ∷ []) ∷ works (lent 768) opt (256 ∷ []) (zeros 768) ∷ [])
     ∷ after file4 1_792 (ins (ascii "a") (t 500) ∷ ins (ascii "b") (t 509) ∷ []) run_probes
@@ -595,15 +587,15 @@ cases =
     -- the engine's answers and the C codes
     ∷ gives (told_length (length_answer (LengthAnswer.Done 256)) ++ told_length (length_answer (LengthAnswer.Refused 15))) (256 ∷ 0 ∷ 15 ∷ [])
     ∷ gives (told_figures (check_answer (CheckAnswer.Counted 1 2 3 4)) ++ told_figures (check_answer (CheckAnswer.Refused 9))) (1 ∷ 2 ∷ 3 ∷ 4 ∷ 0 ∷ 9 ∷ [])
-    ∷ gives (told_text (look_up_answer (LookUpAnswer.Found 1 2 3)) ++ told_text (look_up_answer LookUpAnswer.Absent) ++ told_text (look_up_answer (LookUpAnswer.Refused 14))) (1 ∷ 2 ∷ 3 ∷ 0 ∷ 14 ∷ [])
-    ∷ gives (told_entry (walk_answer (WalkAnswer.Found 1 2 3 4)) ++ told_entry (walk_answer WalkAnswer.Absent) ++ told_entry (walk_answer (WalkAnswer.Refused 12))) (1 ∷ 2 ∷ 3 ∷ 4 ∷ 0 ∷ 12 ∷ [])
+    ∷ gives (told_text (look_up_answer (LookUpAnswer.Found 1 2)) ++ told_text (look_up_answer LookUpAnswer.Absent) ++ told_text (look_up_answer (LookUpAnswer.Refused 14))) (1 ∷ 2 ∷ 0 ∷ 14 ∷ [])
+    ∷ gives (told_entry (walk_answer (WalkAnswer.Found 1 2 3)) ++ told_entry (walk_answer WalkAnswer.Absent) ++ told_entry (walk_answer (WalkAnswer.Refused 12))) (1 ∷ 2 ∷ 3 ∷ 0 ∷ 12 ∷ [])
     ∷ gives (told_removed (delete_answer (DeleteAnswer.Removed 512)) ++ told_removed (delete_answer DeleteAnswer.Absent) ++ told_removed (delete_answer (DeleteAnswer.Refused 2))) (512 ∷ 0 ∷ 2 ∷ [])
     ∷ gives (code (check_answer (CheckAnswer.Counted 1 2 3 4)) ∷ code (check_answer (CheckAnswer.Refused 9)) ∷ []) (0 ∷ 9 ∷ [])
-    ∷ gives (code_or_absent (look_up_answer (LookUpAnswer.Found 1 2 3)) ∷ code_or_absent (look_up_answer LookUpAnswer.Absent)
+    ∷ gives (code_or_absent (look_up_answer (LookUpAnswer.Found 1 2)) ∷ code_or_absent (look_up_answer LookUpAnswer.Absent)
     ∷ code_or_absent (look_up_answer (LookUpAnswer.Refused 14)) ∷ []) (0 ∷ 100 ∷ 14 ∷ [])
     ∷ gives (lent_number (λ c. c.headwords) 77 (check_answer (CheckAnswer.Counted 1 2 3 4)) ∷ lent_number (λ c. c.headwords) 77 (check_answer (CheckAnswer.Refused 9)) ∷ []) (1 ∷ 77 ∷ [])
     ∷ gives
-    (lent_number_or_absent (λ f. f.text_length) 77 (look_up_answer (LookUpAnswer.Found 1 2 3))
+    (lent_number_or_absent (λ f. f.text_length) 77 (look_up_answer (LookUpAnswer.Found 1 2))
     ∷ lent_number_or_absent (λ f. f.text_length) 77 (look_up_answer LookUpAnswer.Absent)
     ∷ lent_number_or_absent (λ f. f.text_length) 77 (look_up_answer (LookUpAnswer.Refused 14))
     ∷ [])
@@ -648,7 +640,7 @@ CasesHold = T (all case_holds (cases ++ optimise_cases ++ position_cases ++ pair
 
 -- names all definitions of this module: who unfolds it unfolds them
 unfoldable pub open_cases : Unit {0}
-unfolding open_answers looks_up walks probe_holds patched optimised case_holds file_of front5 empty5 ident5 version_probes strange_header5 strange_bytes5 strange_header strange_bytes
+unfolding open_answers probe_holds patched optimised case_holds file_of front5 empty5 ident5 version_probes strange_header5 strange_bytes5 strange_header strange_bytes
     strange_entry two_entries two_free xq xr two_moved long_run equal_extents one_block
     told_grown check_probes run_probes long_headword_probes long_text_probes look_up_probes walk_probes refusal_probes bytes_probes deleted_probes free_probes
     spare_blocks idle_index none_free optimise_cases position_cases pair_runs pair_whole pair_cut two_texts pair_cases cases CasesHold

@@ -5,7 +5,6 @@ use Rattle.spec.specs.Order.{HeadwordOrder}
 use Rattle.spec.specs.Outcome.{Outcome, refused, ok, ◌>>=◌, ◌>>◌, refuse◌when◌}
 use Rattle.spec.specs.Bytes.{from_little_endian, bytes_at, bytes_equal}
 use Rattle.spec.specs.Header.{Layout, Format, format_of, header_bytes, block_position, get, high_version_of}
-use Rattle.spec.specs.Body.{parts_stored}
 use Rattle.spec.specs.Entry.{Entry}
 use Rattle.spec.specs.Run.{Run, read_entry, entries_from}
 use Rattle.spec.specs.Index.{Element, index_from}
@@ -87,7 +86,6 @@ first_entry below h s = do
     | none ↦ refused 8
     | some p ↦ do
       refuse 8 when not (bytes_equal p.0.headword h)
-      refuse 16 when not (parts_stored p.0.body)
       ok p
   ]
 

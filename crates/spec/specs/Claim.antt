@@ -7,7 +7,7 @@ use Rattle.spec.specs.Outcome.{Outcome, refused, ok}
 use Rattle.spec.specs.Lists.{all, count}
 use Rattle.spec.specs.Bytes.{bytes_at, zeros, no_zero}
 use Rattle.spec.specs.Header.{get, writable, written_fields, lies_in, header_bytes}
-use Rattle.spec.specs.Entry.{Entry, NewEntry, headword_ok, new_body_ok, entry_of, attribute, text, part_list}
+use Rattle.spec.specs.Entry.{Entry, headword_ok, text_ok, attribute_ok, entry_of, attribute, text}
 use Rattle.spec.specs.Blocks.{covers, run_blocks}
 use Rattle.spec.specs.Check.{Image, image_in, entries_of}
 use Rattle.spec.specs.SortedList.{Sorted, lookup, successor, replace, remove}
@@ -17,12 +17,12 @@ use Rattle.spec.specs.Calls.{FoundText, FoundEntry, check, look_up, walk, insert
 
 -- "The calls are look up, walk, insert, delete and optimise on one image slice": each with its arguments and its other slices
 pub data Call : Type 0 where
-  -- headword, output slices for text and part list
-  look_up_call : List ℕ → List ℕ → List ℕ → Call
-  -- above or not below, headword, output slices for headword, text and part list
-  walk_call : Bool → List ℕ → List ℕ → List ℕ → List ℕ → Call
-  -- working slice, the new entry
-  insert_call : List ℕ → NewEntry → Call
+  -- headword, output slice
+  look_up_call : List ℕ → List ℕ → Call
+  -- above or not below, headword, output slices for headword and text
+  walk_call : Bool → List ℕ → List ℕ → List ℕ → Call
+  -- working slice, headword, attribute, text
+  insert_call : List ℕ → List ℕ → ℕ → List ℕ → Call
   -- working slice, headword
   delete_call : List ℕ → List ℕ → Call
   -- working slice
@@ -31,10 +31,10 @@ pub data Call : Type 0 where
 -- what a caller observes of a call that is not refused
 pub data Observed : Type 0 where
   absent : Observed
-  -- attribute, text, text length, part list, its length
-  text_found : ℕ → List ℕ → ℕ → List ℕ → ℕ → Observed
-  -- headword, text, attribute and both lengths, part list, its length
-  entry_found : List ℕ → List ℕ → ℕ → ℕ → ℕ → List ℕ → ℕ → Observed
+  -- attribute, text, text length
+  text_found : ℕ → List ℕ → ℕ → Observed
+  -- headword, text, attribute and both lengths
+  entry_found : List ℕ → List ℕ → ℕ → ℕ → ℕ → Observed
   -- an insertion or an optimising was done
   done : Observed
   -- a deletion removed
@@ -42,16 +42,15 @@ pub data Observed : Type 0 where
 
 -- The sorted list. "After that it is fed each call, its arguments and whether it was refused, and nothing of the image."
 
--- "Look up: the attribute, text and text length of the entry with that headword, else absent."; "A part is an element of the entry like its text, so a
--- lookup, walk or insertion carries it"
+-- "Look up: the attribute, text and text length of the entry with that headword, else absent."
 unfoldable pub tell_text : Option Entry → Observed
 tell_text none = absent
-tell_text (some e) = text_found (attribute e) (text e) (length (text e)) (part_list e) (length (part_list e))
+tell_text (some e) = text_found (attribute e) (text e) (length (text e))
 
 -- "Headword, text, attribute and both lengths are the answer, else absent."
 unfoldable pub tell_entry : Option Entry → Observed
 tell_entry none = absent
-tell_entry (some e) = entry_found e.headword (text e) (attribute e) (length e.headword) (length (text e)) (part_list e) (length (part_list e))
+tell_entry (some e) = entry_found e.headword (text e) (attribute e) (length e.headword) (length (text e))
 
 -- "the answer is "removed" …; else absent"
 unfoldable pub tell_removed : Option Entry → Observed
@@ -60,17 +59,17 @@ tell_removed (some e) = removed
 
 -- the sorted list's answer to a call that is not refused
 unfoldable pub list_answer : HeadwordOrder → Call → List Entry → Observed
-list_answer below (look_up_call h out-text out-parts) es = tell_text (lookup h es)
-list_answer below (walk_call above h out-headword out-text out-parts) es = tell_entry (successor below above h es)
-list_answer below (insert_call work new) es = done
+list_answer below (look_up_call h out) es = tell_text (lookup h es)
+list_answer below (walk_call above h out-headword out-text) es = tell_entry (successor below above h es)
+list_answer below (insert_call work h a t) es = done
 list_answer below (delete_call work h) es = tell_removed (lookup h es)
 list_answer below (optimise_call work) es = done
 
 -- the sorted list after a call that is not refused
 unfoldable pub list_after : HeadwordOrder → Call → List Entry → List Entry
-list_after below (look_up_call h out-text out-parts) es = es
-list_after below (walk_call above h out-headword out-text out-parts) es = es
-list_after below (insert_call work new) es = replace below (entry_of new) es
+list_after below (look_up_call h out) es = es
+list_after below (walk_call above h out-headword out-text) es = es
+list_after below (insert_call work h a t) es = replace below (entry_of h a t) es
 list_after below (delete_call work h) es = remove h es
 list_after below (optimise_call work) es = es
 
@@ -98,20 +97,17 @@ new_length_or L (refused n) = L
 new_length_or L (ok none) = L
 new_length_or L (ok (some n)) = n
 
--- text and part list are read from the output slices, as far as the answered lengths
-unfoldable pub observed_text : Outcome (Option FoundText) → List ℕ → List ℕ → Outcome Observed
-observed_text (refused n) out-text out-parts = refused n
-observed_text (ok none) out-text out-parts = ok absent
-observed_text (ok (some f)) out-text out-parts =
-    ok (text_found f.attribute (take f.text_length out-text) f.text_length (take f.parts_length out-parts) f.parts_length)
+-- the text is read from the output slice, as far as the answered length
+unfoldable pub observed_text : Outcome (Option FoundText) → List ℕ → Outcome Observed
+observed_text (refused n) out = refused n
+observed_text (ok none) out = ok absent
+observed_text (ok (some f)) out = ok (text_found f.attribute (take f.text_length out) f.text_length)
 
--- headword, text and part list are read from the output slices, as far as the answered lengths
-unfoldable pub observed_entry : Outcome (Option FoundEntry) → List ℕ → List ℕ → List ℕ → Outcome Observed
-observed_entry (refused n) out-headword out-text out-parts = refused n
-observed_entry (ok none) out-headword out-text out-parts = ok absent
-observed_entry (ok (some f)) out-headword out-text out-parts =
-    ok (entry_found (take f.headword_length out-headword) (take f.text_length out-text) f.attribute f.headword_length f.text_length
-    (take f.parts_length out-parts) f.parts_length)
+-- headword and text are read from the output slices, as far as the answered lengths
+unfoldable pub observed_entry : Outcome (Option FoundEntry) → List ℕ → List ℕ → Outcome Observed
+observed_entry (refused n) out-headword out-text = refused n
+observed_entry (ok none) out-headword out-text = ok absent
+observed_entry (ok (some f)) out-headword out-text = ok (entry_found (take f.headword_length out-headword) (take f.text_length out-text) f.attribute f.headword_length f.text_length)
 
 -- "the L returned with it belongs to the image"
 unfoldable pub observed_done : Outcome ℕ → Outcome Observed
@@ -126,14 +122,14 @@ observed_removed (ok (some n)) = ok removed
 
 -- the call on the image slice s with the length L
 unfoldable pub perform : List ℕ → ℕ → Call → Performed
-perform s L (look_up_call h out-text out-parts) =
-    let r = look_up s L h out-text out-parts in
-    record { observed = observed_text r.answer r.text r.parts; image = s; length_after = L }
-perform s L (walk_call above h out-headword out-text out-parts) =
-    let r = walk s L above h out-headword out-text out-parts in
-    record { observed = observed_entry r.answer r.headword r.text r.parts; image = s; length_after = L }
-perform s L (insert_call work new) =
-    let r = insert s L work new in
+perform s L (look_up_call h out) =
+    let r = look_up s L h out in
+    record { observed = observed_text r.answer r.text; image = s; length_after = L }
+perform s L (walk_call above h out-headword out-text) =
+    let r = walk s L above h out-headword out-text in
+    record { observed = observed_entry r.answer r.headword r.text; image = s; length_after = L }
+perform s L (insert_call work h a t) =
+    let r = insert s L work h a t in
     record { observed = observed_done r.answer; image = r.image; length_after = new_length L r.answer }
 perform s L (delete_call work h) =
     let r = delete s L work h in
@@ -169,14 +165,14 @@ unfoldable pub too_short : List ℕ → List ℕ → Bool
 too_short out x = ltb (length out) (length x)
 
 -- "14 goes by the answer the sorted list would otherwise give"
-unfoldable pub short_for_text : List ℕ → List ℕ → Option Entry → Bool
-short_for_text out-text out-parts none = false
-short_for_text out-text out-parts (some e) = too_short out-text (text e) || too_short out-parts (part_list e)
+unfoldable pub short_for_text : List ℕ → Option Entry → Bool
+short_for_text out none = false
+short_for_text out (some e) = too_short out (text e)
 
--- the same for a walk's three output slices
-unfoldable pub short_for_entry : List ℕ → List ℕ → List ℕ → Option Entry → Bool
-short_for_entry out-headword out-text out-parts none = false
-short_for_entry out-headword out-text out-parts (some e) = too_short out-headword e.headword || (too_short out-text (text e) || too_short out-parts (part_list e))
+-- the same for a walk's two output slices
+unfoldable pub short_for_entry : List ℕ → List ℕ → Option Entry → Bool
+short_for_entry out-headword out-text none = false
+short_for_entry out-headword out-text (some e) = too_short out-headword e.headword || too_short out-text (text e)
 
 -- "an absent deletion places nothing"
 unfoldable pub is_there : Option Entry → Bool
@@ -184,8 +180,8 @@ is_there none = false
 is_there (some e) = true
 
 -- the placing of an insertion from the image that the call found
-unfoldable pub insert_placing : Image → NewEntry → Plan
-insert_placing i new = plan_change i.frame.format i new.headword (replace i.frame.format.below (entry_of new))
+unfoldable pub insert_placing : Image → List ℕ → ℕ → List ℕ → Plan
+insert_placing i h a t = plan_change i.frame.format i h (replace i.frame.format.below (entry_of h a t))
 
 -- the placing of a deletion of a stored headword
 unfoldable pub delete_placing : Image → List ℕ → Plan
@@ -198,20 +194,20 @@ optimise_placing i = plan_packed i.frame.format i.runs
 -- the rows of a call on the slice s with the accepted image i, beside the sorted list es; "15 by the image the call found", and "15 is never
 -- given by optimise"
 unfoldable pub rows : List ℕ → Image → List Entry → Call → List Row
-rows s i es (look_up_call h out-text out-parts) =
+rows s i es (look_up_call h out) =
     12 if not (headword_ok h)
-    ∷ 14 if short_for_text out-text out-parts (lookup h es)
+    ∷ 14 if short_for_text out (lookup h es)
     ∷ []
-rows s i es (walk_call above h out-headword out-text out-parts) =
+rows s i es (walk_call above h out-headword out-text) =
     12 if not (leb (length h) 248 && no_zero h)
-    ∷ 14 if short_for_entry out-headword out-text out-parts (successor i.frame.format.below above h es)
+    ∷ 14 if short_for_entry out-headword out-text (successor i.frame.format.below above h es)
     ∷ []
-rows s i es (insert_call work new) =
+rows s i es (insert_call work h a t) =
     2 if too_short work s
     ∷ 11 if not (writable i.frame.format.layout s)
-    ∷ 12 if not (headword_ok new.headword)
-    ∷ 13 if not (new_body_ok new)
-    ∷ 15 if plan_full s (insert_placing i new)
+    ∷ 12 if not (headword_ok h)
+    ∷ 13 if not (text_ok t && attribute_ok a)
+    ∷ 15 if plan_full s (insert_placing i h a t)
     ∷ []
 rows s i es (delete_call work h) =
     2 if too_short work s
@@ -233,9 +229,9 @@ expected (some n) x = refused n
 
 -- the image slice after a call that is not refused; a reading call and an absent deletion leave it as it is
 unfoldable pub slice_after : List ℕ → ℕ → Image → Call → List ℕ
-slice_after s L i (look_up_call h out-text out-parts) = s
-slice_after s L i (walk_call above h out-headword out-text out-parts) = s
-slice_after s L i (insert_call work new) = plan_written (insert_placing i new) s
+slice_after s L i (look_up_call h out) = s
+slice_after s L i (walk_call above h out-headword out-text) = s
+slice_after s L i (insert_call work h a t) = plan_written (insert_placing i h a t) s
 slice_after s L i (delete_call work h) = elim (lookup h (entries_of i)) [ none ↦ s | some e ↦ plan_written (delete_placing i h) s ]
 slice_after s L i (optimise_call work) = given_up_zeroed L (optimise_placing i) (plan_written (optimise_placing i) s)
 
@@ -246,9 +242,9 @@ slice_kept false s after = after
 
 -- "A successful change (an insertion, a deletion that removes, or any optimising not refused)": whether a call that is not refused is one
 unfoldable pub is_change : Call → List Entry → Bool
-is_change (look_up_call h out-text out-parts) es = false
-is_change (walk_call above h out-headword out-text out-parts) es = false
-is_change (insert_call work new) es = true
+is_change (look_up_call h out) es = false
+is_change (walk_call above h out-headword out-text) es = false
+is_change (insert_call work h a t) es = true
 is_change (delete_call work h) es = is_there (lookup h es)
 is_change (optimise_call work) es = true
 
@@ -259,11 +255,11 @@ next_count false n = n
 
 -- "optimise zeroes what it gives up": from the new L to the old
 unfoldable pub Zeroed : Call → List ℕ → ℕ → ℕ → Type 0
-Zeroed (look_up_call h out-text out-parts) image after before = Unit {0}
-Zeroed (walk_call above h out-headword out-text out-parts) image after before = Unit {0}
-Zeroed (insert_call work new) image after before = Unit {0}
-Zeroed (delete_call work h) image after before = Unit {0}
-Zeroed (optimise_call work) image after before = (after ≤ before) × (bytes_at after (before - after) image ≡ zeros (before - after))
+Zeroed (look_up_call h out) image new old = Unit {0}
+Zeroed (walk_call above h out-headword out-text) image new old = Unit {0}
+Zeroed (insert_call work h a t) image new old = Unit {0}
+Zeroed (delete_call work h) image new old = Unit {0}
+Zeroed (optimise_call work) image new old = (new ≤ old) × (bytes_at new (old - new) image ≡ zeros (old - new))
 
 -- The claim.
 
@@ -308,20 +304,11 @@ History below s L es (c ∷ cs) =
     × AnswersAs below s L m.image es c (perform s L c)
     × History below (perform s L c).image (perform s L c).length_after (list_step below (is_refused (perform s L c).observed) c es) cs
 
--- a part that is there is of bytes
-unfoldable pub part_are_bytes : Option (List ℕ) → Bool
-part_are_bytes none = true
-part_are_bytes (some b) = are_bytes b
-
--- what an insertion is given is of bytes
-unfoldable pub new_bytes : NewEntry → Bool
-new_bytes new = are_bytes new.headword && ltb new.attribute 256 && are_bytes new.text && part_are_bytes new.example && part_are_bytes new.pronunciation
-
 -- "their arguments, and the lengths and contents of their other slices, are any": of bytes
 unfoldable pub call_bytes : Call → Bool
-call_bytes (look_up_call h out-text out-parts) = are_bytes h && are_bytes out-text && are_bytes out-parts
-call_bytes (walk_call above h out-headword out-text out-parts) = are_bytes h && are_bytes out-headword && are_bytes out-text && are_bytes out-parts
-call_bytes (insert_call work new) = are_bytes work && new_bytes new
+call_bytes (look_up_call h out) = are_bytes h && are_bytes out
+call_bytes (walk_call above h out-headword out-text) = are_bytes h && are_bytes out-headword && are_bytes out-text
+call_bytes (insert_call work h a t) = are_bytes work && are_bytes h && ltb a 256 && are_bytes t
 call_bytes (delete_call work h) = are_bytes work && are_bytes h
 call_bytes (optimise_call work) = are_bytes work
 
@@ -351,8 +338,8 @@ good_change s i work h = leb (length s) (length work) && writable i.frame.format
 unfoldable pub InsertRefused : Type 0
 InsertRefused =
     (s : List ℕ) (L : ℕ) (i : Image) → T (are_bytes s) → image_in s L ≡ ok i
-    → (work : List ℕ) (new : NewEntry) → T (good_change s i work new.headword) → T (new_body_ok new)
-    → is_refused (perform s L (insert_call work new)).observed ≡ plan_full s (insert_placing i new)
+    → (work h : List ℕ) (a : ℕ) (t : List ℕ) → T (good_change s i work h) → T (text_ok t && attribute_ok a)
+    → is_refused (perform s L (insert_call work h a t)).observed ≡ plan_full s (insert_placing i h a t)
 
 -- the same for a deletion of a stored headword
 unfoldable pub DeleteRefused : Type 0
@@ -372,6 +359,5 @@ OptimiseDone =
 unfoldable pub open_claim : Unit {0}
 unfolding tell_text tell_entry tell_removed list_answer list_after list_step new_length new_length_or observed_text observed_entry observed_done
     observed_removed perform is_refused ◌if◌ first_row too_short short_for_text short_for_entry is_there insert_placing delete_placing optimise_placing rows
-    expected slice_after slice_kept is_change next_count Zeroed History part_are_bytes new_bytes call_bytes SortedListClaim slice_after_all IdentifierKept good_change
-    InsertRefused DeleteRefused OptimiseDone
+    expected slice_after slice_kept is_change next_count Zeroed History call_bytes SortedListClaim slice_after_all IdentifierKept good_change InsertRefused DeleteRefused OptimiseDone
 open_claim = tt

@@ -3,7 +3,7 @@ use Rattle.std.specs.Prelude.{ℕ, List, [], ◌∷◌, map, replicate}
 use Rattle.std.proofs.Math.Option.{Option, none, some}
 use Rattle.spec.specs.Outcome.{Outcome, refused, ok}
 use Rattle.spec.specs.Bytes.{write}
-use Rattle.spec.specs.Entry.{Entry, NewEntry, new_entry, entry_of}
+use Rattle.spec.specs.Entry.{Entry, entry_of}
 use Rattle.spec.specs.Check.{Image}
 use Rattle.spec.specs.Calls.{ChangeResult, Figures, FoundText, FoundEntry, create, insert, delete, optimise}
 use Rattle.spec.specs.Claim.{new_length, new_length_or}
@@ -15,19 +15,16 @@ t n = replicate n 97
 
 -- "attributes are 128"
 unfoldable pub entry : List ℕ → List ℕ → Entry
-entry h x = entry_of (new_entry h 128 x)
+entry h x = entry_of h 128 x
 
 -- a step of an example: a changing call, or bytes that another program stores in the slice
 pub data Step : Type 0 where
-  ins_new : NewEntry → Step
+  -- headword, attribute, text
+  ins_as : List ℕ → ℕ → List ℕ → Step
   del : List ℕ → Step
   opt : Step
   -- offset, bytes
   store : ℕ → List ℕ → Step
-
--- an insertion by headword, attribute and text
-unfoldable pub ins_as : List ℕ → ℕ → List ℕ → Step
-ins_as h a x = ins_new (new_entry h a x)
 
 -- an insertion with the attribute 128
 unfoldable pub ins : List ℕ → List ℕ → Step
@@ -60,17 +57,17 @@ unfoldable pub told_figures : Outcome Figures → List ℕ
 told_figures (refused n) = refusal n
 told_figures (ok c) = c.headwords ∷ c.index_blocks ∷ c.data_blocks ∷ c.free_blocks ∷ []
 
--- a look up's attribute, text length and part list's length, its refusal, or nothing where it is absent
+-- a look up's attribute and text length, its refusal, or nothing where it is absent
 unfoldable pub told_text : Outcome (Option FoundText) → List ℕ
 told_text (refused n) = refusal n
 told_text (ok none) = []
-told_text (ok (some f)) = f.attribute ∷ f.text_length ∷ f.parts_length ∷ []
+told_text (ok (some f)) = f.attribute ∷ f.text_length ∷ []
 
--- a walk's attribute, headword length, text length and part list's length, its refusal, or nothing where it is absent
+-- a walk's attribute, headword length and text length, its refusal, or nothing where it is absent
 unfoldable pub told_entry : Outcome (Option FoundEntry) → List ℕ
 told_entry (refused n) = refusal n
 told_entry (ok none) = []
-told_entry (ok (some f)) = f.attribute ∷ f.headword_length ∷ f.text_length ∷ f.parts_length ∷ []
+told_entry (ok (some f)) = f.attribute ∷ f.headword_length ∷ f.text_length ∷ []
 
 -- the state after a change by its result
 unfoldable pub after_change : ℕ → ChangeResult ℕ → State
@@ -82,7 +79,7 @@ after_delete L r = record { slice = r.image; L = new_length_or L r.answer; told 
 
 -- the state after a step with a working slice
 unfoldable pub step_with : List ℕ → State → Step → State
-step_with work q (ins_new new) = after_change q.L (insert q.slice q.L work new)
+step_with work q (ins_as h a x) = after_change q.L (insert q.slice q.L work h a x)
 step_with work q (del h) = after_delete q.L (delete q.slice q.L work h)
 step_with work q opt = after_change q.L (optimise q.slice q.L work)
 step_with work q (store i x) = record { slice = write i x q.slice; L = q.L; told = []; work = [] }
@@ -129,5 +126,5 @@ free_at (ok i) = i.free_list
 
 -- names all definitions of this module: who unfolds it unfolds them
 unfoldable pub open_play : Unit {0}
-unfolding t entry ins_as ins refusal told_length told_removed told_figures told_text told_entry after_change after_delete step_with step play lent file4 file5 empty index_blocks_of runs_at free_at
+unfolding t entry ins refusal told_length told_removed told_figures told_text told_entry after_change after_delete step_with step play lent file4 file5 empty index_blocks_of runs_at free_at
 open_play = tt

@@ -5,8 +5,7 @@ use Rattle.spec.specs.Lists.{All}
 use Rattle.spec.specs.Bytes.{from_little_endian}
 use Rattle.spec.specs.Order.{HeadwordOrder}
 use Rattle.spec.specs.Header.{Format}
-use Rattle.spec.specs.Body.{body_ok}
-use Rattle.spec.specs.Entry.{Entry, headword_ok}
+use Rattle.spec.specs.Entry.{Entry, headword_ok, body_ok}
 use Rattle.spec.specs.Run.{Run, entries_from}
 use Rattle.spec.specs.Index.{index_need}
 use Rattle.spec.specs.Check.{Frame, all_entries}

@@ -14,15 +14,14 @@ use Rattle.spec.specs.Outcome.{Outcome, refused, ok, ◌>>=◌, ◌>>◌, refuse
 use Rattle.spec.specs.Bytes as BytesSpec
 use Rattle.spec.specs.Bytes.{from_little_endian, bytes_at, no_zero, bytes_equal}
 use Rattle.spec.specs.Order.{below_of, HeadwordOrder}
-use Rattle.spec.specs.Body.{parts_stored}
 use Rattle.spec.specs.Entry.{Entry}
 use Rattle.spec.proofs.ListsLaws.{clash}
 use Rattle.spec.proofs.IndexLaws.{headword_no_zero}
-use Rattle.spec.proofs.RunLaws.{head_bounds, whole_by, whole_broken, whole_refused, whole_end}
+use Rattle.spec.proofs.RunLaws.{head_bounds}
 use Rattle.spec.proofs.ReadLaws as Read
-use Rattle.spec.proofs.ReadLaws.{entry_told, whole_ok, first_told, same_bytes, ends_last}
+use Rattle.spec.proofs.ReadLaws.{entry_told, first_told, same_bytes, ends_last}
 use Rattle.spec.specs.Run as RunSpec
-use Rattle.spec.specs.Run.{Run, read_entry, whole_entry, entries_from}
+use Rattle.spec.specs.Run.{Run, read_entry, entries_from}
 use Rattle.spec.specs.Index.{Element}
 use Rattle.spec.specs.Blocks as BlocksSpec
 use Rattle.spec.specs.Blocks.{run_blocks}
@@ -84,7 +83,7 @@ pub record Reading (below : HeadwordOrder) (D : ℕ) (area : List ℕ) (e : Elem
   pub rest : run_from below D area e next ≡ finished below e next n run (earlier ++ last ∷ []) (entries_from below (suc fuel) (take len word) (drop pos run))
 
 -- entries that are read by one step and the steps behind it
-entries_next : (below : HeadwordOrder) (m : ℕ) (prev s rest : List ℕ) (d : Entry) → whole_entry below prev s ≡ ok (some (d, rest))
+entries_next : (below : HeadwordOrder) (m : ℕ) (prev s rest : List ℕ) (d : Entry) → read_entry below prev s ≡ ok (some (d, rest))
     → entries_from below (suc m) prev s ≡ entries_from below m d.headword rest >>= λ ds. ok (d ∷ ds)
 unfolding RunSpec.entries_from
 entries_next below m prev s rest d h = rw h
@@ -97,14 +96,14 @@ module _ (below : HeadwordOrder) (D : ℕ) (area : List ℕ) (e : Element) (next
   unfolding step_entry RunSpec.entries_from
   reading_broken h =
       let k : read_entry below (take len word) (drop pos run) ≡ refused 8 = told_broken below (take len word) (drop pos run) run word' st step h in
-      v.rest ∙ rw (whole_refused below (take len word) (drop pos run) 8 k)
+      v.rest ∙ rw k
 
   -- the entries end
   ended : st ≡ Step.End → run_from below D area e next ≡ finished below e next n run (v.earlier ++ v.last ∷ []) (ok [])
   unfolding step_entry RunSpec.entries_from
   ended h =
       let k : read_entry below (take len word) (drop pos run) ≡ ok none = told_end below (take len word) (drop pos run) run word' st step h in
-      v.rest ∙ rw (whole_end below (take len word) (drop pos run) k)
+      v.rest ∙ rw k
 
   module _ (h : st ≡ Step.End) (b : Bool) (ends : b ≡ last_below below (take len word) next) where
     end_told : ends_below below next (v.earlier ++ v.last ∷ []) ≡ b
@@ -127,95 +126,79 @@ module _ (below : HeadwordOrder) (D : ℕ) (area : List ℕ) (e : Element) (next
       refl,
     )
 
-  module _ (k z x : ℕ) (h : st ≡ Step.Entry k z x) (b : Bool) (listed : b ≡ parts_stored (bytes_at (z + 1) (x - (z + 1)) run)) where
-    there : read_entry below (take len word) (drop pos run) ≡ ok (some (record { headword = take k word'; body = bytes_at (z + 1) (x - (z + 1)) run }, drop x run))
-    there = told_entry below (take len word) (drop pos run) run word' st step k z x h
-
-    -- its part list breaks a rule
-    pub reading_unlisted : not b ≡ true → run_from below D area e next ≡ refused 16
-    unfolding RunSpec.entries_from
-    reading_unlisted f = v.rest ∙ rw (whole_broken below (take len word) (drop pos run) (_, drop x run) there (sym listed ∙ not-true b f))
-
-    -- one entry more
-    pub reading_turn : not b ≡ false → StepSpec.Inside pos run st → length word' ≡ length word → Reading below D area e next n run word' k x (count + 1)
-    reading_turn f place l =
-        let i = place k z x h in
-        let w : whole_entry below (take len word) (drop pos run) ≡ ok (some (record { headword = take k word'; body = bytes_at (z + 1) (x - (z + 1)) run }, drop x run))
-        = whole_by below (take len word) (drop pos run) (_, drop x run) there (sym listed ∙ not-false b f) in
-        let (good, less) = entry_told below (take len word) (drop pos run) (record { headword = take k word'; body = bytes_at (z + 1) (x - (z + 1)) run }) (drop x run) there in
-        let j : suc (v.fuel - 1) ≡ v.fuel = omega (arith, v.room) in
-        record {
-          fuel = v.fuel - 1;
-          room = omega (arith, v.room);
-          inside = i.2;
-          few = omega (arith, v.few);
-          buffer = l ∙ v.buffer;
-          short = i.4;
-          clean = headword_no_zero (take k word') good.0;
-          earlier = v.earlier ++ v.last ∷ [];
-          last = record { headword = take k word'; body = bytes_at (z + 1) (x - (z + 1)) run };
-          last_word = refl;
-          counted = rw length-append (omega (arith, v.counted));
-          rest =
-              rw j (v.rest
-              ∙ rw (entries_next below v.fuel (take len word) (drop pos run) (drop x run) (record { headword = take k word'; body = bytes_at (z + 1) (x - (z + 1)) run }) w)
-              (joined (v.earlier ++ v.last ∷ []) (record { headword = take k word'; body = bytes_at (z + 1) (x - (z + 1)) run }) (entries_from below v.fuel (take k word') (drop x run))));
-        }
-      where
-        joined : (es : List Entry) (d : Entry) (o : Outcome (List Entry)) → finished below e next n run es (o >>= λ ds. ok (d ∷ ds)) ≡ finished below e next n run (es ++ d ∷ []) o
-        joined es d (refused c) = refl
-        joined es d (ok ds) = rw (append_assoc es (d ∷ []) ds)
+  -- one entry more
+  pub reading_turn : StepSpec.Inside pos run st → (k z x : ℕ) → st ≡ Step.Entry k z x → length word' ≡ length word → Reading below D area e next n run word' k x (count + 1)
+  unfolding step_entry
+  reading_turn place k z x h l =
+      let i = place k z x h in
+      let d : Entry = record { headword = take k word'; body = bytes_at (z + 1) (x - (z + 1)) run } in
+      let t : read_entry below (take len word) (drop pos run) ≡ ok (some (d, drop x run)) = told_entry below (take len word) (drop pos run) run word' st step k z x h in
+      let (good, less) = entry_told below (take len word) (drop pos run) d (drop x run) t in
+      let j : suc (v.fuel - 1) ≡ v.fuel = omega (arith, v.room) in
+      record {
+        fuel = v.fuel - 1;
+        room = omega (arith, v.room);
+        inside = i.2;
+        few = omega (arith, v.few);
+        buffer = l ∙ v.buffer;
+        short = i.5;
+        clean = headword_no_zero (take k word') good.0;
+        earlier = v.earlier ++ v.last ∷ [];
+        last = d;
+        last_word = refl;
+        counted = rw length-append (omega (arith, v.counted));
+        rest =
+            rw j (v.rest
+            ∙ rw (entries_next below v.fuel (take len word) (drop pos run) (drop x run) d t)
+            (joined (v.earlier ++ v.last ∷ []) d (entries_from below v.fuel (take k word') (drop x run))));
+      }
+    where
+      joined : (es : List Entry) (d : Entry) (o : Outcome (List Entry)) → finished below e next n run es (o >>= λ ds. ok (d ∷ ds)) ≡ finished below e next n run (es ++ d ∷ []) o
+      joined es d (refused c) = refl
+      joined es d (ok ds) = rw (append_assoc es (d ∷ []) ds)
 
 -- the first step through a run
 module _ (below : HeadwordOrder) (h run word' : List ℕ) (st : Step) (step : step_entry run word' st ≡ read_entry below [] (drop 2 run)) where
-  refused_first : (n : ℕ) → first_entry below h (drop 2 run) ≡ refused n → Started below h run word' (First.Refused n)
-  refused_first n q = (λ k z. q ∙ ap refused (cc), λ x z. clash (cc))
+  refused_first : first_entry below h (drop 2 run) ≡ refused 8 → Started below h run word' First.Broken
+  refused_first q = (λ z. q, λ x z. clash (cc))
 
   -- an entry rule is broken
-  pub started_broken : st ≡ Step.Broken → Started below h run word' (First.Refused 8)
+  pub started_broken : st ≡ Step.Broken → Started below h run word' First.Broken
   unfolding CheckSpec.first_entry
   started_broken e =
       let k : read_entry below [] (drop 2 run) ≡ refused 8 = told_broken below [] (drop 2 run) run word' st step e in
-      refused_first 8 (rw k)
+      refused_first (rw k)
 
   -- a run without entries
-  pub started_none : st ≡ Step.End → Started below h run word' (First.Refused 8)
+  pub started_none : st ≡ Step.End → Started below h run word' First.Broken
   unfolding CheckSpec.first_entry
   started_none e =
       let k : read_entry below [] (drop 2 run) ≡ ok none = told_end below [] (drop 2 run) run word' st step e in
-      refused_first 8 (rw k)
+      refused_first (rw k)
 
   module _ (k z x : ℕ) (e : st ≡ Step.Entry k z x) (b : Bool) (same : b ≡ bytes_equal (take k word') h) where
     found : read_entry below [] (drop 2 run) ≡ ok (some (record { headword = take k word'; body = bytes_at (z + 1) (x - (z + 1)) run }, drop x run))
     found = told_entry below [] (drop 2 run) run word' st step k z x e
 
     -- it is not the element's
-    pub started_other : not b ≡ true → Started below h run word' (First.Refused 8)
+    pub started_other : b ≡ false → Started below h run word' First.Broken
     unfolding CheckSpec.first_entry
-    started_other f = refused_first 8 (rw (found, ← same, not-true b f))
+    started_other f = refused_first (rw (found, ← same, f))
 
-    module _ (t : not b ≡ false) (l : Bool) (listed : l ≡ parts_stored (bytes_at (z + 1) (x - (z + 1)) run)) where
-      -- it is the element's, and its part list breaks a rule
-      pub started_unlisted : not l ≡ true → Started below h run word' (First.Refused 16)
-      unfolding CheckSpec.first_entry
-      started_unlisted f = refused_first 16 (rw (found, ← same, not-false b t, ← listed, not-true l f))
-
-      -- it is the element's
-      pub started_same : not l ≡ false → StepSpec.Inside 2 run st → k ≤ length word' → Started below h run word' (First.Ends x)
-      unfolding CheckSpec.first_entry
-      started_same f inside room =
-          let v : take k word' ≡ h = same_bytes (take k word') h (sym same ∙ not-false b t) in
-          let m : length h ≡ k = ap length (sym v) ∙ length-take-le k word' room in
-          let i = inside k z x e in (
-            λ k n. clash (cc),
-            λ y n. ends y (cc) i.2 (omega (arith, i.0, i.1)) (rw m v) (bytes_at (z + 1) (x - (z + 1)) run) (rw (← v) (rw (found, ← same, not-false b t, ← listed, not-false l f))),
-          )
-        where
-          ends : (y : ℕ) → x ≡ y → x ≤ length run → 2 < x → take (length h) word' ≡ h → (body : List ℕ)
-              → first_entry below h (drop 2 run) ≡ ok (record { headword = h; body = body }, drop x run)
-              → (2 < y) × (y ≤ length run) × (take (length h) word' ≡ h)
-              × (body : List ℕ) × (first_entry below h (drop 2 run) ≡ ok (record { headword = h; body = body }, drop y run))
-          ends y m long past front body g = rw (← m) (past, long, front, body, g)
+    -- it is the element's
+    pub started_same : b ≡ true → StepSpec.Inside 2 run st → k ≤ length word' → Started below h run word' (First.Ends x)
+    unfolding CheckSpec.first_entry
+    started_same t inside room =
+        let v : take k word' ≡ h = same_bytes (take k word') h (sym same ∙ t) in
+        let l : length h ≡ k = ap length (sym v) ∙ length-take-le k word' room in
+        let i = inside k z x e in
+        (λ n. clash (cc), λ y n. ends y (cc) i.2 (omega (arith, i.0, i.1)) (rw l v) (bytes_at (z + 1) (x - (z + 1)) run) (rw (← v) (rw (found, ← same, t))))
+      where
+        ends : (y : ℕ) → x ≡ y → x ≤ length run → 2 < x → take (length h) word' ≡ h → (body : List ℕ)
+            → first_entry below h (drop 2 run) ≡ ok (record { headword = h; body = body }, drop x run)
+            → (2 < y) × (y ≤ length run) × (take (length h) word' ≡ h)
+            × (body : List ℕ) × (first_entry below h (drop 2 run) ≡ ok (record { headword = h; body = body }, drop y run))
+        ends y m long past front body g = rw (← m) (past, long, front, body, g)
 
 module _ (below : HeadwordOrder) (D : ℕ) (area : List ℕ) (e : Element) (next : Option (List ℕ)) (b : ℕ) (num : e.block ≡ b)
     (size : Size) (told : size ≡ size_told D area b) where
@@ -226,8 +209,8 @@ module _ (below : HeadwordOrder) (D : ℕ) (area : List ℕ) (e : Element) (next
 
     module _ (r : First) (word' : List ℕ) (start : Started below h (run_slice area b n) word' r) where
       -- the first entry is broken or not the element's
-      pub walk_no_first : (k : ℕ) → r ≡ First.Refused k → run_from below D area e next ≡ refused k
-      walk_no_first k q = opened ∙ rw (start.0 k q)
+      pub walk_no_first : r ≡ First.Broken → run_from below D area e next ≡ refused 8
+      walk_no_first q = opened ∙ rw (start.0 q)
 
       -- the first entry is read
       pub reading_start : (x : ℕ) → r ≡ First.Ends x → (k : ℕ) → k ≡ length h → length word' ≡ 256 → Reading below D area e next n (run_slice area b n) word' k x 1
@@ -235,7 +218,7 @@ module _ (below : HeadwordOrder) (D : ℕ) (area : List ℕ) (e : Element) (next
           let (two, inside, whole, body, g) = start.1 x there in
           let d : Entry = record { headword = h; body = body } in
           let (r, same) = first_told below h (drop 2 (run_slice area b n)) (d, drop x (run_slice area b n)) g in
-          let (good, less) = whole_ok below [] (drop 2 (run_slice area b n)) d (drop x (run_slice area b n)) r in
+          let (good, less) = entry_told below [] (drop 2 (run_slice area b n)) d (drop x (run_slice area b n)) r in
           let j : suc (length (run_slice area b n) - 1) ≡ length (run_slice area b n) = omega arith in
           let y : take k word' ≡ h = rw s whole in
           record {
@@ -415,13 +398,13 @@ module _ (w : ℕ) where
 
         module _ (first : First) (word' : List ℕ)
             (start : Started (below_of order) (take (end - (at + w)) (drop (at + w) index)) (run_slice area b n) word' first) where
-          -- the first entry is refused, and by this number
-          pub walk_first : (ms' : List Bool) (k : ℕ) → first ≡ First.Refused k
-              → runs_answer (Runs.Refused k) ms' ≡ tally 0 0 ms₀ (runs_from (below_of order) D area (elements_at w index 0 elements))
-          walk_first ms' k z =
-              walk_refused (below_of order) index area elements D ms₀ words blocks at left ms v some_left k ms'
+          -- row 8: the first entry
+          pub walk_eight : (ms' : List Bool) → first ≡ First.Broken
+              → runs_answer (Runs.Refused 8) ms' ≡ tally 0 0 ms₀ (runs_from (below_of order) D area (elements_at w index 0 elements))
+          walk_eight ms' z =
+              walk_refused (below_of order) index area elements D ms₀ words blocks at left ms v some_left 8 ms'
               (walk_no_first (below_of order) D area (element_at w index at) (following index at left) b number size told n placed
-              (take (end - (at + w)) (drop (at + w) index)) headword first word' start k z)
+              (take (end - (at + w)) (drop (at + w) index)) headword first word' start z)
 
           -- the first entry is read
           pub walk_reading : (x : ℕ) → first ≡ First.Ends x → 256 * D ≡ length area → length word' ≡ 256 → length index ≤ 8_388_608
@@ -455,31 +438,22 @@ module _ (w : ℕ) where
         walk_refused (below_of order) index area elements D ms₀ words blocks at left ms v u.some_left 8 ms'
         (reading_broken (below_of order) D area (element_at w index at) (following index at left) size run word len pos count u.reading st word' step h)
 
-    module _ (k z x : ℕ) (h : st ≡ Step.Entry k z x) (l : Bool) (listed : l ≡ parts_stored (bytes_at (z + 1) (x - (z + 1)) run)) where
-      -- row 16: a part list
-      pub walk_unlisted : (elements : ℕ) (ms₀ ms : List Bool) → Walking (below_of order) index area elements D ms₀ words blocks at left ms → (ms' : List Bool) → not l ≡ true
-          → runs_answer (Runs.Refused 16) ms' ≡ tally 0 0 ms₀ (runs_from (below_of order) D area (elements_at w index 0 elements))
-      walk_unlisted elements ms₀ ms v ms' f =
-          walk_refused (below_of order) index area elements D ms₀ words blocks at left ms v u.some_left 16 ms'
-          (reading_unlisted (below_of order) D area (element_at w index at) (following index at left) size run word len pos count u.reading st word' step k z x h l listed f)
-
-      -- one entry more
-      pub walk_turn : not l ≡ false → StepSpec.Inside pos run st → length word' ≡ length word
-          → Underway order index area D words blocks at left b size run end word' k x (count + 1)
-      walk_turn f place kept =
-          record {
-            standing = u.standing;
-            some_left = u.some_left;
-            number = u.number;
-            ended = u.ended;
-            many_words = u.many_words;
-            many_blocks = u.many_blocks;
-            end_low = u.end_low;
-            small = u.small;
-            long = u.long;
-            reading =
-                reading_turn (below_of order) D area (element_at w index at) (following index at left) size run word len pos count u.reading st word' step k z x h l listed f place kept;
-          }
+    -- one entry more
+    pub walk_turn : StepSpec.Inside pos run st → (k z x : ℕ) → st ≡ Step.Entry k z x → length word' ≡ length word
+        → Underway order index area D words blocks at left b size run end word' k x (count + 1)
+    walk_turn place k z x h l =
+        record {
+          standing = u.standing;
+          some_left = u.some_left;
+          number = u.number;
+          ended = u.ended;
+          many_words = u.many_words;
+          many_blocks = u.many_blocks;
+          end_low = u.end_low;
+          small = u.small;
+          long = u.long;
+          reading = reading_turn (below_of order) D area (element_at w index at) (following index at left) size run word len pos count u.reading st word' step place k z x h l;
+        }
 
     module _ (h : st ≡ Step.End) (kept : Kept word word' st) (t : Bool) (ends : t ≡ last_below (below_of order) (take len word') (next_headword (elements_at w index (end + 1) (left - 1)))) where
       ends_here : t ≡ last_below (below_of order) (take len word) (following index at left)
@@ -515,4 +489,4 @@ module _ (w : ℕ) where
     pub walk_front : (word' : List ℕ) → length word' ≡ length word → len ≡ length (take len word')
     walk_front word' l = sym (length-take-le len word' (omega (arith, u.reading.buffer, u.reading.short)))
 
-pub ruleset runs-laws = (slice_count, walk_start, walk_done, walk_number, zero_behind, zero_inside, walk_seven, walk_first, step_less, walk_broken, walk_unlisted, walk_high, walk_front, rules)
+pub ruleset runs-laws = (slice_count, walk_start, walk_done, walk_number, zero_behind, zero_inside, walk_seven, walk_eight, step_less, walk_broken, walk_high, walk_front, rules)

@@ -37,10 +37,10 @@ unfoldable pub last_below : HeadwordOrder → List ℕ → Option (List ℕ) →
 last_below below h none = true
 last_below below h (some k) = below h k
 
--- what is known of the first entry of a run, which is to have the headword h: by which number it is refused, or where it ends
+-- what is known of the first entry of a run, which is to have the headword h
 abbrev pub Started : HeadwordOrder → List ℕ → List ℕ → List ℕ → First → Type 0
 Started below h run word r =
-    ((n : ℕ) → r ≡ First.Refused n → first_entry below h (drop 2 run) ≡ refused n)
+    (r ≡ First.Broken → first_entry below h (drop 2 run) ≡ refused 8)
     × ((x : ℕ) → r ≡ First.Ends x → (2 < x) × (x ≤ length run) × (take (length h) word ≡ h)
     × (body : List ℕ) × (first_entry below h (drop 2 run) ≡ ok (record { headword = h; body = body }, drop x run)))
 

@@ -1,4 +1,4 @@
-// All runs of an image in index order, rows 7, 8 and 16 of the refusals, and what is counted of them.
+// All runs of an image in index order, rows 7 and 8 of the refusals, and what is counted of them.
 ghost use Rattle.std.specs.Prelude.{◌≡◌, ◌*◌, ◌≤◌, length};
 ghost use Rattle.spec.specs.Order.{below_of};
 ghost use Rattle.spec.specs.Check.{runs_from, next_headword};
@@ -12,17 +12,17 @@ use header::Form;
 use index::element_end;
 use runs::{Size, Step, WORD};
 
-// The entries and the blocks of all runs, or the first of rows 7, 8 and 16 that a run breaks.
+// The entries and the blocks of all runs, or the first of rows 7 and 8 that a run breaks.
 #[derive(Drop)]
 pub enum Runs {
     Read { words: usize, blocks: usize },
     Refused(u32),
 }
 
-// Where the first entry of a run ends, or the number by which it is refused.
+// Where the first entry of a run ends, or that it breaks row 8.
 #[derive(Drop)]
 enum First {
-    Refused(u32),
+    Broken,
     Ends(usize),
 }
 
@@ -34,16 +34,17 @@ fn first_entry(order: usize, run: &[u8], headword: &[u8], word: &mut [u8]) -> Fi
 {
     let st = runs::read_entry(order, run, 2, word, 0);
     match st {
-        Step::Broken => First::Refused(8),
-        Step::End => First::Refused(8),
-        Step::Entry { length, zero, next } => {
-            if !scans::is_equal(&word[..length], headword) {
-                return First::Refused(8);
+        Step::Broken => First::Broken,
+        Step::End => First::Broken,
+        Step::Entry {
+            length,
+            zero: _,
+            next,
+        } => {
+            if scans::is_equal(&word[..length], headword) {
+                return First::Ends(next);
             }
-            if !bodies::parts_stored(run, zero + 1, next) {
-                return First::Refused(16);
-            }
-            First::Ends(next)
+            First::Broken
         }
     }
 }
@@ -82,7 +83,7 @@ fn ends_below(
     scans::is_below(order, last, &index[at + width..end])
 }
 
-// All runs in index order, rows 7, 8 and 16 of each; their blocks are marked as used.
+// All runs in index order, rows 7 and 8 of each; their blocks are marked as used.
 pub fn read_runs(
     form: Form,
     index: &[u8],
@@ -120,12 +121,10 @@ pub fn read_runs(
         let run = &area[256 * b..256 * b + 256 * size];
         let start = at + width;
         let first = first_entry(order, run, &index[start..end], &mut word);
-        let mut pos = match first {
-            First::Refused(n) => {
-                break 'walk Runs::Refused(n);
-            }
-            First::Ends(behind) => behind,
+        let First::Ends(behind) = first else {
+            break 'walk Runs::Refused(8);
         };
+        let mut pos = behind;
         let mut len = end - start;
         let mut count = 1;
         loop {
@@ -137,10 +136,11 @@ pub fn read_runs(
                 Step::End => {
                     break;
                 }
-                Step::Entry { length, zero, next } => {
-                    if !bodies::parts_stored(run, zero + 1, next) {
-                        break 'walk Runs::Refused(16);
-                    }
+                Step::Entry {
+                    length,
+                    zero: _,
+                    next,
+                } => {
                     len = length;
                     pos = next;
                     count += 1;

@@ -30,8 +30,6 @@ guard='signal 139'
 outside="$guard|a byte next to a lent slice or number changed"
 entry='not the (entry|attribute) of this headword|look up after the change has the wrong entry'
 reader='the second reader has another number'
-parts='a length is not the answer|look up after the change has the wrong parts|not a part list'
-first='another number applies first'
 
 try text-one-byte-longer 'an output byte past the answer changed'
 try zero-past-text-slice "$outside"
@@ -77,31 +75,6 @@ try update-twice 'update_count did not rise by one'
 try optimise-drops-first 'the number of headwords is wrong'
 try other-text-changed 'an entry not concerned changed'
 try front-in-a-pair 'a written front is not the largest that ends inside no pair'
-try list-end-not-counted "$parts|an output byte past the answer changed"
-try list-one-byte-longer 'an output byte past the answer changed'
-try list-letter-changed "$entry|$parts"
-try text-length-with-zero "$entry|a length is not the answer|an output byte past the answer changed"
-try zero-past-parts-slice "$outside"
-try walk-without-parts "$parts|the second reader has another entry"
-try 14-without-parts "$first"
-try text-before-14 'an output slice or lent number changed'
-try 16-as-8 "$reader"
-try accepts-16 "$reader"
-try pronunciation-written-first "$parts"
-try other-example-changed "an entry not concerned changed|$parts"
-try 0x10-not-tested "$first"
-try absent-part-read "$first"
-try mark-low-bit "$first"
-try example-of-20001 "$first"
-try reads-past-example "$guard"
-try step-reads-past-list "$guard"
-try step-at-32-bits "$first"
-try step-kind-from-zero 'not the kind of this part'
-try step-place-of-kind "not the place of this part's bytes"
-try step-length-with-zero 'not the length of this part'
-try step-next-at-zero 'not the offset behind this part'
-try step-kind-at-end 'an output slice or lent number changed'
-try step-end-is-16 "$first"
 try nword-kept "check refuses|$reader"
 try L-one-block-more "check refuses|$reader"
 try accepts-10 "$reader"
@@ -110,7 +83,7 @@ try free-blocks-guessed 'the second reader has other free blocks'
 try absent-always 'another number applies first|look up after the change has the wrong number'
 try walk-12-for-empty 'another number applies first'
 try 15-without-placing 'the change has room in the slice'
-try returns-17 'the call may not return this number'
+try returns-16 'the call may not return this number'
 try work-decides 'the same call leaves another image'
 try never-ends 'signal 154'
 if WRONG= ./drive 1 20000 >out 2>&1; then

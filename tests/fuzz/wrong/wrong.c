@@ -1,9 +1,27 @@
-/* Wrong engines: the calls of the right one, each spoiled in one way that WRONG names. */
+/* Wrong engines: the calls of the right one, each spoiled in one way that WRONG names. The right engine's calls are
+   renamed right_pdic_... in a copy of its library. */
+#include <stddef.h>
+#include <stdint.h>
 #include <stdlib.h>
 #include <string.h>
 
-#include "../../right.h"
 #include "pdic.h"
+
+uint32_t right_pdic_check(const uint8_t *image, size_t image_size, size_t len, uint64_t *headwords,
+                          uint64_t *index_blocks, uint64_t *data_blocks, uint64_t *free_blocks);
+uint32_t right_pdic_look_up(const uint8_t *image, size_t image_size, size_t len, const uint8_t *headword,
+                            size_t headword_size, uint8_t *text, size_t text_size, uint8_t *attribute, size_t *text_len);
+uint32_t right_pdic_walk(const uint8_t *image, size_t image_size, size_t len, const uint8_t *headword,
+                         size_t headword_size, uint8_t above, uint8_t *headword_out, size_t headword_out_size,
+                         uint8_t *text, size_t text_size, uint8_t *attribute, size_t *headword_len, size_t *text_len);
+uint32_t right_pdic_create(uint8_t *image, size_t image_size, uint8_t version, uint64_t ident, size_t *new_len);
+uint32_t right_pdic_insert(uint8_t *image, size_t image_size, size_t len, uint8_t *work, size_t work_size,
+                           const uint8_t *headword, size_t headword_size, uint8_t attribute, const uint8_t *text,
+                           size_t text_size, size_t *new_len);
+uint32_t right_pdic_delete(uint8_t *image, size_t image_size, size_t len, uint8_t *work, size_t work_size,
+                           const uint8_t *headword, size_t headword_size, size_t *new_len);
+uint32_t right_pdic_optimise(uint8_t *image, size_t image_size, size_t len, uint8_t *work, size_t work_size,
+                             size_t *new_len);
 
 /* The calls that make the seeds lend at least this much; they are not spoiled. */
 enum { SEED_SLICE = 1 << 17 };
@@ -49,11 +67,6 @@ uint32_t pdic_check(const uint8_t *image, size_t image_size, size_t len, uint64_
         return 0;
     }
     if (number == 9 && is("9-as-10")) return 10;
-    if (number == 16 && is("16-as-8")) return 8;
-    if (number == 16 && is("accepts-16")) {
-        *headwords = *index_blocks = *data_blocks = *free_blocks = 1;
-        return 0;
-    }
     if (number == 9 && is("never-ends"))
         for (volatile int i = 0; i == 0;) continue;
     return number;
@@ -62,82 +75,39 @@ uint32_t pdic_check(const uint8_t *image, size_t image_size, size_t len, uint64_
 /* A look up that answers the next entry's text or attribute. */
 static void spoil_entry(const uint8_t *image, size_t image_size, size_t len, const uint8_t *headword,
                         size_t headword_size, uint8_t *text, size_t text_size, uint8_t *attribute, size_t *text_len) {
-    uint8_t word[PDIC_MAX_HEADWORD], other[PDIC_MAX_TEXT], parts[PDIC_MAX_PARTS], other_attribute;
-    size_t word_size, size, other_parts;
-    if (right_pdic_walk(image, image_size, len, headword, headword_size, 1, word, sizeof word, other, sizeof other, parts,
-                        sizeof parts, &other_attribute, &word_size, &size, &other_parts) != 0)
+    uint8_t word[PDIC_MAX_HEADWORD], other[PDIC_MAX_TEXT], other_attribute;
+    size_t word_size, size;
+    if (right_pdic_walk(image, image_size, len, headword, headword_size, 1, word, sizeof word, other, sizeof other,
+                        &other_attribute, &word_size, &size) != 0)
         return;
     if (is("neighbours-attribute")) *attribute = other_attribute;
     if (is("neighbours-text") && size == *text_len && size <= text_size) memcpy(text, other, size);
 }
 
-/* A part list that was copied, and its length, spoiled. */
-static void spoil_list(uint8_t *parts, size_t parts_size, size_t *text_len, size_t *parts_len) {
-    if (is("zero-past-parts-slice")) parts[parts_size] = 0;
-    if (is("list-one-byte-longer") && *parts_len < parts_size) parts[*parts_len] = 0;
-    if (*parts_len == 0) return;
-    if (is("list-end-not-counted")) *parts_len -= 1;
-    if (is("text-length-with-zero")) *text_len += 1;
-    if (is("list-letter-changed") && parts[1] > 1) parts[1]--;
-}
-
-/* A look up that copies as much of the list as there is room for. */
-static uint32_t without_14(const uint8_t *image, size_t image_size, size_t len, const uint8_t *headword,
-                           size_t headword_size, uint8_t *text, size_t text_size, uint8_t *parts, size_t parts_size,
-                           uint8_t *attribute, size_t *text_len, size_t *parts_len) {
-    uint8_t list[PDIC_MAX_PARTS];
-    uint32_t number = right_pdic_look_up(image, image_size, len, headword, headword_size, text, text_size, list,
-                                         sizeof list, attribute, text_len, parts_len);
-    if (number == 0) memcpy(parts, list, *parts_len < parts_size ? *parts_len : parts_size);
-    return number;
-}
-
 uint32_t pdic_look_up(const uint8_t *image, size_t image_size, size_t len, const uint8_t *headword,
-                      size_t headword_size, uint8_t *text, size_t text_size, uint8_t *parts, size_t parts_size,
-                      uint8_t *attribute, size_t *text_len, size_t *parts_len) {
-    uint32_t number = right_pdic_look_up(image, image_size, len, headword, headword_size, text, text_size, parts,
-                                         parts_size, attribute, text_len, parts_len);
-    if (number == 14 && is("14-without-parts"))
-        number = without_14(image, image_size, len, headword, headword_size, text, text_size, parts, parts_size, attribute,
-                            text_len, parts_len);
+                      size_t headword_size, uint8_t *text, size_t text_size, uint8_t *attribute, size_t *text_len) {
+    uint32_t number = right_pdic_look_up(image, image_size, len, headword, headword_size, text, text_size, attribute,
+                                         text_len);
     if (is("reads-past-headword")) touch(headword + headword_size);
     if (number == 0 && is("absent-always")) return PDIC_ABSENT;
     if (number == 0 && is("text-one-byte-longer") && *text_len < text_size) text[*text_len] = 0;
     if (number == 0 && is("zero-past-text-slice")) text[text_size] = 0;
     if (number == 0 && is("zero-before-text-slice")) text[-1] = 0;
-    if (number == 0) spoil_list(parts, parts_size, text_len, parts_len);
     if (number == 0)
         spoil_entry(image, image_size, len, headword, headword_size, text, text_size, attribute, text_len);
     if (number == PDIC_ABSENT && is("length-on-absent")) *text_len = 0;
-    if (number == 14 && is("text-before-14") && text_size > 0) text[0] ^= 1;
     if (headword_size > 0 && is("argument-lowered")) ((uint8_t *)headword)[0] |= 0x20;
     return number;
 }
 
 uint32_t pdic_walk(const uint8_t *image, size_t image_size, size_t len, const uint8_t *headword, size_t headword_size,
                    uint8_t above, uint8_t *headword_out, size_t headword_out_size, uint8_t *text, size_t text_size,
-                   uint8_t *parts, size_t parts_size, uint8_t *attribute, size_t *headword_len, size_t *text_len,
-                   size_t *parts_len) {
-    uint32_t number =
-        right_pdic_walk(image, image_size, len, headword, headword_size, above, headword_out, headword_out_size, text,
-                        text_size, parts, parts_size, attribute, headword_len, text_len, parts_len);
+                   uint8_t *attribute, size_t *headword_len, size_t *text_len) {
+    uint32_t number = right_pdic_walk(image, image_size, len, headword, headword_size, above, headword_out,
+                                      headword_out_size, text, text_size, attribute, headword_len, text_len);
     if (number == 14 && is("headword-before-14") && headword_out_size > 0) headword_out[0] ^= 1;
     if (number == PDIC_ABSENT && headword_size == 0 && above == 0 && is("walk-12-for-empty")) return 12;
-    if (number == 0 && is("walk-without-parts")) *parts_len = 0;
     return number;
-}
-
-uint32_t pdic_part_step(const uint8_t *parts, size_t parts_size, size_t offset, uint8_t *kind, size_t *place,
-                        size_t *part_len, size_t *next) {
-    if (is("step-reads-past-list")) touch(parts + parts_size);
-    if (is("step-at-32-bits")) offset = (uint32_t)offset;
-    uint32_t number = right_pdic_part_step(parts, parts_size, offset, kind, place, part_len, next);
-    if (number == 0 && is("step-kind-from-zero")) *kind -= 1;
-    if (number == 0 && is("step-place-of-kind")) *place -= 1;
-    if (number == 0 && is("step-length-with-zero")) *part_len += 1;
-    if (number == 0 && is("step-next-at-zero")) *next -= 1;
-    if (number == PDIC_ABSENT && is("step-kind-at-end")) *kind = PDIC_PARTS_END;
-    return number == PDIC_ABSENT && is("step-end-is-16") ? 16 : number;
 }
 
 uint32_t pdic_create(uint8_t *image, size_t image_size, uint8_t version, uint64_t ident, size_t *new_len) {
@@ -174,26 +144,6 @@ static void change_text(uint8_t *image, size_t len) {
     size_t at = 256;
     while (at + 3 < len && memcmp(image + at, "ttt", 3) != 0) at++;
     if (at + 3 < len) image[at] = 'u';
-}
-
-/* The two parts of an inserted entry change places, or the first letter of an example of another does. */
-static void spoil_parts(uint8_t *image, size_t len, const uint8_t *headword, size_t headword_size) {
-    static uint8_t list[PDIC_MAX_PARTS], turned[PDIC_MAX_PARTS];
-    uint8_t text[PDIC_MAX_TEXT], attribute, kind;
-    size_t text_size, size, place, length, next;
-    uint8_t *at = image + 256;
-    if (is("other-example-changed")) {
-        while (at + 3 < image + len && memcmp(at, "\x01" "ee", 3) != 0) at++;
-        if (at + 3 < image + len) at[1] = 'f';
-    }
-    if (!is("pronunciation-written-first")) return;
-    right_pdic_look_up(image, len, len, headword, headword_size, text, sizeof text, list, sizeof list, &attribute,
-                       &text_size, &size);
-    if (size == 0 || right_pdic_part_step(list, size, 0, &kind, &place, &length, &next) != 0) return;
-    memcpy(turned, list + next, size - 1 - next);
-    memcpy(turned + (size - 1 - next), list, next);
-    while (at + size < image + len && memcmp(at, list, size) != 0) at++;
-    if (at + size < image + len) memcpy(at, turned, size - 1);
 }
 
 /* The image slice before an insertion or an optimising. */
@@ -249,31 +199,18 @@ static uint32_t spoil_inserted(uint8_t *image, size_t image_size, size_t len, ui
     if (number == 0 && is("counts-at-4") && is_5(image)) counts_at_4(image);
     if (number == 0 && is("other-text-changed")) change_text(image, len);
     if (number == 13 && is("refused-image-touched")) image[0] ^= 1;
-    return number == 12 && is("returns-17") ? 17 : number;
-}
-
-/* Whether a part that is not there could not be one. */
-static int unfit(uint8_t there, const uint8_t *bytes, size_t size, size_t most) {
-    return !there && (size > most || memchr(bytes, 0, size) != NULL);
+    return number == 12 && is("returns-16") ? 16 : number;
 }
 
 uint32_t pdic_insert(uint8_t *image, size_t image_size, size_t len, uint8_t *work, size_t work_size,
                      const uint8_t *headword, size_t headword_size, uint8_t attribute, const uint8_t *text,
-                     size_t text_size, uint8_t has_example, const uint8_t *example, size_t example_size,
-                     uint8_t has_pronunciation, const uint8_t *pronunciation, size_t pronunciation_size, size_t *new_len) {
+                     size_t text_size, size_t *new_len) {
     uint8_t first = work_size > 0 ? work[0] : 0;
     size_t old = *new_len, less_text = text_size > 0 && is("inserted-text-cut");
     if (image_size < SEED_SLICE) memcpy(before, image, image_size);
-    if (is("0x10-not-tested")) attribute = has_example || has_pronunciation ? attribute | PDIC_PARTS : attribute & 0xEF;
-    if (is("reads-past-example")) touch(example + example_size);
-    if (is("mark-low-bit") && image_size < SEED_SLICE) has_example &= 1, has_pronunciation &= 1;
-    size_t less_part = example_size == PDIC_MAX_EXAMPLE + 1 && is("example-of-20001");
-    uint32_t number = right_pdic_insert(image, image_size, len, work, work_size, headword, headword_size, attribute, text,
-                                        text_size - less_text, has_example, example, example_size - less_part,
-                                        has_pronunciation, pronunciation, pronunciation_size, new_len);
+    uint32_t number = right_pdic_insert(image, image_size, len, work, work_size, headword, headword_size, attribute,
+                                        text, text_size - less_text, new_len);
     if (image_size >= SEED_SLICE) return number;
-    if (number == 0 && is("absent-part-read") && unfit(has_pronunciation, pronunciation, pronunciation_size, 1000)) number = 13;
-    if (number == 0) spoil_parts(image, *new_len, headword, headword_size);
     if (number == 0) spoil_done(image, image_size, new_len, work, work_size, first);
     if (number == 0 && is("front-in-a-pair")) common_fronts(run_of(image, headword, headword_size));
     uint32_t spoiled = spoil_inserted(image, image_size, *new_len, number);
@@ -290,11 +227,11 @@ uint32_t pdic_delete(uint8_t *image, size_t image_size, size_t len, uint8_t *wor
 
 /* Removes the first entry; the update count stays. */
 static void drop_first(uint8_t *image, size_t image_size, uint8_t *work, size_t work_size, size_t *new_len) {
-    uint8_t word[PDIC_MAX_HEADWORD], text[PDIC_MAX_TEXT], parts[PDIC_MAX_PARTS], attribute, count[4];
-    size_t word_size, text_size, parts_size;
+    uint8_t word[PDIC_MAX_HEADWORD], text[PDIC_MAX_TEXT], attribute, count[4];
+    size_t word_size, text_size;
     memcpy(count, image + 208, 4);
-    if (right_pdic_walk(image, image_size, *new_len, count, 0, 0, word, sizeof word, text, sizeof text, parts,
-                        sizeof parts, &attribute, &word_size, &text_size, &parts_size) == 0)
+    if (right_pdic_walk(image, image_size, *new_len, count, 0, 0, word, sizeof word, text, sizeof text, &attribute,
+                        &word_size, &text_size) == 0)
         right_pdic_delete(image, image_size, *new_len, work, work_size, word, word_size, new_len);
     memcpy(image + 208, count, 4);
 }

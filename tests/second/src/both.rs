@@ -1,12 +1,11 @@
 //! Each call made by the engine and by the second reader or editor; every answer and every
 //! byte of every lent slice is compared, guards too.
 
-use crate::calls::{self, Answer, Read, Sizes};
-use crate::editor::{self, Given, Insertion, Slices, Told};
-use crate::engine::{self, Inputs, LengthCells, Lent, Outputs};
-use crate::parts;
+use crate::calls::{self, Answer, Read};
+use crate::editor::{self, Slices, Told};
+use crate::engine::{self, Lent};
 use crate::random::Random;
-use crate::reader::{at, Entry, BLOCK};
+use crate::reader::{at, BLOCK};
 use std::fmt::Write;
 
 /// A difference in words.
@@ -25,8 +24,14 @@ pub struct Both {
 /// A changing call's arguments.
 #[derive(Clone, Debug)]
 pub enum Change {
-    Insert(Insertion),
-    Delete { headword: Vec<u8> },
+    Insert {
+        headword: Vec<u8>,
+        attribute: u8,
+        text: Vec<u8>,
+    },
+    Delete {
+        headword: Vec<u8>,
+    },
     Optimise,
 }
 
@@ -34,25 +39,21 @@ impl Change {
     /// The call and its arguments in words.
     pub fn story(&self) -> String {
         match self {
-            Change::Insert(insertion) => format!(
-                "insert, headword {}, attribute {:#04x}, text of {} bytes {}, example {}, pronunciation {}",
-                hex(&insertion.headword),
-                insertion.attribute,
-                insertion.text.len(),
-                hex(&insertion.text),
-                given_story(&insertion.example),
-                given_story(&insertion.pronunciation)
+            Change::Insert {
+                headword,
+                attribute,
+                text,
+            } => format!(
+                "insert, headword {}, attribute {:#04x}, text of {} bytes {}",
+                hex(headword),
+                attribute,
+                text.len(),
+                hex(text)
             ),
             Change::Delete { headword } => format!("delete, headword {}", hex(headword)),
             Change::Optimise => "optimise".to_string(),
         }
     }
-}
-
-/// A part as lent, in words.
-fn given_story(given: &Given) -> String {
-    let (mark, size) = (given.mark, given.bytes.len());
-    format!("marked {}, of {} bytes {}", mark, size, hex(&given.bytes))
 }
 
 fn same(what: &str, ours: &Lent, engine: &Lent) -> Result<(), Differs> {
@@ -69,29 +70,11 @@ fn same(what: &str, ours: &Lent, engine: &Lent) -> Result<(), Differs> {
     }
 }
 
-fn same_lengths(ours: &LengthCells, engine: &LengthCells) -> Result<(), Differs> {
+fn same_lengths(ours: &[usize; 5], engine: &[usize; 5]) -> Result<(), Differs> {
     if ours == engine {
         return Ok(());
     }
     Err(format!("lengths {:?} instead of {:?}", engine, ours))
-}
-
-fn same_outputs(ours: &Outputs, engine: &Outputs) -> Result<(), Differs> {
-    same("headword output", &ours.headword, &engine.headword)
-        .and(same("text slice", &ours.text, &engine.text))
-        .and(same("parts slice", &ours.parts, &engine.parts))
-        .and(same("attribute", &ours.attribute, &engine.attribute))
-        .and(same_lengths(&ours.lengths, &engine.lengths))
-}
-
-/// What lookup and walk write with 0. The list is copied "as stored", and its length is "0 without
-/// parts".
-fn put_entry(out: &mut Outputs, entry: &Entry) {
-    out.text.put(&entry.text);
-    out.parts.put(&entry.list);
-    out.attribute.put(&[entry.attribute]);
-    out.lengths[1] = entry.text.len();
-    out.lengths[5] = entry.list.len();
 }
 
 /// The eight bytes at 216 of a version 5 file.
@@ -134,18 +117,8 @@ impl Both {
         work
     }
 
-    fn lengths(&mut self) -> LengthCells {
-        [(); 7].map(|_| self.random.next() as usize)
-    }
-
-    fn outputs(&mut self, sizes: Sizes) -> Outputs {
-        Outputs {
-            headword: self.lend_output(sizes.headword),
-            text: self.lend_output(sizes.text),
-            parts: self.lend_output(sizes.parts),
-            attribute: self.lend_output(1),
-            lengths: self.lengths(),
-        }
+    fn lengths(&mut self) -> [usize; 5] {
+        [(); 5].map(|_| self.random.next() as usize)
     }
 
     /// The number, the identifier and the image slice, which every call compares.
@@ -193,34 +166,47 @@ impl Both {
         Ok(number)
     }
 
-    /// Look up; the size for a headword is not used.
     pub fn look_up(
         &mut self,
         read: &Read,
         len: usize,
         word: &[u8],
-        sizes: Sizes,
+        text_size: usize,
     ) -> Result<u32, Differs> {
         let mut headword = self.lend(word);
-        let mut out = self.outputs(sizes);
+        let mut text = self.lend_output(text_size);
+        let mut attribute = self.lend_output(1);
+        let mut lengths = self.lengths();
         let headword_before = headword.clone();
-        let mut expected = out.clone();
-        let answer = calls::look_up(read, word, sizes);
+        let mut text_expected = text.clone();
+        let mut attribute_expected = attribute.clone();
+        let mut lengths_expected = lengths;
+        let answer = calls::look_up(read, word, text_size);
         if let Answer::Done(entry) = answer {
-            put_entry(&mut expected, entry);
+            text_expected.put(&entry.text);
+            attribute_expected.put(&[entry.attribute]);
+            lengths_expected[1] = entry.text.len();
         }
-        let number = engine::look_up(&mut self.engine, len, &mut headword, &mut out);
+        let number = engine::look_up(
+            &mut self.engine,
+            len,
+            &mut headword,
+            &mut text,
+            &mut attribute,
+            &mut lengths,
+        );
         let differs = self
             .compare(answer.number(), number)
             .and(same("headword slice", &headword_before, &headword))
-            .and(same_outputs(&expected, &out));
+            .and(same("text slice", &text_expected, &text))
+            .and(same("attribute", &attribute_expected, &attribute))
+            .and(same_lengths(&lengths_expected, &lengths));
         differs.map(|_| number).map_err(|differs| {
             format!(
-                "look up, L {}, headword {}, text slice {}, parts slice {}: {}",
+                "look up, L {}, headword {}, text slice {}: {}",
                 len,
                 hex(word),
-                sizes.text,
-                sizes.parts,
+                text_size,
                 differs
             )
         })
@@ -232,62 +218,52 @@ impl Both {
         len: usize,
         word: &[u8],
         above: u8,
-        sizes: Sizes,
+        sizes: (usize, usize),
     ) -> Result<u32, Differs> {
         let mut headword = self.lend(word);
-        let mut out = self.outputs(sizes);
+        let mut headword_out = self.lend_output(sizes.0);
+        let mut text = self.lend_output(sizes.1);
+        let mut attribute = self.lend_output(1);
+        let mut lengths = self.lengths();
         let headword_before = headword.clone();
-        let mut expected = out.clone();
+        let mut headword_expected = headword_out.clone();
+        let mut text_expected = text.clone();
+        let mut attribute_expected = attribute.clone();
+        let mut lengths_expected = lengths;
         // "above: 0 means not below, anything else above".
-        let answer = calls::walk(read, word, above != 0, sizes);
+        let answer = calls::walk(read, word, above != 0, sizes.0, sizes.1);
         if let Answer::Done(entry) = answer {
-            put_entry(&mut expected, entry);
-            expected.headword.put(&entry.headword);
-            expected.lengths[3] = entry.headword.len();
+            headword_expected.put(&entry.headword);
+            text_expected.put(&entry.text);
+            attribute_expected.put(&[entry.attribute]);
+            lengths_expected[1] = entry.text.len();
+            lengths_expected[3] = entry.headword.len();
         }
-        let number = engine::walk(&mut self.engine, len, &mut headword, above, &mut out);
+        let number = engine::walk(
+            &mut self.engine,
+            len,
+            &mut headword,
+            above,
+            &mut headword_out,
+            &mut text,
+            &mut attribute,
+            &mut lengths,
+        );
         let differs = self
             .compare(answer.number(), number)
             .and(same("headword slice", &headword_before, &headword))
-            .and(same_outputs(&expected, &out));
+            .and(same("headword output", &headword_expected, &headword_out))
+            .and(same("text slice", &text_expected, &text))
+            .and(same("attribute", &attribute_expected, &attribute))
+            .and(same_lengths(&lengths_expected, &lengths));
         differs.map(|_| number).map_err(|differs| {
             format!(
-                "walk, L {}, headword {}, above {}, output {:?}: {}",
+                "walk, L {}, headword {}, above {}, output slices {} and {}: {}",
                 len,
                 hex(word),
                 above,
-                sizes,
-                differs
-            )
-        })
-    }
-
-    /// A step through a part list, which is no image's.
-    pub fn part_step(&mut self, list: &[u8], offset: usize) -> Result<u32, Differs> {
-        let mut lent = self.lend(list);
-        let mut kind = self.lend_output(1);
-        let mut lengths = self.lengths();
-        let list_before = lent.clone();
-        let mut kind_expected = kind.clone();
-        let mut expected = lengths;
-        let answer = parts::step(list, offset);
-        if let Answer::Done(part) = answer {
-            kind_expected.put(&[part.kind]);
-            expected[1] = part.place;
-            expected[3] = part.length;
-            expected[5] = part.next();
-        }
-        let number = engine::part_step(&mut lent, offset, &mut kind, &mut lengths);
-        let differs = self
-            .compare(answer.number(), number)
-            .and(same("parts slice", &list_before, &lent))
-            .and(same("kind", &kind_expected, &kind))
-            .and(same_lengths(&expected, &lengths));
-        differs.map(|_| number).map_err(|differs| {
-            format!(
-                "part step, list {}, offset {}: {}",
-                hex(list),
-                offset,
+                sizes.0,
+                sizes.1,
                 differs
             )
         })
@@ -317,26 +293,6 @@ impl Both {
         })
     }
 
-    /// The slices that a change reads; a deletion reads the headword alone.
-    fn inputs(&mut self, change: &Change) -> Inputs {
-        let none = Insertion::plain(vec![], 0, vec![]);
-        let (insertion, headword) = match change {
-            Change::Insert(insertion) => (insertion, &insertion.headword),
-            Change::Delete { headword } => (&none, headword),
-            Change::Optimise => (&none, &none.headword),
-        };
-        let mut part = |given: &Given| (given.mark, self.lend(&given.bytes));
-        let example = part(&insertion.example);
-        let pronunciation = part(&insertion.pronunciation);
-        Inputs {
-            headword: self.lend(headword),
-            attribute: insertion.attribute,
-            text: self.lend(&insertion.text),
-            example,
-            pronunciation,
-        }
-    }
-
     /// A changing call at `len` with a working slice of `work_size` bytes; what the second
     /// editor tells goes to `told`.
     pub fn change(
@@ -359,19 +315,33 @@ impl Both {
         if let Answer::Done(new_len) = answer {
             expected[1] = new_len;
         }
-        let mut given = self.inputs(change);
-        let given_before = given.clone();
+        let (word, text): (&[u8], &[u8]) = match change {
+            Change::Insert { headword, text, .. } => (headword, text),
+            Change::Delete { headword } => (headword, &[]),
+            Change::Optimise => (&[], &[]),
+        };
+        let mut word = self.lend(word);
+        let mut text = self.lend(text);
+        let (word_before, text_before) = (word.clone(), text.clone());
         let image = &mut self.engine;
-        let word = &mut given.headword;
         let number = match change {
-            Change::Insert(_) => engine::insert(image, len, &mut work, &mut given, &mut lengths),
-            Change::Delete { .. } => engine::delete(image, len, &mut work, word, &mut lengths),
+            Change::Insert { attribute, .. } => engine::insert(
+                image,
+                len,
+                &mut work,
+                &mut word,
+                *attribute,
+                &mut text,
+                &mut lengths,
+            ),
+            Change::Delete { .. } => engine::delete(image, len, &mut work, &mut word, &mut lengths),
             Change::Optimise => engine::optimise(image, len, &mut work, &mut lengths),
         };
         let differs = self
             .compare(answer.number(), number)
             .and(same("working slice", &work_expected, &work))
-            .and(same_inputs(&given_before, &given))
+            .and(same("headword slice", &word_before, &word))
+            .and(same("text slice", &text_before, &text))
             .and(same_lengths(&expected, &lengths));
         differs.map(|_| answer).map_err(|differs| {
             format!(
@@ -386,22 +356,14 @@ impl Both {
     }
 }
 
-fn same_inputs(before: &Inputs, after: &Inputs) -> Result<(), Differs> {
-    let (example, pronunciation) = (&after.example.1, &after.pronunciation.1);
-    same("headword slice", &before.headword, &after.headword)
-        .and(same("text slice", &before.text, &after.text))
-        .and(same("example slice", &before.example.1, example))
-        .and(same(
-            "pronunciation slice",
-            &before.pronunciation.1,
-            pronunciation,
-        ))
-}
-
 /// The second editor's call.
 fn ours(lent: Slices, change: &Change, told: &mut Told) -> Answer<usize> {
     match change {
-        Change::Insert(insertion) => editor::insert(lent, insertion, told),
+        Change::Insert {
+            headword,
+            attribute,
+            text,
+        } => editor::insert(lent, headword, *attribute, text, told),
         Change::Delete { headword } => editor::delete(lent, headword, told),
         Change::Optimise => editor::optimise(lent, told),
     }

@@ -1,7 +1,6 @@
 //! Check, look up and walk, answered from the values of an image that was read.
 
-use crate::parts::MOST_LIST;
-use crate::reader::{Entry, Image, MOST_HEADWORD, MOST_TEXT};
+use crate::reader::{Entry, Image, MOST_HEADWORD};
 
 /// What reading an image gave: its values, or the number of a refusal.
 pub type Read = Result<Image, u32>;
@@ -49,35 +48,8 @@ pub fn check(read: &Read) -> Answer<Counts> {
     }
 }
 
-/// Sizes of the output slices: for the headword (walk only), the text and the part list.
-#[derive(Clone, Copy, Debug, PartialEq, Eq)]
-pub struct Sizes {
-    pub headword: usize,
-    pub text: usize,
-    pub parts: usize,
-}
-
-/// Slices that are never too short.
-pub const ROOM: Sizes = Sizes {
-    headword: MOST_HEADWORD,
-    text: MOST_TEXT,
-    parts: MOST_LIST,
-};
-
-/// 14: "an output slice too short for the answer"; lookup and walk "copy the list as stored, 0x80
-/// included, to one more output slice that 14 also covers".
-fn fitted(entry: &Entry, sizes: Sizes) -> Answer<&Entry> {
-    let short = sizes.headword < entry.headword.len()
-        || sizes.text < entry.text.len()
-        || sizes.parts < entry.list.len();
-    match short {
-        true => Answer::Refused(14),
-        false => Answer::Done(entry),
-    }
-}
-
 /// "Look up: attribute, text (to an output slice) and its length, or absent."
-pub fn look_up<'a>(read: &'a Read, headword: &[u8], sizes: Sizes) -> Answer<&'a Entry> {
+pub fn look_up<'a>(read: &'a Read, headword: &[u8], text_size: usize) -> Answer<&'a Entry> {
     let image = match read {
         Err(number) => return Answer::Refused(*number),
         Ok(image) => image,
@@ -88,21 +60,22 @@ pub fn look_up<'a>(read: &'a Read, headword: &[u8], sizes: Sizes) -> Answer<&'a 
     }
     match image.entries().find(|entry| entry.headword == headword) {
         None => Answer::Absent,
-        // It has no output slice for the headword.
-        Some(entry) => fitted(
-            entry,
-            Sizes {
-                headword: MOST_HEADWORD,
-                ..sizes
-            },
-        ),
+        // 14: "an output slice too short for the answer".
+        Some(entry) if text_size < entry.text.len() => Answer::Refused(14),
+        Some(entry) => Answer::Done(entry),
     }
 }
 
 /// "Walk: the least entry not below, or (as told) above, a given headword; headword and
 /// text go to two output slices. An empty given headword means from the start. Past the
 /// last: absent."
-pub fn walk<'a>(read: &'a Read, headword: &[u8], above: bool, sizes: Sizes) -> Answer<&'a Entry> {
+pub fn walk<'a>(
+    read: &'a Read,
+    headword: &[u8],
+    above: bool,
+    headword_out_size: usize,
+    text_size: usize,
+) -> Answer<&'a Entry> {
     let image = match read {
         Err(number) => return Answer::Refused(*number),
         Ok(image) => image,
@@ -123,6 +96,9 @@ pub fn walk<'a>(read: &'a Read, headword: &[u8], above: bool, sizes: Sizes) -> A
     // The entries ascend, so the first that fits is the least.
     match image.entries().find(wanted) {
         None => Answer::Absent,
-        Some(entry) => fitted(entry, sizes),
+        Some(entry) if headword_out_size < entry.headword.len() || text_size < entry.text.len() => {
+            Answer::Refused(14)
+        }
+        Some(entry) => Answer::Done(entry),
     }
 }

@@ -171,20 +171,7 @@ fn good(mut random: Random, kind: Kind) -> Case {
 const TRIES: usize = 60;
 
 fn damaged(mut random: Random, kind: Kind, times: usize) -> Case {
-    let chosen: Vec<usize> = (0..times).map(|_| random.below(DAMAGES.len())).collect();
-    damaged_by(random, kind, chosen)
-}
-
-/// An image with one damage, whose name begins so.
-pub fn damaged_as(mut random: Random, name: &str) -> Case {
-    let named = |i: &usize| DAMAGES[*i].name.starts_with(name);
-    let fits: Vec<usize> = (0..DAMAGES.len()).filter(named).collect();
-    let chosen = vec![*random.pick(&fits)];
-    damaged_by(random, Kind::Mixed, chosen)
-}
-
-fn damaged_by(mut random: Random, kind: Kind, mut chosen: Vec<usize>) -> Case {
-    let times = chosen.len();
+    let mut chosen: Vec<usize> = (0..times).map(|_| random.below(DAMAGES.len())).collect();
     chosen.sort();
     chosen.dedup();
     for _ in 0..TRIES {

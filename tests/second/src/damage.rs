@@ -3,16 +3,13 @@
 //! values or to the bytes, and tells whether the image had a place for it.
 
 use crate::make::{
-    any_identifier, cut, encoded_size, entry, fit_index, fit_run, give_list, list_of, longest_list,
-    mend_fronts, part, part_list, plain_entry, put_four, put_two, text, Cut, EntryAt, Fronts, Made,
-    Sketch, Wanted,
+    any_identifier, cut, encoded_size, entry, fit_index, fit_run, mend_fronts, put_four, put_two,
+    text, Cut, Fronts, Made, Sketch, Wanted,
 };
-use crate::parts::{parts_of, EXAMPLE, LIST_END, MOST_EXAMPLE, MOST_PRONUNCIATION};
-use crate::parts::{PRONUNCIATION, WITH_PARTS};
 use crate::random::Random;
 use crate::reader::{
-    at, format, four, has_parts, two, Entry, Format, Image, Run, BLOCK, CHAIN_END, FORMATS,
-    MOST_BLOCKS, MOST_DATA, MOST_HEADWORD, MOST_TEXT,
+    at, format, four, two, Format, Image, Run, BLOCK, CHAIN_END, FORMATS, MOST_BLOCKS, MOST_DATA,
+    MOST_HEADWORD, MOST_TEXT,
 };
 
 type OnSketch = fn(&mut Sketch, &mut Random) -> bool;
@@ -249,10 +246,10 @@ pub const DAMAGES: &[Damage] = &[
     }),
     bytes(8, "field one byte longer, over the end marks", |m, r| {
         // The last entry's text takes in the first zero.
-        last_length(m, r, false, 1)
+        last_length(m, r, 1)
     }),
     bytes(8, "field two bytes longer, over the end marks", |m, r| {
-        last_length(m, r, false, 2)
+        last_length(m, r, 2)
     }),
     bytes(8, "field past the run's blocks", |m, r| {
         let Some((run, entry)) = an_entry(m, r, 0) else {
@@ -297,42 +294,23 @@ pub const DAMAGES: &[Damage] = &[
         s.runs[run].entries[entry].attribute &= 0x7F;
         true
     }),
-    bytes(8, "0x10 and a text without its zero", |m, r| {
-        let Some(place) = with(m, r, false) else {
-            return false;
-        };
-        m.bytes[place.attribute] |= WITH_PARTS;
-        true
-    }),
-    bytes(8, "0x10 and no byte behind the attribute", |m, r| {
-        let Some(place) = with(m, r, true) else {
-            return false;
-        };
-        two_at(m, place.length, place.text - place.rest)
-    }),
-    bytes(8, "0x10 and a field that ends in its text", |m, r| {
-        let Some(place) = with(m, r, true) else {
-            return false;
-        };
-        two_at(m, place.length, place.text_end - place.rest)
-    }),
-    bytes(8, "parts without 0x10", |m, r| {
-        let Some(place) = with(m, r, true) else {
-            return false;
-        };
-        m.bytes[place.attribute] &= !WITH_PARTS;
-        true
-    }),
-    sketch(8, "zero byte in a text without parts", |s, r| {
+    sketch(8, "attribute with 0x10", |s, r| {
         let Some((run, entry)) = sketched(s, r, 0) else {
             return false;
         };
-        let entry = &mut s.runs[run].entries[entry];
-        let Some(place) = some(entry.text.len(), r) else {
+        s.runs[run].entries[entry].attribute |= 0x10;
+        true
+    }),
+    sketch(8, "zero byte in a text", |s, r| {
+        let Some((run, entry)) = sketched(s, r, 0) else {
             return false;
         };
-        entry.text[place] = 0;
-        !has_parts(entry.attribute)
+        let text = &mut s.runs[run].entries[entry].text;
+        let Some(place) = some(text.len(), r) else {
+            return false;
+        };
+        text[place] = 0;
+        true
     }),
     sketch(8, "text of 3,001 bytes", |s, r| {
         long_text(s, r, MOST_TEXT + 1)
@@ -435,114 +413,6 @@ pub const DAMAGES: &[Damage] = &[
         }
         run.blocks = need - 1;
         true
-    }),
-    // 16.
-    sketch(16, "part list empty", |s, r| a_list(s, r, |_, _| vec![])),
-    sketch(16, "part list of 0x80 alone", |s, r| {
-        a_list(s, r, |_, _| vec![LIST_END])
-    }),
-    sketch(16, "part list without 0x80", |s, r| {
-        a_list(s, r, |list, _| list[..list.len() - 1].to_vec())
-    }),
-    sketch(16, "last part without its zero", |s, r| {
-        a_list(s, r, |list, _| {
-            [&list[..list.len() - 2], &[LIST_END]].concat()
-        })
-    }),
-    sketch(16, "last part without its zero, no 0x80", |s, r| {
-        a_list(s, r, |list, _| list[..list.len() - 2].to_vec())
-    }),
-    sketch(16, "kind byte alone", |s, r| {
-        a_list(s, r, |list, _| list[..1].to_vec())
-    }),
-    sketch(16, "byte behind 0x80", |s, r| {
-        a_list(s, r, |list, r| {
-            let any = r.byte();
-            [list, &[*r.pick(&[0, EXAMPLE, LIST_END, any])]].concat()
-        })
-    }),
-    sketch(16, "list behind a list", |s, r| {
-        a_list(s, r, |list, _| [list, list].concat())
-    }),
-    sketch(16, "0x80 in front of a list", |s, r| {
-        a_list(s, r, |list, _| [&[LIST_END], list].concat())
-    }),
-    sketch(16, "zero in the place of 0x80", |s, r| {
-        a_list(s, r, |list, _| [&list[..list.len() - 1], &[0]].concat())
-    }),
-    sketch(16, "first kind none", |s, r| {
-        a_list(s, r, |list, r| [&[no_kind(r)], &list[1..]].concat())
-    }),
-    sketch(16, "second kind none", |s, r| {
-        a_list(s, r, |_, r| {
-            let kinds = [a_kind(r), no_kind(r)];
-            short_parts(r, &kinds)
-        })
-    }),
-    sketch(16, "two examples", |s, r| {
-        a_list(s, r, |_, r| short_parts(r, &[EXAMPLE, EXAMPLE]))
-    }),
-    sketch(16, "two pronunciations", |s, r| {
-        a_list(s, r, |_, r| short_parts(r, &[PRONUNCIATION, PRONUNCIATION]))
-    }),
-    sketch(16, "three parts", |s, r| {
-        a_list(s, r, |_, r| {
-            let kinds = [EXAMPLE, PRONUNCIATION];
-            let first = r.below(2);
-            let third = a_kind(r);
-            short_parts(r, &[kinds[first], kinds[1 - first], third])
-        })
-    }),
-    sketch(16, "zero in a part", |s, r| {
-        a_list(s, r, |_, r| {
-            // No kind behind the zero, nor 0x80 as the last byte.
-            let size = r.range(0, 9);
-            let mut bytes = part(r, size);
-            let place = r.below(size + 1);
-            bytes.splice(place..place, [0, b'a']);
-            list_of(&[(a_kind(r), bytes)])
-        })
-    }),
-    sketch(16, "zero in a text with parts", |s, r| {
-        let Some(entry) = listed(s, r) else {
-            return false;
-        };
-        let place = r.below(entry.text.len() + 1);
-        entry.text.splice(place..place, [0, b'a']);
-        true
-    }),
-    sketch(16, "example of 20,001 bytes", |s, r| {
-        a_list(s, r, |_, r| long_part(r, EXAMPLE, MOST_EXAMPLE + 1))
-    }),
-    sketch(16, "example of 20,002 to 30,000 bytes", |s, r| {
-        let size = r.range(20_002, 30_000);
-        a_list(s, r, |_, r| long_part(r, EXAMPLE, size))
-    }),
-    sketch(16, "pronunciation of 1,001 bytes", |s, r| {
-        let size = MOST_PRONUNCIATION + 1;
-        a_list(s, r, |_, r| long_part(r, PRONUNCIATION, size))
-    }),
-    sketch(16, "pronunciation of 1,002 to 20,000 bytes", |s, r| {
-        let size = r.range(1_002, 20_000);
-        a_list(s, r, |_, r| long_part(r, PRONUNCIATION, size))
-    }),
-    bytes(16, "field one byte longer, behind 0x80", |m, r| {
-        last_length(m, r, true, 1)
-    }),
-    bytes(16, "field two bytes longer, behind 0x80", |m, r| {
-        last_length(m, r, true, 2)
-    }),
-    bytes(16, "field that ends in front of 0x80", |m, r| {
-        let Some(place) = with(m, r, true) else {
-            return false;
-        };
-        two_at(m, place.length, place.end - place.rest - 1)
-    }),
-    bytes(16, "field that ends with the text's zero", |m, r| {
-        let Some(place) = with(m, r, true) else {
-            return false;
-        };
-        two_at(m, place.length, place.text_end + 1 - place.rest)
     }),
     // Row 9, blocks.
     values(
@@ -781,117 +651,7 @@ pub const DAMAGES: &[Damage] = &[
     bytes(0, "another identifier", |m, r| {
         unnamed(m, at::IDENTIFIER, &any_identifier(r).to_le_bytes())
     }),
-    sketch(0, "longest parts", |s, r| {
-        a_list(s, r, |_, r| longest_list(r))
-    }),
-    sketch(0, "the longest entry, in 95 blocks", |s, r| {
-        let Some(run) = s.runs.last_mut() else {
-            return false;
-        };
-        let entry = &mut run.entries[0];
-        lengthen(&mut entry.headword, r, MOST_HEADWORD);
-        entry.text = text(r, MOST_TEXT);
-        let parts = [
-            (EXAMPLE, part(r, MOST_EXAMPLE)),
-            (PRONUNCIATION, part(r, MOST_PRONUNCIATION)),
-        ];
-        give_list(entry, list_of(&parts));
-        run.entries.truncate(1);
-        run.spare = 0;
-        encoded_size(&run.entries).div_ceil(BLOCK) == 95
-    }),
-    sketch(0, "parts in the order 02, 01", |s, r| {
-        a_list(s, r, |_, r| short_parts(r, &[PRONUNCIATION, EXAMPLE]))
-    }),
-    sketch(0, "empty parts", |s, r| {
-        a_list(s, r, |_, r| part_list(r, 0))
-    }),
-    // The order of 8 and 16 in a run.
-    sketch(8, "order: 8 and 16 in one entry, no ascent", |s, r| {
-        two_faults(s, r, Faults::Same, no_ascent)
-    }),
-    sketch(8, "order: 8 and 16 in one entry, attribute", |s, r| {
-        two_faults(s, r, Faults::Same, no_high_bit)
-    }),
-    sketch(8, "order: 8 and 16 in one entry, text of 3,001", |s, r| {
-        two_faults(s, r, Faults::Same, over_text)
-    }),
-    bytes(8, "order: 8 and 16 in one entry, front", |m, r| {
-        let Some(place) = with(m, r, true) else {
-            return false;
-        };
-        m.bytes[place.end - 1] = 0;
-        m.bytes[place.front] = 255;
-        true
-    }),
-    bytes(8, "order: 8 and 16 in one entry, its element's", |m, r| {
-        let Some(first) = some(m.runs.len(), r).map(|i| m.runs[i].entries[0]) else {
-            return false;
-        };
-        m.bytes[first.end - 1] = 0;
-        let last = &mut m.bytes[first.zero - 1];
-        *last = if *last > 1 { *last - 1 } else { 2 };
-        first.text_end < first.end
-    }),
-    sketch(
-        8,
-        "order: 8 before 16 of a later entry, no ascent",
-        |s, r| two_faults(s, r, Faults::ListLater, no_ascent),
-    ),
-    sketch(
-        8,
-        "order: 8 before 16 of a later entry, attribute",
-        |s, r| two_faults(s, r, Faults::ListLater, no_high_bit),
-    ),
-    sketch(8, "order: 8 before 16 of a later entry, text", |s, r| {
-        two_faults(s, r, Faults::ListLater, over_text)
-    }),
-    sketch(
-        16,
-        "order: 16 before 8 of a later entry, no ascent",
-        |s, r| two_faults(s, r, Faults::ListFirst, no_ascent),
-    ),
-    sketch(
-        16,
-        "order: 16 before 8 of a later entry, attribute",
-        |s, r| two_faults(s, r, Faults::ListFirst, no_high_bit),
-    ),
-    sketch(16, "order: 16 before 8 of a later entry, text", |s, r| {
-        two_faults(s, r, Faults::ListFirst, over_text)
-    }),
-    values(16, "order: 16 before 8 of the end, end marks", |v, r| {
-        let Some(i) = some(v.runs.len(), r) else {
-            return false;
-        };
-        let run = &mut v.runs[i];
-        let mut entries = run.entries.clone();
-        break_list(&mut entries[0], r);
-        let first = encoded_size(&entries[..1]) - 2;
-        let blocks = encoded_size(&entries).div_ceil(BLOCK) - 1;
-        // The first entry lies inside the run's blocks, and these where they did.
-        if first > BLOCK * blocks || blocks > run.blocks {
-            return false;
-        }
-        (run.entries, run.blocks) = (entries, blocks);
-        true
-    }),
-    sketch(
-        16,
-        "order: 16 before 8 of the end, last headword",
-        |s, r| {
-            let Some(i) = not_last(s, r) else {
-                return false;
-            };
-            let more = s.runs[i + 1].entries[0].clone();
-            let entries = &mut s.runs[i].entries;
-            entries.push(more);
-            mend_fronts(entries);
-            let place = r.below(entries.len());
-            break_list(&mut entries[place], r);
-            true
-        },
-    ),
-    // The order of the rows, and of the runs in rows 7, 8 and 16.
+    // The order of the rows, and of the runs in rows 7 and 8.
     bytes(3, "order: version 6 before 4 and 5", |m, r| {
         m.bytes[at::HIGH_VERSION] = 6;
         other(m, r, at::DICTYPE) && two_at(m, at::INDEX_BLOCK, 0xFFFF)
@@ -946,7 +706,7 @@ pub const DAMAGES: &[Damage] = &[
             return false;
         };
         let place = last.entries[last.entries.len() - 1].attribute;
-        m.bytes[place] &= 0x7F;
+        m.bytes[place] |= 0x10;
         change_four(m, |f| f.empty_block2, |_| 0xFFFF_FFFE)
             && change_four(m, |_| at::NWORD, |n| n.wrapping_add(1))
     }),
@@ -957,51 +717,6 @@ pub const DAMAGES: &[Damage] = &[
         let number = m.image.runs[i].block;
         let place = m.elements[j].number;
         two_at(m, place, number)
-    }),
-    bytes(7, "order: 7 before 16 in one run", |m, r| {
-        let Some(i) = some(m.runs.len(), r) else {
-            return false;
-        };
-        let count = m.runs[i].count;
-        break_end(m, r, i) && two_at(m, count, 0)
-    }),
-    bytes(7, "order: 7 of a run before 16 of a later", |m, r| {
-        let Some((i, j)) = two_runs(m, r) else {
-            return false;
-        };
-        let count = m.runs[i].count;
-        break_end(m, r, j) && two_at(m, count, 0)
-    }),
-    bytes(16, "order: 16 of a run before 7 of a later", |m, r| {
-        let Some((i, j)) = two_runs(m, r) else {
-            return false;
-        };
-        let count = m.runs[j].count;
-        break_end(m, r, i) && two_at(m, count, 0)
-    }),
-    bytes(8, "order: 8 of a run before 16 of a later", |m, r| {
-        let Some((i, j)) = two_runs(m, r) else {
-            return false;
-        };
-        let place = m.runs[i].entries[0].attribute;
-        m.bytes[place] = 0;
-        break_end(m, r, j)
-    }),
-    bytes(16, "order: 16 of a run before 8 of a later", |m, r| {
-        let Some((i, j)) = two_runs(m, r) else {
-            return false;
-        };
-        let place = m.runs[j].entries[0].attribute;
-        m.bytes[place] = 0;
-        break_end(m, r, i)
-    }),
-    bytes(16, "order: 16 in the last run before 9 and 10", |m, r| {
-        let Some(last) = m.runs.len().checked_sub(1) else {
-            return false;
-        };
-        break_end(m, r, last)
-            && change_four(m, |f| f.empty_block2, |_| 0xFFFF_FFFE)
-            && change_four(m, |_| at::NWORD, |n| n.wrapping_add(1))
     }),
     bytes(9, "order: 9 before 10", |m, _| {
         change_four(m, |f| f.empty_block2, |_| 0xFFFF_FFFE)
@@ -1074,15 +789,6 @@ fn an_entry(made: &Made, random: &mut Random, from: usize) -> Option<(usize, usi
     Some((run, random.range(from, made.runs[run].entries.len() - 1)))
 }
 
-/// An entry of the made image with or without parts.
-fn with(made: &Made, random: &mut Random, parts: bool) -> Option<EntryAt> {
-    let entries = made.runs.iter().flat_map(|run| &run.entries);
-    let fits: Vec<&EntryAt> = entries
-        .filter(|entry| (entry.text_end < entry.end) == parts)
-        .collect();
-    Some(*fits[some(fits.len(), random)?])
-}
-
 /// Two runs in index order.
 fn two_runs(made: &Made, random: &mut Random) -> Option<(usize, usize)> {
     if made.runs.len() < 2 {
@@ -1112,138 +818,6 @@ fn long_text(sketch: &mut Sketch, random: &mut Random, size: usize) -> bool {
         return false;
     };
     sketch.runs[run].entries[entry].text = text(random, size);
-    true
-}
-
-/// An entry of the sketch that has a good part list, given to it where it had none.
-fn listed<'a>(sketch: &'a mut Sketch, random: &mut Random) -> Option<&'a mut Entry> {
-    let (run, entry) = sketched(sketch, random, 0)?;
-    let entry = &mut sketch.runs[run].entries[entry];
-    if parts_of(&entry.list).is_none() {
-        give_list(entry, part_list(random, 20));
-    }
-    Some(entry)
-}
-
-/// An entry's list made another by way of the one it has.
-fn a_list(
-    sketch: &mut Sketch,
-    random: &mut Random,
-    way: impl Fn(&[u8], &mut Random) -> Vec<u8>,
-) -> bool {
-    let Some(entry) = listed(sketch, random) else {
-        return false;
-    };
-    entry.list = way(&entry.list, random);
-    true
-}
-
-fn a_kind(random: &mut Random) -> u8 {
-    *random.pick(&[EXAMPLE, PRONUNCIATION])
-}
-
-/// A byte that neither is a kind nor ends a list.
-fn no_kind(random: &mut Random) -> u8 {
-    match random.byte() {
-        EXAMPLE | PRONUNCIATION | LIST_END => 0x81,
-        byte => *random.pick(&[0, 3, 0x11, 0x7F, byte, byte]),
-    }
-}
-
-/// A list of short parts of these kinds.
-fn short_parts(random: &mut Random, kinds: &[u8]) -> Vec<u8> {
-    let mut parts = Vec::new();
-    for kind in kinds {
-        let size = random.below(9);
-        parts.push((*kind, part(random, size)));
-    }
-    list_of(&parts)
-}
-
-/// A list with a part of this length; the other kind's may stand before or behind it.
-fn long_part(random: &mut Random, kind: u8, size: usize) -> Vec<u8> {
-    let other = (EXAMPLE + PRONUNCIATION - kind, part(random, 5));
-    let mut parts = vec![(kind, part(random, size))];
-    match random.below(3) {
-        0 => parts.push(other),
-        1 => parts.insert(0, other),
-        _ => {}
-    }
-    list_of(&parts)
-}
-
-/// Gives an entry a list that breaks a rule.
-fn break_list(entry: &mut Entry, random: &mut Random) {
-    let good = part_list(random, 20);
-    let (first, second) = (a_kind(random), no_kind(random));
-    let lists = [
-        vec![],
-        good[..good.len() - 1].to_vec(),
-        [&good[..], &[0]].concat(),
-        short_parts(random, &[first, first]),
-        short_parts(random, &[first, second]),
-        long_part(random, PRONUNCIATION, MOST_PRONUNCIATION + 1),
-    ];
-    give_list(entry, random.pick(&lists).clone());
-}
-
-/// Breaks a list of a run in the bytes: its 0x80 is 0. False if the run has none.
-fn break_end(made: &mut Made, random: &mut Random, run: usize) -> bool {
-    let entries = made.runs[run].entries.iter();
-    let fits: Vec<usize> = entries
-        .filter(|entry| entry.text_end < entry.end)
-        .map(|entry| entry.end - 1)
-        .collect();
-    let Some(i) = some(fits.len(), random) else {
-        return false;
-    };
-    made.bytes[fits[i]] = 0;
-    true
-}
-
-/// How a broken list and a fault of 8 stand to each other in a run.
-#[derive(Clone, Copy, PartialEq, Eq)]
-enum Faults {
-    Same,
-    ListFirst,
-    ListLater,
-}
-
-/// A fault of 8 in an entry that is not a run's first.
-type Fault = fn(&mut [Entry], usize, &mut Random);
-
-fn no_ascent(entries: &mut [Entry], place: usize, _: &mut Random) {
-    entries[place].headword = entries[place - 1].headword.clone();
-}
-
-fn no_high_bit(entries: &mut [Entry], place: usize, _: &mut Random) {
-    entries[place].attribute &= 0x7F;
-}
-
-fn over_text(entries: &mut [Entry], place: usize, random: &mut Random) {
-    entries[place].text = text(random, MOST_TEXT + 1);
-}
-
-/// A broken list and a fault in one run.
-fn two_faults(sketch: &mut Sketch, random: &mut Random, faults: Faults, fault: Fault) -> bool {
-    let lowest = (faults != Faults::ListFirst) as usize;
-    let apart = (faults != Faults::Same) as usize;
-    let fits = |run: &&mut Wanted| run.entries.len() > lowest + apart;
-    let mut runs: Vec<&mut Wanted> = sketch.runs.iter_mut().filter(fits).collect();
-    let Some(i) = some(runs.len(), random) else {
-        return false;
-    };
-    let entries = &mut runs[i].entries;
-    let last = entries.len() - 1;
-    let first = random.range(lowest, last - apart);
-    let second = random.range(first + apart, if apart == 0 { first } else { last });
-    let (list, place) = match faults {
-        Faults::ListLater => (second, first),
-        _ => (first, second),
-    };
-    break_list(&mut entries[list], random);
-    fault(entries, place, random);
-    mend_fronts(entries);
     true
 }
 
@@ -1308,14 +882,13 @@ fn past_area(made: &mut Made, random: &mut Random, more: usize) -> bool {
     blocks <= MOST_BLOCKS && two_at(made, place, blocks)
 }
 
-/// A longer field for the last entry of a run, one with or without parts.
-fn last_length(made: &mut Made, random: &mut Random, parts: bool, more: usize) -> bool {
+fn last_length(made: &mut Made, random: &mut Random, more: usize) -> bool {
     let Some(i) = some(made.runs.len(), random) else {
         return false;
     };
     let last = made.runs[i].entries[made.runs[i].entries.len() - 1];
     let length = two(&made.bytes[last.length..]) as usize;
-    (last.text_end < last.end) == parts && two_at(made, last.length, length + more)
+    two_at(made, last.length, length + more)
 }
 
 /// A field length set from the length of the headword's rest.
@@ -1368,9 +941,9 @@ fn a_link(made: &mut Made, random: &mut Random, number: u32) -> bool {
 /// are the high byte of that size and the low byte of a field length of whole 256s.
 fn woven(image: &Image, random: &mut Random) -> Image {
     let size = random.range(2, 9);
-    let mut first = plain_entry(random, b"A".to_vec(), 257 - 2 - 3 - 1 - 2);
+    let mut first = entry(random, b"A".to_vec(), 257 - 2 - 3 - 1 - 2);
     *first.text.last_mut().expect("not empty") = size as u8;
-    let second = plain_entry(random, b"B".to_vec(), 256 - 1 - 2);
+    let second = entry(random, b"B".to_vec(), 256 - 1 - 2);
     let mut list = vec![second];
     for i in 0..random.below(3) {
         list.push(entry(random, vec![b'C' + i as u8], 7));
@@ -1397,7 +970,7 @@ fn woven(image: &Image, random: &mut Random) -> Image {
 }
 
 /// Regions whose bytes are damaged by chance.
-pub const REGIONS: [&str; 15] = [
+pub const REGIONS: [&str; 13] = [
     "header, any byte",
     "header, a tested byte",
     "index, any byte",
@@ -1411,8 +984,6 @@ pub const REGIONS: [&str; 15] = [
     "end mark",
     "link",
     "header, the other version's number",
-    "zero behind a text",
-    "part list",
 ];
 
 /// The header bytes of moved fields, each with the row that names the field.
@@ -1488,17 +1059,13 @@ pub fn flip(made: &mut Made, random: &mut Random, region: usize) -> bool {
         (6, Some(entry)) => Some(entry.front),
         (7, Some(entry)) => Some(random.range(entry.rest, entry.zero)),
         (8, Some(entry)) => Some(entry.attribute),
-        (9, Some(entry)) => some(entry.text_end - entry.text, random).map(|i| entry.text + i),
+        (9, Some(entry)) => some(entry.end - entry.text, random).map(|i| entry.text + i),
         (10, _) => some(made.runs.len(), random).map(|i| made.runs[i].marks + random.below(2)),
         (11, _) => some(made.free.len(), random).map(|i| made.free[i] + random.below(6)),
         (12, _) => {
             // 4 and 5 differ in their lowest bit.
             made.bytes[at::HIGH_VERSION] ^= 1;
             return true;
-        }
-        (13, _) => with(made, random, true).map(|entry| entry.text_end),
-        (14, _) => {
-            with(made, random, true).map(|entry| random.range(entry.text_end + 1, entry.end - 1))
         }
         _ => None,
     };

@@ -5,8 +5,7 @@
 use crate::calls::Answer;
 use crate::make::{common, empty_header, put_four, put_two};
 use crate::pairs::{cuts_pair, ends_alone, inside_pair, is_lead};
-use crate::parts::{is_turned, list_bytes, most_of, EXAMPLE, PRONUNCIATION};
-use crate::reader::{at, format, has_parts, is_attribute, is_headword, is_text, read};
+use crate::reader::{at, format, is_attribute, is_headword, is_text, read};
 use crate::reader::{Entry, Image, Run, BLOCK, CHAIN_END, MOST_BLOCKS, MOST_DATA};
 
 /// "each part takes as many entries as encode in 1,024 bytes, count and end marks included."
@@ -17,110 +16,6 @@ pub struct Slices<'a> {
     pub image: &'a mut [u8],
     pub len: usize,
     pub work: &'a mut [u8],
-}
-
-/// A part as lent to an insertion, which "takes both, each marked there or not (a part may be
-/// empty)". A mark is any byte but 0.
-#[derive(Clone, Debug, Default)]
-pub struct Given {
-    pub mark: u8,
-    pub bytes: Vec<u8>,
-}
-
-impl Given {
-    pub fn there(bytes: &[u8]) -> Given {
-        Given {
-            mark: 1,
-            bytes: bytes.to_vec(),
-        }
-    }
-
-    /// The part's bytes; nothing where it is not there, and then the slice is not looked at.
-    pub fn part(&self) -> Option<&[u8]> {
-        (self.mark != 0).then_some(&self.bytes)
-    }
-
-    /// Whether the bytes would be a part of this kind.
-    pub fn fits(&self, kind: u8) -> bool {
-        let most = most_of(kind).expect("a kind");
-        self.bytes.len() <= most && !self.bytes.contains(&0)
-    }
-}
-
-/// An insertion's arguments.
-#[derive(Clone, Debug)]
-pub struct Insertion {
-    pub headword: Vec<u8>,
-    pub attribute: u8,
-    pub text: Vec<u8>,
-    pub example: Given,
-    pub pronunciation: Given,
-}
-
-impl Insertion {
-    /// Without parts.
-    pub fn plain(headword: Vec<u8>, attribute: u8, text: Vec<u8>) -> Insertion {
-        Insertion {
-            headword,
-            attribute,
-            text,
-            example: Given::default(),
-            pronunciation: Given::default(),
-        }
-    }
-
-    fn given(&self) -> [(u8, &Given); 2] {
-        [
-            (EXAMPLE, &self.example),
-            (PRONUNCIATION, &self.pronunciation),
-        ]
-    }
-
-    /// The parts that are there, each with its kind; it "writes 0x01 first".
-    fn parts(&self) -> Vec<(u8, &[u8])> {
-        let mut parts = Vec::new();
-        for (kind, given) in self.given() {
-            parts.extend(given.part().map(|part| (kind, part)));
-        }
-        parts
-    }
-
-    /// The part list; empty without parts.
-    pub fn list(&self) -> Vec<u8> {
-        match self.parts() {
-            parts if parts.is_empty() => vec![],
-            parts => list_bytes(&parts),
-        }
-    }
-
-    /// 13: "text or attribute outside its rule"; "An inserted part over its length or with a zero, or
-    /// 0x10 set without parts or clear with them, is refused 13."
-    fn in_rule(&self) -> bool {
-        is_text(&self.text)
-            && is_attribute(self.attribute)
-            && has_parts(self.attribute) != self.parts().is_empty()
-            && self
-                .given()
-                .iter()
-                .all(|(kind, given)| given.part().is_none() || given.fits(*kind))
-    }
-
-    /// A part that is not there is lent a slice that could not be one.
-    fn passes_over(&self) -> bool {
-        self.given()
-            .iter()
-            .any(|(kind, given)| given.part().is_none() && !given.fits(*kind))
-    }
-
-    fn entry(&self) -> Entry {
-        Entry {
-            front: 0,
-            headword: self.headword.clone(),
-            attribute: self.attribute,
-            text: self.text.clone(),
-            list: self.list(),
-        }
-    }
 }
 
 /// What a call did on its way. It is told for counting and is no part of the answer.
@@ -148,21 +43,6 @@ pub struct Told {
     /// concerned that were written anew and shorter.
     pub kept_inside: usize,
     pub mended: usize,
-    /// Parts inserted by kind, and whether one of them is empty; a slice for a part that is not
-    /// there was passed over though it could not be one. The entry replaced had parts.
-    pub example: bool,
-    pub pronunciation: bool,
-    pub empty_part: bool,
-    pub passed_over: bool,
-    pub had_parts: bool,
-    /// Lists with the pronunciation first: of other entries in the run concerned, in other runs,
-    /// and of the entry replaced.
-    pub turned_beside: usize,
-    pub turned_elsewhere: usize,
-    pub turned_replaced: bool,
-    /// Blocks of the longest part written, and of the longest run moved.
-    pub longest_part: usize,
-    pub longest_moved: usize,
     /// g, D before the growth, and how many runs were moved; of these, how many came to lie
     /// over a block that a moved run had.
     pub growth: usize,
@@ -211,37 +91,39 @@ pub fn create(slice: &mut [u8], version: u8, identifier: u64) -> Answer<usize> {
 }
 
 /// "Insert adds or replaces."
-pub fn insert(lent: Slices, insertion: &Insertion, told: &mut Told) -> Answer<usize> {
+pub fn insert(
+    lent: Slices,
+    headword: &[u8],
+    attribute: u8,
+    text: &[u8],
+    told: &mut Told,
+) -> Answer<usize> {
     changing(lent, |slice, len| {
         let image = writable(slice, len)?;
-        let headword = &insertion.headword[..];
         test_headword(headword)?;
-        if !insertion.in_rule() {
+        // 13: "text or attribute outside its rule".
+        if !is_text(text) || !is_attribute(attribute) {
             return Err(13);
         }
+        let entry = Entry {
+            front: 0,
+            headword: headword.to_vec(),
+            attribute,
+            text: text.to_vec(),
+        };
         let concerned = run_concerned(&image, headword);
         let mut list = entries_of(&image, concerned);
         let place = place_in(&list, headword);
         told.replaced = has(&list, headword);
         told.at_first = place == 0;
         told.lone_lead = ends_alone(headword);
-        tell_parts(insertion, told);
         if told.replaced {
-            told.had_parts = has_parts(list[place].attribute);
-            told.turned_replaced = is_turned(&list[place].list);
-            list[place] = insertion.entry();
+            list[place] = entry;
         } else {
-            list.insert(place, insertion.entry());
+            list.insert(place, entry);
         }
         change(slice, &image, concerned, &list, told).map(Some)
     })
-}
-
-fn tell_parts(insertion: &Insertion, told: &mut Told) {
-    told.example = insertion.example.part().is_some();
-    told.pronunciation = insertion.pronunciation.part().is_some();
-    told.empty_part = insertion.parts().iter().any(|(_, part)| part.is_empty());
-    told.passed_over = insertion.passes_over();
 }
 
 /// "Delete removes, or answers absent and changes nothing."
@@ -282,7 +164,6 @@ pub fn optimise(lent: Slices, told: &mut Told) -> Answer<usize> {
         told.index_before = image.index_blocks;
         told.full_before = len == slice.len();
         told.kept_inside = image.runs.iter().map(fronts_inside).sum();
-        told.turned_elsewhere = lists_turned(&image, None);
         layout.tell(told);
         assert_no_longer(&image, len, &layout);
         let new_len = write(slice, &image, &layout, told);
@@ -413,14 +294,11 @@ fn change(
     // Step 2: "The list is cut from the left".
     let lists = cut(list);
     tell_fronts(image, concerned, &lists, told);
-    told.turned_beside = list.iter().filter(|entry| is_turned(&entry.list)).count();
-    told.turned_elsewhere = lists_turned(image, concerned);
     let by_common = cut_by(list, common_front);
     told.more_parts = lists.len() > by_common.len();
     told.other_parts = lists.len() == by_common.len() && lists != by_common;
     let mut parts: Vec<Placed> = lists.into_iter().map(part).collect();
     told.parts = parts.len();
-    told.longest_part = parts.iter().map(Placed::blocks).max().unwrap_or(0);
     let mut runs = stored_runs(slice, image);
     let mut area = Area::of(image);
     // Step 3: "The run's old blocks become free."
@@ -503,28 +381,15 @@ fn size_by(entries: &[Entry], front: Front) -> usize {
     2 + (0..entries.len()).map(each).sum::<usize>() + 2
 }
 
-/// Field length: "from the headword rest to the text's end", with parts to the list's; between them
-/// stand a zero and the attribute.
+/// Field length: "from the headword rest to the text's end"; between them stand a zero and
+/// the attribute.
 fn field_length(entry: &Entry, front: usize) -> usize {
-    entry.headword.len() - front + 2 + entry.rest_size()
+    entry.headword.len() - front + 2 + entry.text.len()
 }
 
 /// How many fronts of a run as stored end inside a pair.
 fn fronts_inside(run: &Run) -> usize {
     run.entries.iter().filter(|entry| cuts_pair(entry)).count()
-}
-
-/// How many lists have the pronunciation first in runs but the one concerned.
-fn lists_turned(image: &Image, concerned: Option<usize>) -> usize {
-    let turned = |run: &Run| {
-        run.entries
-            .iter()
-            .filter(|entry| is_turned(&entry.list))
-            .count()
-    };
-    let runs = image.runs.iter().enumerate();
-    let others = runs.filter(|(place, _)| Some(*place) != concerned);
-    others.map(|(_, run)| turned(run)).sum()
 }
 
 /// Tells of the fronts in the parts of a changed list, and of those in the other runs.
@@ -560,7 +425,7 @@ fn part(entries: &[Entry]) -> Placed {
         bytes.extend_from_slice(&entry.headword[front..]);
         bytes.push(0);
         bytes.push(entry.attribute);
-        entry.put_rest(&mut bytes);
+        bytes.extend_from_slice(&entry.text);
     }
     bytes.resize(BLOCK * blocks, 0);
     Placed {
@@ -593,7 +458,6 @@ fn grow_index(g: usize, runs: &mut [Placed], area: &mut Area, told: &mut Told) {
     let mut moved: Vec<&mut Placed> = runs.iter_mut().filter(|run| run.block < g).collect();
     moved.sort_by_key(|run| run.block);
     told.moved = moved.len();
-    told.longest_moved = moved.iter().map(|run| run.blocks()).max().unwrap_or(0);
     for run in &moved {
         area.release(run);
     }

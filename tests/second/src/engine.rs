@@ -21,11 +21,8 @@ extern "C" {
         headword_size: usize,
         text: *mut u8,
         text_size: usize,
-        parts: *mut u8,
-        parts_size: usize,
         attribute: *mut u8,
         text_len: *mut usize,
-        parts_len: *mut usize,
     ) -> u32;
     fn pdic_walk(
         image: *const u8,
@@ -38,21 +35,9 @@ extern "C" {
         headword_out_size: usize,
         text: *mut u8,
         text_size: usize,
-        parts: *mut u8,
-        parts_size: usize,
         attribute: *mut u8,
         headword_len: *mut usize,
         text_len: *mut usize,
-        parts_len: *mut usize,
-    ) -> u32;
-    fn pdic_part_step(
-        parts: *const u8,
-        parts_size: usize,
-        offset: usize,
-        kind: *mut u8,
-        place: *mut usize,
-        part_len: *mut usize,
-        next: *mut usize,
     ) -> u32;
     fn pdic_create(
         image: *mut u8,
@@ -72,12 +57,6 @@ extern "C" {
         attribute: u8,
         text: *const u8,
         text_size: usize,
-        has_example: u8,
-        example: *const u8,
-        example_size: usize,
-        has_pronunciation: u8,
-        pronunciation: *const u8,
-        pronunciation_size: usize,
         new_len: *mut usize,
     ) -> u32;
     fn pdic_delete(
@@ -166,7 +145,7 @@ impl Lent {
 /// Numbers lent by pointer: the even places are guards, the odd ones are lent.
 /// Check's are headwords, index blocks, data blocks and free blocks.
 pub type CheckCells = [u64; 9];
-pub type LengthCells = [usize; 7];
+pub type LengthCells = [usize; 5];
 
 pub fn check(image: &mut Lent, len: usize, cells: &mut CheckCells) -> u32 {
     let cells = cells.as_mut_ptr();
@@ -183,20 +162,16 @@ pub fn check(image: &mut Lent, len: usize, cells: &mut CheckCells) -> u32 {
     }
 }
 
-/// What lookup and walk write: the output slices and an attribute, and the lengths of text,
-/// headword and part list at places 1, 3 and 5. Lookup leaves the headword's as they are.
-#[derive(Clone, Debug, PartialEq, Eq)]
-pub struct Outputs {
-    pub headword: Lent,
-    pub text: Lent,
-    pub parts: Lent,
-    pub attribute: Lent,
-    pub lengths: LengthCells,
-}
-
-pub fn look_up(image: &mut Lent, len: usize, headword: &mut Lent, out: &mut Outputs) -> u32 {
-    assert!(out.attribute.size == 1);
-    let lengths = out.lengths.as_mut_ptr();
+/// The text's length is lent at place 1 of `lengths`.
+pub fn look_up(
+    image: &mut Lent,
+    len: usize,
+    headword: &mut Lent,
+    text: &mut Lent,
+    attribute: &mut Lent,
+    lengths: &mut LengthCells,
+) -> u32 {
+    assert!(attribute.size == 1);
     unsafe {
         pdic_look_up(
             image.pointer(),
@@ -204,26 +179,28 @@ pub fn look_up(image: &mut Lent, len: usize, headword: &mut Lent, out: &mut Outp
             len,
             headword.pointer(),
             headword.size,
-            out.text.pointer(),
-            out.text.size,
-            out.parts.pointer(),
-            out.parts.size,
-            out.attribute.pointer(),
-            lengths.add(1),
-            lengths.add(5),
+            text.pointer(),
+            text.size,
+            attribute.pointer(),
+            lengths.as_mut_ptr().add(1),
         )
     }
 }
 
+/// The text's length is lent at place 1 of `lengths`, the headword's at place 3.
+#[allow(clippy::too_many_arguments)]
 pub fn walk(
     image: &mut Lent,
     len: usize,
     headword: &mut Lent,
     above: u8,
-    out: &mut Outputs,
+    headword_out: &mut Lent,
+    text: &mut Lent,
+    attribute: &mut Lent,
+    lengths: &mut LengthCells,
 ) -> u32 {
-    assert!(out.attribute.size == 1);
-    let lengths = out.lengths.as_mut_ptr();
+    assert!(attribute.size == 1);
+    let lengths = lengths.as_mut_ptr();
     unsafe {
         pdic_walk(
             image.pointer(),
@@ -232,38 +209,13 @@ pub fn walk(
             headword.pointer(),
             headword.size,
             above,
-            out.headword.pointer(),
-            out.headword.size,
-            out.text.pointer(),
-            out.text.size,
-            out.parts.pointer(),
-            out.parts.size,
-            out.attribute.pointer(),
+            headword_out.pointer(),
+            headword_out.size,
+            text.pointer(),
+            text.size,
+            attribute.pointer(),
             lengths.add(3),
             lengths.add(1),
-            lengths.add(5),
-        )
-    }
-}
-
-/// The part's place, its length and the next offset are lent at places 1, 3 and 5 of `lengths`.
-pub fn part_step(
-    parts: &mut Lent,
-    offset: usize,
-    kind: &mut Lent,
-    lengths: &mut LengthCells,
-) -> u32 {
-    assert!(kind.size == 1);
-    let lengths = lengths.as_mut_ptr();
-    unsafe {
-        pdic_part_step(
-            parts.pointer(),
-            parts.size,
-            offset,
-            kind.pointer(),
-            lengths.add(1),
-            lengths.add(3),
-            lengths.add(5),
         )
     }
 }
@@ -281,25 +233,15 @@ pub fn create(image: &mut Lent, version: u8, ident: u64, lengths: &mut LengthCel
     }
 }
 
-/// What an insertion reads: slices, and for each part its mark and its slice.
-#[derive(Clone, Debug, PartialEq, Eq)]
-pub struct Inputs {
-    pub headword: Lent,
-    pub attribute: u8,
-    pub text: Lent,
-    pub example: (u8, Lent),
-    pub pronunciation: (u8, Lent),
-}
-
 pub fn insert(
     image: &mut Lent,
     len: usize,
     work: &mut Lent,
-    given: &mut Inputs,
+    headword: &mut Lent,
+    attribute: u8,
+    text: &mut Lent,
     lengths: &mut LengthCells,
 ) -> u32 {
-    let (has_example, example) = &mut given.example;
-    let (has_pronunciation, pronunciation) = &mut given.pronunciation;
     unsafe {
         pdic_insert(
             image.pointer(),
@@ -307,17 +249,11 @@ pub fn insert(
             len,
             work.pointer(),
             work.size,
-            given.headword.pointer(),
-            given.headword.size,
-            given.attribute,
-            given.text.pointer(),
-            given.text.size,
-            *has_example,
-            example.pointer(),
-            example.size,
-            *has_pronunciation,
-            pronunciation.pointer(),
-            pronunciation.size,
+            headword.pointer(),
+            headword.size,
+            attribute,
+            text.pointer(),
+            text.size,
             lengths.as_mut_ptr().add(1),
         )
     }

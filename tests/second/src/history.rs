@@ -2,19 +2,16 @@
 //! a sorted list is fed the calls and their refusals, and the image's entries must be its.
 
 use crate::both::{hex, Both, Change, Differs};
-use crate::calls::{Answer, Read, Sizes, ROOM};
-use crate::cases::{case, damaged_as, Case};
-use crate::editor::{cut, encoded_size, run_concerned, Given, Insertion, Told, PART};
+use crate::calls::{Answer, Read};
+use crate::cases::case;
+use crate::editor::{cut, encoded_size, run_concerned, Told, PART};
 use crate::engine::Lent;
 use crate::letters::{Letters, ANY, BOUNDS, FEW, HIGH, KANA, LEADS, MANY};
-use crate::make::{any_identifier, attribute, part, text};
-use crate::parts::{parts_of, EXAMPLE, PRONUNCIATION, WITH_PARTS};
-use crate::parts::{MOST_EXAMPLE, MOST_PRONUNCIATION};
+use crate::make::{any_identifier, attribute, text};
 use crate::random::Random;
 use crate::reader::{at, read, Entry, Run, BLOCK, MOST_HEADWORD, MOST_TEXT};
-use crate::seen::{Call, Tally, ORDERS};
+use crate::seen::{Call, Tally};
 use crate::start::{room, start, How, STARTS};
-use crate::steps;
 use crate::words::{bad, lengths_to_try, near};
 use std::collections::BTreeMap;
 
@@ -24,39 +21,12 @@ pub struct History<'a> {
     /// The image at present, as the second reader reads it.
     read: Read,
     /// Its entries in headword order, by the calls alone.
-    list: BTreeMap<Vec<u8>, Listed>,
+    list: BTreeMap<Vec<u8>, (u8, Vec<u8>)>,
     random: Random,
     taste: Taste,
     tally: &'a mut Tally,
     /// The calls so far in words.
     log: Vec<String>,
-}
-
-/// What the sorted list holds beside a headword: attribute, text and part list.
-#[derive(Clone, PartialEq, Eq)]
-struct Listed {
-    attribute: u8,
-    text: Vec<u8>,
-    list: Vec<u8>,
-}
-
-impl Listed {
-    fn of(entry: &Entry) -> Listed {
-        Listed {
-            attribute: entry.attribute,
-            text: entry.text.clone(),
-            list: entry.list.clone(),
-        }
-    }
-
-    /// A stored part of a kind, to be inserted again.
-    fn given(&self, kind: u8) -> Given {
-        let parts = parts_of(&self.list).unwrap_or_default();
-        match parts.iter().find(|part| part.kind == kind) {
-            Some(part) => Given::there(part.bytes(&self.list)),
-            None => Given::default(),
-        }
-    }
 }
 
 /// What a history's headwords and texts are like.
@@ -65,7 +35,6 @@ struct Taste {
     letters: &'static Letters,
     most_tail: usize,
     most_text: usize,
-    most_part: usize,
     /// Deletions among 10 calls, beside those by chance.
     deleting: usize,
 }
@@ -85,7 +54,6 @@ fn taste(random: &mut Random, words: &[Vec<u8>]) -> Taste {
         letters,
         most_tail: *random.pick(&[1, 2, 3, 4, 10]),
         most_text: *random.pick(&[5, 40, 40, 200, 400, 900, MOST_TEXT]),
-        most_part: *random.pick(&[0, 3, 20, 20, 20, 100, 400, 2_000]),
         deleting: *random.pick(&[0, 0, 0, 2, 4]),
     }
 }
@@ -137,7 +105,10 @@ impl History<'_> {
         let mut list = BTreeMap::new();
         if let Ok(image) = &read {
             for entry in image.entries() {
-                list.insert(entry.headword.clone(), Listed::of(entry));
+                list.insert(
+                    entry.headword.clone(),
+                    (entry.attribute, entry.text.clone()),
+                );
             }
         }
         let words: Vec<Vec<u8>> = list.keys().take(50).cloned().collect();
@@ -201,14 +172,12 @@ impl History<'_> {
             return self.delete_one();
         }
         match self.random.below(100) {
-            0..=26 => self.insert_new(),
-            27 => self.insert_longest(),
+            0..=27 => self.insert_new(),
             28..=35 => self.replace(),
             36..=45 => self.insert_fitted(),
             46..=49 => self.insert_tight(),
             50..=51 => self.insert_again(),
-            52..=64 => self.delete_one(),
-            65 => self.part_steps(),
+            52..=65 => self.delete_one(),
             66..=71 => self.delete_first(),
             72..=74 => self.delete_absent(),
             75..=78 => self.change(Change::Optimise),
@@ -220,8 +189,7 @@ impl History<'_> {
             89..=91 => self.bad_argument(),
             92..=93 => self.bad_slices(),
             94..=95 => self.only_for_reading(),
-            96 => self.damaged(),
-            97 => self.order_of_8_and_16(),
+            96..=97 => self.damaged(),
             _ => self.other_image(),
         }
     }
@@ -289,13 +257,12 @@ impl History<'_> {
         };
         self.len = new_len;
         match change {
-            Change::Insert(insertion) => {
-                let listed = Listed {
-                    attribute: insertion.attribute,
-                    list: insertion.list(),
-                    text: insertion.text,
-                };
-                self.list.insert(insertion.headword, listed);
+            Change::Insert {
+                headword,
+                attribute,
+                text,
+            } => {
+                self.list.insert(headword, (attribute, text));
             }
             Change::Delete { headword } => {
                 self.list.remove(&headword);
@@ -314,7 +281,8 @@ impl History<'_> {
         };
         let mut expected = self.list.iter();
         for entry in image.entries() {
-            if expected.next() != Some((&entry.headword, &Listed::of(entry))) {
+            let stored = (&entry.headword, &entry.attribute, &entry.text);
+            if expected.next().map(|(word, rest)| (word, &rest.0, &rest.1)) != Some(stored) {
                 let word = hex(&entry.headword);
                 return Err(format!("entry {} is not the sorted list's", word));
             }
@@ -368,43 +336,11 @@ impl History<'_> {
         text(&mut self.random, size)
     }
 
-    /// A part: not there in half of the cases, and then its slice may be anything.
-    fn new_part(&mut self, most: usize) -> Given {
-        let random = &mut self.random;
-        let mark = *random.pick(&[0, 0, 0, 1, 2, 0xFF]);
-        let size = match random.below(20) {
-            0 => *random.pick(&[0, 1, most]),
-            1..=3 => 0,
-            _ => random.below(self.taste.most_part.min(most) + 1),
-        };
-        let mut bytes = part(random, size);
-        if mark == 0 && random.chance(1, 2) {
-            match random.below(2) {
-                0 => bytes.resize(most + 1 + random.below(3), b'x'),
-                _ => bytes.push(0),
-            }
-        }
-        Given { mark, bytes }
-    }
-
-    /// An insertion with parts or without, in its rule.
     fn insertion(&mut self, headword: Vec<u8>, text: Vec<u8>) -> Change {
-        Change::Insert(self.in_rule(headword, text))
-    }
-
-    fn in_rule(&mut self, headword: Vec<u8>, text: Vec<u8>) -> Insertion {
-        let example = self.new_part(MOST_EXAMPLE);
-        let pronunciation = self.new_part(MOST_PRONUNCIATION);
-        let mut attribute = attribute(&mut self.random);
-        if example.mark != 0 || pronunciation.mark != 0 {
-            attribute |= WITH_PARTS;
-        }
-        Insertion {
+        Change::Insert {
             headword,
-            attribute,
+            attribute: attribute(&mut self.random),
             text,
-            example,
-            pronunciation,
         }
     }
 
@@ -414,29 +350,6 @@ impl History<'_> {
         let (headword, text) = (self.new_word(), self.new_text());
         let change = self.insertion(headword, text);
         self.change(change)
-    }
-
-    /// The longest headword, text and parts, now and then a byte less or more.
-    fn insert_longest(&mut self) -> Result<(), Differs> {
-        let mut headword = self.any_word();
-        headword.resize(MOST_HEADWORD, b'h');
-        let random = &mut self.random;
-        let mut near = |most: usize| match random.below(8) {
-            0 => part(random, most - 1),
-            1 => part(random, most + 1),
-            _ => part(random, most),
-        };
-        let text = near(MOST_TEXT);
-        let example = Given::there(&near(MOST_EXAMPLE));
-        let pronunciation = Given::there(&near(MOST_PRONUNCIATION));
-        let attribute = attribute(&mut self.random) | WITH_PARTS;
-        self.change(Change::Insert(Insertion {
-            headword,
-            attribute,
-            text,
-            example,
-            pronunciation,
-        }))
     }
 
     fn replace(&mut self) -> Result<(), Differs> {
@@ -453,14 +366,12 @@ impl History<'_> {
         let Some(headword) = self.word_in_list() else {
             return self.insert_new();
         };
-        let stored = self.list[&headword].clone();
-        self.change(Change::Insert(Insertion {
+        let (attribute, text) = self.list[&headword].clone();
+        self.change(Change::Insert {
             headword,
-            attribute: stored.attribute,
-            example: stored.given(EXAMPLE),
-            pronunciation: stored.given(PRONUNCIATION),
-            text: stored.text,
-        }))
+            attribute,
+            text,
+        })
     }
 
     /// A text with which the part up to the entry encodes in just a number of blocks, or in
@@ -481,7 +392,6 @@ impl History<'_> {
             headword: headword.clone(),
             attribute: 0x80,
             text: vec![],
-            list: vec![],
         });
         list.sort_by(|a, b| a.headword.cmp(&b.headword));
         let is_new = |entry: &Entry| entry.headword == headword;
@@ -493,23 +403,9 @@ impl History<'_> {
         let blocks = *self.random.pick(&[PART / BLOCK, PART / BLOCK, 1, 2, 3, 5]);
         let target = BLOCK * blocks + self.random.below(2);
         let more = target.saturating_sub(size.expect("the entry is in a part"));
-        self.insert_more(headword, more)
-    }
-
-    /// An insertion whose text, or whose text and example together, have so many bytes in the entry.
-    fn insert_more(&mut self, headword: Vec<u8>, more: usize) -> Result<(), Differs> {
-        // The text's zero, the example's kind and zero, and 0x80.
-        const MARKS: usize = 4;
-        if more < MARKS || self.random.chance(1, 2) {
-            let attribute = attribute(&mut self.random);
-            let text = text(&mut self.random, more);
-            return self.change(Change::Insert(Insertion::plain(headword, attribute, text)));
-        }
-        let example = self.random.range(0, more - MARKS);
-        let text = text(&mut self.random, more - MARKS - example);
-        let mut insertion = Insertion::plain(headword, 0x80 | WITH_PARTS, text);
-        insertion.example = Given::there(&part(&mut self.random, example));
-        self.change(Change::Insert(insertion))
+        let text = text(&mut self.random, more);
+        let change = self.insertion(headword, text);
+        self.change(change)
     }
 
     /// A first headword with which the index needs just a number of blocks, or one byte more.
@@ -585,14 +481,8 @@ impl History<'_> {
 
     fn look_up(&mut self) -> Result<(), Differs> {
         let word = self.any_word();
-        let text = *self.random.pick(&[MOST_TEXT, MOST_TEXT, 30, 0]);
-        let parts = *self.random.pick(&[ROOM.parts, ROOM.parts, 30, 0]);
-        let sizes = Sizes {
-            headword: 0,
-            text,
-            parts,
-        };
-        let number = self.both.look_up(&self.read, self.len, &word, sizes)?;
+        let size = *self.random.pick(&[MOST_TEXT, MOST_TEXT, 30, 0]);
+        let number = self.both.look_up(&self.read, self.len, &word, size)?;
         self.tally
             .count_number(Call::LookUp, self.version(), number);
         Ok(())
@@ -603,35 +493,14 @@ impl History<'_> {
             0 => vec![],
             _ => self.any_word(),
         };
-        let short = Sizes {
-            headword: 9,
-            text: 9,
-            parts: 9,
-        };
-        let no_parts = Sizes { parts: 0, ..ROOM };
-        let sizes = *self.random.pick(&[ROOM, ROOM, short, no_parts]);
+        let sizes = *self.random.pick(&[
+            (MOST_HEADWORD, MOST_TEXT),
+            (MOST_HEADWORD, MOST_TEXT),
+            (9, 9),
+        ]);
         let above = *self.random.pick(&[0, 1, 0x80]);
         let number = self.both.walk(&self.read, self.len, &word, above, sizes)?;
         self.tally.count_number(Call::Walk, self.version(), number);
-        Ok(())
-    }
-
-    /// Steps through a list of the sorted list, or through a slice by chance.
-    fn part_steps(&mut self) -> Result<(), Differs> {
-        let stored = self
-            .word_in_list()
-            .map(|word| self.list[&word].list.clone());
-        let list = match stored {
-            Some(list) if !list.is_empty() => list,
-            _ => steps::slice(&mut self.random),
-        };
-        self.log.push(format!("steps through {}", hex(&list)));
-        let mut both = Both::new(&[], Random::of(self.random.next(), 5));
-        for offset in steps::offsets(&mut self.random, &list) {
-            let number = both.part_step(&list, offset)?;
-            self.tally
-                .count_number(Call::PartStep, self.version(), number);
-        }
         Ok(())
     }
 
@@ -659,27 +528,30 @@ impl History<'_> {
     fn bad_argument(&mut self) -> Result<(), Differs> {
         let words = self.words();
         let wrong = bad(&mut self.random, &words);
-        let (headword, text) = (self.any_word(), self.new_text());
-        let mut given = self.in_rule(headword, text);
-        let random = &mut self.random;
-        match random.below(8) {
+        let (mut headword, mut text) = (self.any_word(), self.new_text());
+        let mut attribute = attribute(&mut self.random);
+        match self.random.below(5) {
             0 => return self.change(Change::Delete { headword: wrong }),
-            1 => given.headword = wrong,
-            2 => given
-                .text
-                .resize(*random.pick(&[3_001, 3_002, 4_000, 65_536, 65_540]), b't'),
-            3 => put_zero(random, &mut given.text),
-            4 => given.attribute &= 0x7F,
-            // 0x10 set without parts or clear with them.
-            5 => given.attribute ^= WITH_PARTS,
-            6 => bad_part(random, &mut given.example, MOST_EXAMPLE),
-            _ => bad_part(random, &mut given.pronunciation, MOST_PRONUNCIATION),
+            1 => headword = wrong,
+            2 => text.resize(
+                *self.random.pick(&[3_001, 3_002, 4_000, 65_536, 65_540]),
+                b't',
+            ),
+            3 => {
+                let place = self.random.below(text.len() + 1);
+                text.insert(place, 0);
+            }
+            _ => attribute = *self.random.pick(&[0, 0x7F, 0x90, 0x10, 0xFF, 0x9F]),
         }
         // Now and then both are wrong: 12 comes first.
         if self.random.chance(1, 8) {
-            given.headword.push(0);
+            headword.push(0);
         }
-        self.change(Change::Insert(given))
+        self.change(Change::Insert {
+            headword,
+            attribute,
+            text,
+        })
     }
 
     /// A wrong L, a short working slice, or both.
@@ -751,40 +623,10 @@ impl History<'_> {
     /// An image of the comparison, most of them with a damage that has a name.
     fn other_image(&mut self) -> Result<(), Differs> {
         let case = case(self.random.next(), 0);
-        self.refused_on_case(case)
-    }
-
-    /// An image with a broken part list and a fault of 8.
-    fn order_of_8_and_16(&mut self) -> Result<(), Differs> {
-        let order = self.random.below(ORDERS.len());
-        let case = damaged_as(Random::of(self.random.next(), 6), ORDERS[order]);
-        if case.story.starts_with(ORDERS[order]) {
-            self.tally.count_order(order, case.slice[at::HIGH_VERSION]);
-        }
-        self.refused_on_case(case)
-    }
-
-    fn refused_on_case(&mut self, case: Case) -> Result<(), Differs> {
         let word = match case.words.first() {
             Some(word) => word.clone(),
             None => self.any_word(),
         };
         self.refused_on(&case.slice, case.len, word)
-    }
-}
-
-fn put_zero(random: &mut Random, bytes: &mut Vec<u8>) {
-    let place = random.below(bytes.len() + 1);
-    bytes.insert(place, 0);
-}
-
-/// A part over its length or with a zero; where it is not there, that is not looked at.
-fn bad_part(random: &mut Random, given: &mut Given, most: usize) {
-    match random.below(2) {
-        0 => put_zero(random, &mut given.bytes),
-        _ => {
-            let size = *random.pick(&[most + 1, most + 2, 65_536, 65_540]);
-            given.bytes.resize(size, b'x');
-        }
     }
 }

@@ -3,14 +3,12 @@
 
 use crate::both::{Both, Change, Differs};
 use crate::calls::{Answer, ABSENT};
-use crate::editor::{Given, Insertion, Told};
+use crate::editor::Told;
 use crate::make::{any_identifier, cut, empty_header, lay_out, plain, render};
 use crate::make::{Cut, Fronts, Wanted};
-use crate::parts::{list_bytes, EXAMPLE, PRONUNCIATION};
-use crate::parts::{MOST_EXAMPLE, MOST_PRONUNCIATION, WITH_PARTS};
 use crate::random::Random;
 use crate::reader::{read, Entry, Format, BLOCK, FORMATS};
-use crate::reader::{MOST_BLOCKS, MOST_DATA, MOST_HEADWORD, MOST_TEXT};
+use crate::reader::{MOST_BLOCKS, MOST_DATA, MOST_HEADWORD};
 
 /// A call, its answer, and what the second editor must tell of it.
 type Call = (Change, u32, fn(&Told) -> bool);
@@ -27,7 +25,7 @@ struct Limit {
 
 /// Runs all cases, each in both versions, and gives their number.
 pub fn limits() -> Result<usize, Differs> {
-    let cases: [fn() -> Limit; 14] = [
+    let cases: [fn() -> Limit; 12] = [
         index_limit,
         data_limit,
         last_number,
@@ -40,8 +38,6 @@ pub fn limits() -> Result<usize, Differs> {
         longest_run_wide,
         no_run_wide,
         largest_packed,
-        longest_entries,
-        longest_entries_moved,
     ];
     for format in &FORMATS {
         for case in cases {
@@ -95,22 +91,6 @@ fn entry(headword: &[u8], text: usize) -> Entry {
         headword: headword.to_vec(),
         attribute: 128,
         text: vec![b't'; text],
-        list: vec![],
-    }
-}
-
-/// The longest entry: 24,259 bytes, a run of 95 blocks. A letter begins its headword.
-fn longest(letter: u8) -> Entry {
-    let mut headword = vec![b'h'; MOST_HEADWORD];
-    headword[0] = letter;
-    let parts = [
-        (PRONUNCIATION, &[b'p'; MOST_PRONUNCIATION][..]),
-        (EXAMPLE, &[b'e'; MOST_EXAMPLE]),
-    ];
-    Entry {
-        attribute: 128 | WITH_PARTS,
-        list: list_bytes(&parts),
-        ..entry(&headword, MOST_TEXT)
     }
 }
 
@@ -136,23 +116,11 @@ fn two_c() -> Wanted {
 
 fn insert(headword: &[u8], text: usize) -> Change {
     let entry = entry(headword, text);
-    Change::Insert(Insertion::plain(
-        entry.headword,
-        entry.attribute,
-        entry.text,
-    ))
-}
-
-/// The longest headword, text and parts, but for so many bytes more of each of these.
-fn insert_longest(letter: u8, more: [usize; 3]) -> Change {
-    let [text, example, pronunciation] = more;
-    Change::Insert(Insertion {
-        headword: longest(letter).headword,
-        attribute: 128 | WITH_PARTS,
-        text: vec![b't'; MOST_TEXT + text],
-        example: Given::there(&vec![b'e'; MOST_EXAMPLE + example]),
-        pronunciation: Given::there(&vec![b'p'; MOST_PRONUNCIATION + pronunciation]),
-    })
+    Change::Insert {
+        headword: entry.headword,
+        attribute: entry.attribute,
+        text: entry.text,
+    }
 }
 
 fn delete(headword: &[u8]) -> Change {
@@ -395,54 +363,5 @@ fn largest_packed() -> Limit {
         extra_index: 0,
         room: 0,
         calls: vec![(Change::Optimise, 0, packed)],
-    }
-}
-
-/// Runs of 95 blocks: written, replaced, refused with one byte more of each, deleted and packed.
-fn longest_entries() -> Limit {
-    let written = |told: &Told| told.longest_part == 95;
-    let refused = |_: &Told| true;
-    Limit {
-        name: "the longest entries",
-        runs: vec![run_of(b"a", 1), run_of(b"z", 1)],
-        extra_index: 0,
-        room: BLOCK * 700,
-        calls: vec![
-            (insert_longest(b'b', [0, 0, 0]), 0, written),
-            (insert_longest(b'c', [0, 0, 0]), 0, written),
-            (insert_longest(b'c', [0, 0, 0]), 0, |told| {
-                told.replaced && told.had_parts && told.longest_part == 95
-            }),
-            (insert_longest(b'c', [1, 0, 0]), 13, refused),
-            (insert_longest(b'c', [0, 1, 0]), 13, refused),
-            (insert_longest(b'c', [0, 0, 1]), 13, refused),
-            (insert_longest(b'd', [0, 0, 0]), 0, written),
-            (delete(&longest(b'b').headword), 0, |told| {
-                told.old_blocks == 95
-            }),
-            (insert(&longest(b'c').headword, 5), 0, |told| {
-                told.replaced && told.had_parts && told.longest_part < 95
-            }),
-            (Change::Optimise, 0, |told| told.given_up > 95),
-        ],
-    }
-}
-
-/// A stored run of 95 blocks is moved where the index grows, and its list keeps its order.
-fn longest_entries_moved() -> Limit {
-    let stored = Wanted {
-        entries: vec![longest(b'b')],
-        spare: 0,
-    };
-    let moved = |told: &Told| told.longest_moved == 95 && told.turned_elsewhere == 1;
-    Limit {
-        name: "the longest entry moved",
-        runs: vec![stored, two_c(), run_of(b"d", 1), run_of(b"e", 1)],
-        extra_index: 0,
-        room: BLOCK * 200,
-        calls: vec![
-            (delete(b"c"), 0, moved),
-            (Change::Optimise, 0, |told| told.turned_elsewhere == 1),
-        ],
     }
 }

@@ -4,7 +4,6 @@
 
 use crate::letters::{Letters, ANY, HIGH, MIXED, PAIRED};
 use crate::pairs::inside_pair;
-use crate::parts::{list_bytes, most_of, EXAMPLE, LIST_END, PRONUNCIATION, WITH_PARTS};
 use crate::random::Random;
 use crate::reader::{at, format, Entry, Format, Header, Image, Run, FORMATS};
 use crate::reader::{BLOCK, CHAIN_END, MOST_HEADWORD, MOST_TEXT};
@@ -127,8 +126,6 @@ pub struct EntryAt {
     pub zero: usize,
     pub attribute: usize,
     pub text: usize,
-    /// Behind the text; with parts its zero stands here, and the part list behind it.
-    pub text_end: usize,
     pub end: usize,
 }
 
@@ -228,7 +225,7 @@ pub fn common(a: &[u8], b: &[u8]) -> usize {
 
 /// Bytes of the entries in a run, with its count and end marks.
 pub fn encoded_size(entries: &[Entry]) -> usize {
-    let each = |entry: &Entry| 3 + (entry.headword.len() - entry.front) + 2 + entry.rest_size();
+    let each = |entry: &Entry| 3 + (entry.headword.len() - entry.front) + 2 + entry.text.len();
     2 + entries.iter().map(each).sum::<usize>() + 2
 }
 
@@ -259,7 +256,7 @@ pub fn cut(random: &mut Random, entries: Vec<Entry>, cut: Cut, fronts: Fronts) -
             Fronts::Any => random.range(0, longest),
             Fronts::None => 0,
         };
-        let need = 5 + entry.headword.len() - entry.front + entry.rest_size();
+        let need = 5 + entry.headword.len() - entry.front + entry.text.len();
         let fits = match cut {
             Cut::Bytes(most) => size + need <= most,
             Cut::Chance(_) => room > 0,
@@ -267,7 +264,7 @@ pub fn cut(random: &mut Random, entries: Vec<Entry>, cut: Cut, fronts: Fronts) -
         };
         if runs.is_empty() || !fits {
             entry.front = 0;
-            size = 4 + 5 + entry.headword.len() + entry.rest_size();
+            size = 4 + 5 + entry.headword.len() + entry.text.len();
             if let Cut::Chance(most) = cut {
                 room = random.range(1, most) - 1;
             }
@@ -429,22 +426,20 @@ fn encode(run: &Run, start: usize) -> (Vec<u8>, RunAt) {
     for entry in &run.entries {
         let rest = &entry.headword[entry.front..];
         let length = start + bytes.len();
-        bytes.extend_from_slice(&((rest.len() + 2 + entry.rest_size()) as u16).to_le_bytes());
+        bytes.extend_from_slice(&((rest.len() + 2 + entry.text.len()) as u16).to_le_bytes());
         bytes.push(entry.front as u8);
         bytes.extend_from_slice(rest);
         bytes.push(0);
         bytes.push(entry.attribute);
-        entry.put_rest(&mut bytes);
-        let text = length + 5 + rest.len();
+        bytes.extend_from_slice(&entry.text);
         entries.push(EntryAt {
             length,
             front: length + 2,
             rest: length + 3,
             zero: length + 3 + rest.len(),
             attribute: length + 4 + rest.len(),
-            text,
-            text_end: text + entry.text.len(),
-            end: text + entry.rest_size(),
+            text: length + 5 + rest.len(),
+            end: length + 5 + rest.len() + entry.text.len(),
         });
     }
     let marks = start + bytes.len();
@@ -523,11 +518,10 @@ fn stem(random: &mut Random, letters: &Letters) -> Vec<u8> {
     letters.bytes(random, size)
 }
 
-/// An attribute of an entry without parts.
 pub fn attribute(random: &mut Random) -> u8 {
     match random.below(2) {
         0 => 0x80,
-        _ => (random.byte() | 0x80) & !WITH_PARTS,
+        _ => (random.byte() | 0x80) & !0x10,
     }
 }
 
@@ -540,92 +534,19 @@ pub fn text(random: &mut Random, size: usize) -> Vec<u8> {
     text
 }
 
-/// Bytes of a part: any but zero, now and then those that begin or end something in a list.
-pub fn part(random: &mut Random, size: usize) -> Vec<u8> {
-    let mut part = text(random, size);
-    if random.chance(1, 4) {
-        for byte in &mut part {
-            *byte = *random.pick(&[EXAMPLE, PRONUNCIATION, LIST_END, b'a']);
-        }
-    }
-    part
-}
-
-/// The kinds of a list's parts in their order.
-const KINDS_LISTED: [&[u8]; 5] = [
-    &[EXAMPLE],
-    &[PRONUNCIATION],
-    &[EXAMPLE, PRONUNCIATION],
-    &[PRONUNCIATION, EXAMPLE],
-    &[PRONUNCIATION, EXAMPLE],
-];
-
-/// A part list: one or two parts in either order, each of at most `most` bytes.
-pub fn part_list(random: &mut Random, most: usize) -> Vec<u8> {
-    let mut parts = Vec::new();
-    for kind in *random.pick(&KINDS_LISTED) {
-        let limit = most_of(*kind).expect("a kind");
-        let mut size = random.range(0, most.min(limit));
-        if random.chance(1, 6) {
-            size = 0;
-        }
-        parts.push((*kind, part(random, size)));
-    }
-    list_of(&parts)
-}
-
-/// The list of parts, each a kind and its bytes.
-pub fn list_of(parts: &[(u8, Vec<u8>)]) -> Vec<u8> {
-    let lent: Vec<(u8, &[u8])> = parts
-        .iter()
-        .map(|(kind, part)| (*kind, &part[..]))
-        .collect();
-    list_bytes(&lent)
-}
-
-/// A list whose parts are the longest or one byte shorter.
-pub fn longest_list(random: &mut Random) -> Vec<u8> {
-    let mut parts = Vec::new();
-    for kind in *random.pick(&KINDS_LISTED) {
-        let limit = most_of(*kind).expect("a kind");
-        let size = limit - random.below(2);
-        parts.push((*kind, part(random, size)));
-    }
-    list_of(&parts)
-}
-
-/// Gives an entry a part list, and its attribute 0x10.
-pub fn give_list(entry: &mut Entry, list: Vec<u8>) {
-    entry.attribute |= WITH_PARTS;
-    entry.list = list;
-}
-
-/// An entry without a shared front and without parts.
-pub fn plain_entry(random: &mut Random, headword: Vec<u8>, text_size: usize) -> Entry {
+/// An entry without a shared front.
+pub fn entry(random: &mut Random, headword: Vec<u8>, text_size: usize) -> Entry {
     Entry {
         front: 0,
         headword,
         attribute: attribute(random),
         text: text(random, text_size),
-        list: vec![],
     }
-}
-
-/// An entry without a shared front; every second one has short parts.
-pub fn entry(random: &mut Random, headword: Vec<u8>, text_size: usize) -> Entry {
-    let mut entry = plain_entry(random, headword, text_size);
-    if random.chance(1, 2) {
-        give_list(&mut entry, part_list(random, 20));
-    }
-    entry
 }
 
 /// Up to `number` ascending entries of together about `budget` bytes at most.
 fn entries(random: &mut Random, number: usize, budget: usize, letters: &Letters) -> Vec<Entry> {
     let most = *random.pick(&[0, 3, 10, 40, 40, 150, 400, 1_100, MOST_TEXT]);
-    // In a fourth of the lists no entry has parts, in the others two in three have.
-    let most_part = *random.pick(&[0, 3, 20, 20, 150, 1_200]);
-    let with_parts = random.chance(3, 4);
     let mut list = Vec::new();
     let mut sum = 0;
     for headword in headwords(random, number, letters) {
@@ -633,15 +554,11 @@ fn entries(random: &mut Random, number: usize, budget: usize, letters: &Letters)
         if random.chance(1, 8) {
             size = *random.pick(&[0, 1, most]);
         }
-        let mut entry = plain_entry(random, headword, size);
-        if with_parts && random.chance(2, 3) {
-            give_list(&mut entry, part_list(random, most_part));
-        }
-        sum += entry.headword.len() + entry.rest_size() + 5;
+        sum += headword.len() + size + 5;
         if sum > budget && !list.is_empty() {
             break;
         }
-        list.push(entry);
+        list.push(entry(random, headword, size));
     }
     list
 }
@@ -839,8 +756,8 @@ pub fn fit_index(random: &mut Random, sketch: &mut Sketch, tail: usize) -> bool 
     true
 }
 
-/// Headwords of 247 and 248 bytes, texts of 2,999 and 3,000, the longest parts, runs whose end
-/// marks are the last bytes or lie across two blocks, an index with exactly four zero bytes.
+/// Headwords of 247 and 248 bytes, texts of 2,999 and 3,000, runs whose end marks are the
+/// last bytes or lie across two blocks, an index with exactly four zero bytes.
 fn edges(random: &mut Random, header: Vec<u8>, number: usize, letters: &'static Letters) -> Sketch {
     let mut list = entries(random, number.min(8), 1_500, letters);
     if random.chance(1, 2) {
@@ -863,11 +780,6 @@ fn edges(random: &mut Random, header: Vec<u8>, number: usize, letters: &'static 
         let at = random.below(list.len());
         let size = random.range(MOST_TEXT - 1, MOST_TEXT);
         list[at].text = text(random, size);
-    }
-    if random.chance(1, 12) {
-        let at = random.below(list.len());
-        let longest = longest_list(random);
-        give_list(&mut list[at], longest);
     }
     let way = *random.pick(&[Cut::Bytes(1_024), Cut::Chance(3), Cut::One]);
     let mut sketch = plain(header, cut(random, list, way, Fronts::Longest));

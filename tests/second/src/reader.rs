@@ -2,8 +2,6 @@
 //! elements, runs with their entries, chain), and the rules are tested on the values.
 //! Quoted sentences are those of the papers; the numbers are their table's.
 
-use crate::parts::{parts_of, WITH_PARTS};
-
 /// Size of a block, and of the header.
 pub const BLOCK: usize = 256;
 /// "1 to 32,767 (top bit clear)": blocks in a run; also the most index blocks.
@@ -117,25 +115,6 @@ pub struct Entry {
     pub headword: Vec<u8>,
     pub attribute: u8,
     pub text: Vec<u8>,
-    /// The part list as stored, 0x80 included; empty without parts.
-    pub list: Vec<u8>,
-}
-
-impl Entry {
-    /// Appends what stands behind the attribute: the text and, "With 0x10 in the attribute", its
-    /// zero and the part list.
-    pub fn put_rest(&self, bytes: &mut Vec<u8>) {
-        bytes.extend_from_slice(&self.text);
-        if has_parts(self.attribute) {
-            bytes.push(0);
-            bytes.extend_from_slice(&self.list);
-        }
-    }
-
-    /// The number of those bytes.
-    pub fn rest_size(&self) -> usize {
-        self.text.len() + has_parts(self.attribute) as usize + self.list.len()
-    }
 }
 
 /// A run: its first block, its number of blocks, its entries.
@@ -195,14 +174,9 @@ pub fn is_text(bytes: &[u8]) -> bool {
     bytes.len() <= MOST_TEXT && !bytes.contains(&0)
 }
 
-/// "The attribute has 0x80 set".
+/// "The attribute has 0x80 set and 0x10 clear."
 pub fn is_attribute(attribute: u8) -> bool {
-    attribute & 0x80 == 0x80
-}
-
-/// "With 0x10 in the attribute the text ends in a zero byte, then come parts".
-pub fn has_parts(attribute: u8) -> bool {
-    attribute & WITH_PARTS == WITH_PARTS
+    attribute & 0x80 == 0x80 && attribute & 0x10 == 0
 }
 
 /// Reads the first `len` bytes of `slice`, or gives the number of the first refusal.
@@ -221,11 +195,14 @@ pub fn read(slice: &[u8], len: usize) -> Result<Image, u32> {
     // "After the header come index_block blocks of 256 bytes, then D data blocks".
     let (index, data) = image[BLOCK..].split_at(index_blocks * BLOCK);
     let elements = read_index(index, header.four(format.nindex2)).ok_or(6u32)?;
-    // "rows 7 and 8 are taken run by run in index order", and so is 16, "tested after 8 for the same
-    // entry".
+    // "rows 7 and 8 are taken run by run in index order".
     let mut runs = Vec::new();
     for (i, element) in elements.iter().enumerate() {
-        runs.push(read_run(data, data_blocks, element, elements.get(i + 1))?);
+        let run = read_run(data, data_blocks, element.block)?;
+        if !run_rules(&run, element, elements.get(i + 1)) {
+            return Err(8);
+        }
+        runs.push(run);
     }
     let chain = read_chain(data, data_blocks, header.four(format.empty_block2)).ok_or(9u32)?;
     let image = Image {
@@ -317,15 +294,9 @@ fn read_index(area: &[u8], nindex2: u32) -> Option<Vec<Element>> {
     Some(elements)
 }
 
-/// The run of an element (7), with its entries (8, 16) and the rules on its end (8).
-fn read_run(
-    data: &[u8],
-    data_blocks: usize,
-    element: &Element,
-    next: Option<&Element>,
-) -> Result<Run, u32> {
+/// The run that starts at block `number` (7), with its entries (8).
+fn read_run(data: &[u8], data_blocks: usize, number: usize) -> Result<Run, u32> {
     // 7: "number not below D, size 0, top bit set, or run past the data area".
-    let number = element.block;
     if number >= data_blocks {
         return Err(7);
     }
@@ -336,13 +307,7 @@ fn read_run(
     }
     // "2 bytes with its number of blocks, ... then entries, then two zero bytes, all inside
     // its blocks."
-    let entries = read_entries(&start[2..blocks * BLOCK], element)?;
-    // "a run's rules on its end marks and last headword (8) come after all its entries": "A run has
-    // at least one entry; ... the last is below the next element's."
-    let last = entries.last().ok_or(8u32)?;
-    if next.is_some_and(|next| last.headword >= next.headword) {
-        return Err(8);
-    }
+    let entries = read_entries(&start[2..blocks * BLOCK]).ok_or(8u32)?;
     Ok(Run {
         block: number,
         blocks,
@@ -350,66 +315,55 @@ fn read_run(
     })
 }
 
-/// The entries up to the two zero bytes, each by all its rules before the next.
-fn read_entries(bytes: &[u8], element: &Element) -> Result<Vec<Entry>, u32> {
+/// The entries up to the two zero bytes, or nothing if an entry rule is broken (8).
+fn read_entries(bytes: &[u8]) -> Option<Vec<Entry>> {
     let mut entries: Vec<Entry> = Vec::new();
     let mut rest = bytes;
     loop {
-        let length = two(rest.get(..2).ok_or(8u32)?) as usize;
+        // "An entry: field length (2), shared front (1), rest of headword, zero,
+        // attribute (1), text without a terminator."
+        let length = two(rest.get(..2)?) as usize;
         if length == 0 {
-            return Ok(entries);
+            return Some(entries);
         }
-        let entry = read_entry(rest, length, entries.last()).ok_or(8u32)?;
-        // "headwords ascend strictly in it; the first is its element's".
-        let in_order = match entries.last() {
-            Some(previous) => previous.headword < entry.headword,
-            None => entry.headword == element.headword,
-        };
-        if !in_order {
-            return Err(8);
-        }
-        // 16: "a stored part list that breaks these rules".
-        if has_parts(entry.attribute) && parts_of(&entry.list).is_none() {
-            return Err(16);
-        }
-        entries.push(entry);
+        let front = *rest.get(2)? as usize;
+        // "The field length counts from the headword rest to the text's end."
+        let field = rest.get(3..3 + length)?;
         rest = &rest[3 + length..];
+        let zero = field.iter().position(|byte| *byte == 0)?;
+        let attribute = *field.get(zero + 1)?;
+        let text = &field[zero + 2..];
+        // "The shared front is at most the previous headword's length, and 0 in a run's
+        // first entry."
+        let previous = match entries.last() {
+            Some(entry) => &entry.headword[..],
+            None => &[],
+        };
+        let mut headword = previous.get(..front)?.to_vec();
+        headword.extend_from_slice(&field[..zero]);
+        if !is_headword(&headword) || !is_attribute(attribute) || !is_text(text) {
+            return None;
+        }
+        entries.push(Entry {
+            front,
+            headword,
+            attribute,
+            text: text.to_vec(),
+        });
     }
 }
 
-/// The entry at the start of `bytes`, or nothing if one of its rules is broken (8); those on its
-/// part list are not tested.
-fn read_entry(bytes: &[u8], length: usize, previous: Option<&Entry>) -> Option<Entry> {
-    // "An entry: field length (2), shared front (1), rest of headword, zero,
-    // attribute (1), text without a terminator."
-    let front = *bytes.get(2)? as usize;
-    // "The field length counts from the headword rest to the text's end"; "0x80 ends the list and
-    // the field."
-    let field = bytes.get(3..3 + length)?;
-    let zero = field.iter().position(|byte| *byte == 0)?;
-    let attribute = *field.get(zero + 1)?;
-    let mut text = &field[zero + 2..];
-    let mut list: &[u8] = &[];
-    if has_parts(attribute) {
-        // "A text lacking its zero is 8."
-        let end = text.iter().position(|byte| *byte == 0)?;
-        (text, list) = (&text[..end], &text[end + 1..]);
-    }
-    // "The shared front is at most the previous headword's length, and 0 in a run's
-    // first entry."
-    let previous = previous.map_or(&[][..], |entry| &entry.headword);
-    let mut headword = previous.get(..front)?.to_vec();
-    headword.extend_from_slice(&field[..zero]);
-    if !is_headword(&headword) || !is_attribute(attribute) || !is_text(text) {
-        return None;
-    }
-    Some(Entry {
-        front,
-        headword,
-        attribute,
-        text: text.to_vec(),
-        list: list.to_vec(),
-    })
+/// "A run has at least one entry; headwords ascend strictly in it; the first is its
+/// element's, and the last is below the next element's."
+fn run_rules(run: &Run, element: &Element, next: Option<&Element>) -> bool {
+    let (Some(first), Some(last)) = (run.entries.first(), run.entries.last()) else {
+        return false;
+    };
+    run.entries
+        .windows(2)
+        .all(|pair| pair[0].headword < pair[1].headword)
+        && first.headword == element.headword
+        && next.map_or(true, |next| last.headword < next.headword)
 }
 
 /// "A free block: two zero bytes, then the next free number (4), 0xFFFFFFFF at the end;

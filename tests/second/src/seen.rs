@@ -17,13 +17,12 @@ pub enum Call {
     Insert,
     Delete,
     Optimise,
-    PartStep,
 }
 
 impl Call {
     pub fn of(change: &Change) -> Call {
         match change {
-            Change::Insert(_) => Call::Insert,
+            Change::Insert { .. } => Call::Insert,
             Change::Delete { .. } => Call::Delete,
             Change::Optimise => Call::Optimise,
         }
@@ -40,36 +39,22 @@ fn version_place(version: u8) -> usize {
 
 /// Each call with the answers that must be seen, and no others, of versions 4 and 5 each and of
 /// another: 0 done, 100 absent, else the refusal. "15 is never given by optimise".
-const CALLS: [(&str, &[u32], &[u32]); 8] = [
+const CALLS: [(&str, &[u32], &[u32]); 7] = [
     ("create", &[0, 1], &[1, 3]),
     ("check", &[0], &[]),
     ("look up", &[0, ABSENT, 14], &[]),
     ("walk", &[0, ABSENT, 14], &[]),
     (
         "insert",
-        &[0, 1, 2, 3, 4, 5, 6, 7, 8, 16, 9, 10, 11, 12, 13, 15],
+        &[0, 1, 2, 3, 4, 5, 6, 7, 8, 9, 10, 11, 12, 13, 15],
         &[3],
     ),
     (
         "delete",
-        &[0, ABSENT, 1, 2, 3, 4, 5, 6, 7, 8, 16, 9, 10, 11, 12, 15],
+        &[0, ABSENT, 1, 2, 3, 4, 5, 6, 7, 8, 9, 10, 11, 12, 15],
         &[3],
     ),
-    (
-        "optimise",
-        &[0, 1, 2, 3, 4, 5, 6, 7, 8, 16, 9, 10, 11],
-        &[3],
-    ),
-    // It is on no file; counted by that of its history.
-    ("part step", &[0, ABSENT, 16], &[]),
-];
-
-/// The orders of 8 and 16 that must be seen, each by how the names of its damages begin.
-pub const ORDERS: [&str; 4] = [
-    "order: 8 and 16 in one entry",
-    "order: 8 before 16 of a later entry",
-    "order: 16 before 8 of a later entry",
-    "order: 16 before 8 of the end",
+    ("optimise", &[0, 1, 2, 3, 4, 5, 6, 7, 8, 9, 10, 11], &[3]),
 ];
 
 /// The answers listed for a call at a place of VERSIONS.
@@ -81,8 +66,8 @@ fn listed(call: usize, version: usize) -> &'static [u32] {
     }
 }
 
-/// Answers have places 0 to 16, and 17 for absent.
-const ANSWERS: usize = 18;
+/// Answers have places 0 to 15, and 16 for absent.
+const ANSWERS: usize = 17;
 
 fn answer_place(number: u32) -> usize {
     match number {
@@ -105,15 +90,6 @@ impl Seen<'_> {
 
     fn placed(&self) -> bool {
         self.done(Call::Insert) || self.done(Call::Delete)
-    }
-
-    fn replaced(&self) -> bool {
-        self.done(Call::Insert) && self.told.replaced
-    }
-
-    /// The entry inserted has parts.
-    fn has_parts(&self) -> bool {
-        self.told.example || self.told.pronunciation
     }
 
     fn index_shrank(&self) -> bool {
@@ -244,53 +220,6 @@ const WANTED: &[Wanted] = &[
     ("front inside a pair, written anew and shorter", 70, |s| {
         s.placed() && s.told.mended > 0
     }),
-    ("entry with an example only", 300, |s| {
-        s.done(Call::Insert) && s.told.example && !s.told.pronunciation
-    }),
-    ("entry with a pronunciation only", 300, |s| {
-        s.done(Call::Insert) && !s.told.example && s.told.pronunciation
-    }),
-    ("entry with both parts", 300, |s| {
-        s.done(Call::Insert) && s.told.example && s.told.pronunciation
-    }),
-    ("entry with an empty part", 300, |s| {
-        s.done(Call::Insert) && s.told.empty_part
-    }),
-    ("part that is not there, slice not looked at", 300, |s| {
-        s.done(Call::Insert) && s.told.passed_over
-    }),
-    ("parts replaced by parts", 100, |s| {
-        s.replaced() && s.told.had_parts && s.has_parts()
-    }),
-    ("parts replaced by none", 100, |s| {
-        s.replaced() && s.told.had_parts && !s.has_parts()
-    }),
-    ("no parts replaced by parts", 100, |s| {
-        s.replaced() && !s.told.had_parts && s.has_parts()
-    }),
-    ("pronunciation first, kept by optimise", 100, |s| {
-        s.done(Call::Optimise) && s.told.turned_elsewhere > 0
-    }),
-    ("pronunciation first, kept in another run", 500, |s| {
-        s.placed() && s.told.turned_elsewhere > 0
-    }),
-    ("pronunciation first, kept beside an insertion", 100, |s| {
-        s.done(Call::Insert) && s.told.turned_beside > 0
-    }),
-    ("pronunciation first, kept beside a deletion", 100, |s| {
-        s.done(Call::Delete) && s.told.turned_beside > 0
-    }),
-    ("pronunciation first, replaced", 30, |s| {
-        s.replaced() && s.told.turned_replaced
-    }),
-    ("run of 95 blocks written", 4, |s| {
-        s.placed() && s.told.longest_part == 95
-    }),
-    (
-        "insertion of 95 blocks that the slice cannot hold",
-        50,
-        |s| s.call == Call::Insert && s.told.over_slice && s.told.longest_part == 95,
-    ),
 ];
 
 /// Counts by version, as FORMATS stands.
@@ -305,8 +234,6 @@ pub struct Tally {
     wanted: Vec<ByVersion>,
     /// By place in STARTS.
     starts: Vec<ByVersion>,
-    /// Images by place in ORDERS.
-    orders: [ByVersion; ORDERS.len()],
 }
 
 impl drive::Tally for Tally {
@@ -317,7 +244,6 @@ impl drive::Tally for Tally {
             answers: [[[0; ANSWERS]; CALLS.len()]; VERSIONS.len()],
             wanted: vec![[0; FORMATS.len()]; WANTED.len()],
             starts: vec![[0; FORMATS.len()]; STARTS.len()],
-            orders: [[0; FORMATS.len()]; ORDERS.len()],
         }
     }
 
@@ -331,7 +257,6 @@ impl drive::Tally for Tally {
         );
         add_each(self.wanted.as_flattened_mut(), other.wanted.as_flattened());
         add_each(self.starts.as_flattened_mut(), other.starts.as_flattened());
-        add_each(self.orders.as_flattened_mut(), other.orders.as_flattened());
     }
 }
 
@@ -345,11 +270,6 @@ impl Tally {
 
     pub fn all_histories(&self) -> u64 {
         self.histories.iter().sum()
-    }
-
-    /// An image of a version on which the changing calls are made, for an order of ORDERS.
-    pub fn count_order(&mut self, order: usize, version: u8) {
-        self.orders[order][version_place(version)] += 1;
     }
 
     /// A call on a file of a version.
@@ -432,14 +352,6 @@ impl Tally {
                 }
             }
         }
-        for (name, counts) in ORDERS.iter().zip(&self.orders) {
-            for (format, count) in FORMATS.iter().zip(counts) {
-                if *count == 0 {
-                    println!("NOT SEEN: {}, version {}", name, format.version);
-                    amiss = true;
-                }
-            }
-        }
         amiss
     }
 
@@ -469,11 +381,6 @@ impl Tally {
                 print!("{:>8}{:>8}", count, least);
             }
             println!("  {}", name);
-        }
-        println!();
-        println!("Images in version 4 and in version 5 that the changing calls refuse:");
-        for (name, counts) in ORDERS.iter().zip(&self.orders) {
-            println!("{:>8}{:>8}  {}", counts[0], counts[1], name);
         }
         println!();
         println!("Starts in version 4 and in version 5:");

@@ -1,10 +1,9 @@
 //! Where a history starts: an empty image, or one that another program could have written.
 
 use crate::both::Change;
-use crate::editor::Insertion;
 use crate::letters::{ANY, KANA, MIXED};
-use crate::make::{any_header, cut, entry, headwords, lay_out, plain, plain_entry, put_four};
-use crate::make::{render, sketch, some_continue, text, Cut, Fronts, Ground, Kind, Links, Sketch};
+use crate::make::{any_header, cut, entry, headwords, lay_out, plain, put_four, render};
+use crate::make::{sketch, some_continue, text, Cut, Fronts, Ground, Kind, Links, Sketch};
 use crate::random::Random;
 use crate::reader::{at, BLOCK, MOST_HEADWORD, MOST_TEXT};
 
@@ -143,14 +142,17 @@ fn one_block(random: &mut Random) -> (Sketch, Change) {
     let mut list = Vec::new();
     for tail in [b'A', b'Z'] {
         let word = [&stem[..], &[tail]].concat();
-        list.push(plain_entry(random, word, 4));
+        list.push(entry(random, word, 4));
     }
     let runs = cut(random, list, Cut::One, Fronts::Longest);
     let sketch = plain(any_header(random), runs);
     let size = random.range(1_100, MOST_TEXT);
-    let word = [&stem[..], b"M"].concat();
-    let change = Insertion::plain(word, 0x80, text(random, size));
-    (sketch, Change::Insert(change))
+    let change = Change::Insert {
+        headword: [&stem[..], b"M"].concat(),
+        attribute: 0x80,
+        text: text(random, size),
+    };
+    (sketch, change)
 }
 
 fn gaps(random: &mut Random) -> Sketch {
@@ -171,16 +173,14 @@ fn gaps(random: &mut Random) -> Sketch {
     sketch
 }
 
-/// How many bytes the slice has behind L: none, less than a block, few blocks, or many; the longest
-/// entry takes 95.
+/// How many bytes the slice has behind L: none, less than a block, few blocks, or many.
 pub fn room(random: &mut Random) -> usize {
-    match random.below(20) {
-        0 | 1 => 0,
-        2 | 3 => random.range(1, BLOCK - 1),
-        4 | 5 => BLOCK * random.range(1, 3),
-        6..=9 => random.range(BLOCK, 12 * BLOCK),
-        10..=15 => random.range(10 * BLOCK, 50 * BLOCK),
-        16..=18 => random.range(50 * BLOCK, 150 * BLOCK),
-        _ => random.range(200 * BLOCK, 400 * BLOCK),
+    match random.below(10) {
+        0 => 0,
+        1 => random.range(1, BLOCK - 1),
+        2 => BLOCK * random.range(1, 3),
+        3 | 4 => random.range(BLOCK, 12 * BLOCK),
+        5..=7 => random.range(10 * BLOCK, 50 * BLOCK),
+        _ => random.range(50 * BLOCK, 150 * BLOCK),
     }
 }

@@ -5,8 +5,8 @@ mod by_hand;
 
 use by_hand::{empty, put, File, FILES};
 use second::both::{Both, Change};
-use second::calls::{Answer, Sizes};
-use second::editor::{Given, Insertion, Told};
+use second::calls::Answer;
+use second::editor::Told;
 use second::random::Random;
 use second::reader::{read, Image};
 
@@ -43,37 +43,11 @@ impl Book {
     }
 
     fn insert(&mut self, headword: &[u8], text: &[u8]) -> u32 {
-        let (headword, text) = (headword.to_vec(), text.to_vec());
-        self.change(Change::Insert(Insertion::plain(headword, 128, text)))
-    }
-
-    /// An insertion with text "t" and these parts, each with its mark.
-    fn insert_parts(
-        &mut self,
-        headword: &[u8],
-        attribute: u8,
-        example: (u8, &[u8]),
-        pronunciation: (u8, &[u8]),
-    ) -> u32 {
-        let given = |(mark, bytes): (u8, &[u8])| Given {
-            mark,
-            bytes: bytes.to_vec(),
-        };
-        self.change(Change::Insert(Insertion {
+        self.change(Change::Insert {
             headword: headword.to_vec(),
-            attribute,
-            text: b"t".to_vec(),
-            example: given(example),
-            pronunciation: given(pronunciation),
-        }))
-    }
-
-    /// The stored list of an entry.
-    fn list(&self, headword: &[u8]) -> Vec<u8> {
-        let image = self.image();
-        let mut entries = image.entries();
-        let entry = entries.find(|entry| entry.headword == headword);
-        entry.expect("an entry").list.clone()
+            attribute: 128,
+            text: text.to_vec(),
+        })
     }
 
     fn delete(&mut self, headword: &[u8]) -> u32 {
@@ -314,17 +288,9 @@ fn f4_stored_fronts_are_read_and_kept() {
         let mut book = with_cut_pair(file);
         let read = read(book.bytes(), book.len);
         assert_eq!(book.both.check(&read, book.len), Ok(0));
-        let sizes = Sizes {
-            headword: 2,
-            text: 1,
-            parts: 0,
-        };
+        assert_eq!(book.both.look_up(&read, book.len, b"\x81\x41", 1), Ok(0));
         assert_eq!(
-            book.both.look_up(&read, book.len, b"\x81\x41", sizes),
-            Ok(0)
-        );
-        assert_eq!(
-            book.both.walk(&read, book.len, b"\x81\x40", 1, sizes),
+            book.both.walk(&read, book.len, b"\x81\x40", 1, (2, 1)),
             Ok(0)
         );
         let kept = |book: &Book| book.bytes()[512..512 + CUT_PAIR.len()] == *CUT_PAIR;
@@ -552,239 +518,4 @@ fn changes_keep_the_identifier() {
         book.bytes()[182..200],
         *b"\0\0\0\0\0\0\xFF\xFF\xFF\xFF\x01\0\0\0\x03\0\0\0"
     );
-}
-
-/// "writes 0x01 first", the text's zero before and 0x80 behind; empty parts and any mark but 0.
-#[test]
-fn f5_bytes() {
-    for file in &FILES {
-        let mut book = Book::new(file, 2_048);
-        assert_eq!(book.insert_parts(b"a", 0x90, (1, b"ex"), (0xFF, b"pr")), 0);
-        assert_eq!(book.insert_parts(b"b", 0xB1, (2, b""), (0, b"pr")), 0);
-        assert_eq!(book.insert_parts(b"c", 0xD0, (0, b"ex"), (1, b"")), 0);
-        assert_eq!(book.insert_parts(b"d", 0x90, (1, b""), (1, b"")), 0);
-        let run = [
-            &b"\x01\x00\x0d\x00\x00a\x00\x90t\x00\x01ex\x00\x02pr\x00\x80"[..],
-            b"\x08\x00\x00b\x00\xb1t\x00\x01\x00\x80",
-            b"\x08\x00\x00c\x00\xd0t\x00\x02\x00\x80",
-            b"\x0a\x00\x00d\x00\x90t\x00\x01\x00\x02\x00\x80",
-        ];
-        let mut bytes = vec![0; 256];
-        let run = run.concat();
-        bytes[..run.len()].copy_from_slice(&run);
-        bytes[2] = 14;
-        assert_eq!(book.bytes()[512..], bytes);
-    }
-}
-
-/// "An inserted part over its length or with a zero, or 0x10 set without parts or clear with them,
-/// is refused 13." What is lent for a part that is not there is not looked at.
-#[test]
-fn f5_refused_13() {
-    let example = |size| vec![b'e'; size];
-    let pronunciation = |size| vec![b'p'; size];
-    for file in &FILES {
-        let mut book = Book::new(file, 80_000);
-        let mut insert = |attribute, example: (u8, &[u8]), pronunciation: (u8, &[u8])| {
-            book.insert_parts(b"a", attribute, example, pronunciation)
-        };
-        for (example_mark, pronunciation_mark) in [(0, 0), (1, 0), (0, 2), (0x80, 0xFF)] {
-            let marked = example_mark != 0 || pronunciation_mark != 0;
-            for attribute in 0..=255 {
-                let number = insert(attribute, (example_mark, b""), (pronunciation_mark, b""));
-                let right = attribute & 0x80 != 0 && (attribute & 0x10 != 0) == marked;
-                assert_eq!(
-                    number,
-                    if right { 0 } else { 13 },
-                    "attribute {:#x}",
-                    attribute
-                );
-            }
-        }
-        for (size, zero, number) in [
-            (20_000, false, 0),
-            (20_001, false, 13),
-            (65_536, false, 13),
-            (3, true, 13),
-        ] {
-            let mut part = example(size);
-            part.extend_from_slice(if zero { &[0] } else { &[] });
-            assert_eq!(insert(0x90, (1, &part), (0, b"")), number);
-            // Not there: the other part, or none.
-            assert_eq!(insert(0x90, (0, &part), (1, b"")), 0);
-            assert_eq!(insert(0x80, (0, &part), (0, b"")), 0);
-        }
-        for (size, zero, number) in [
-            (1_000, false, 0),
-            (1_001, false, 13),
-            (20_000, false, 13),
-            (65_536, false, 13),
-            (3, true, 13),
-        ] {
-            let mut part = pronunciation(size);
-            part.extend_from_slice(if zero { &[0] } else { &[] });
-            assert_eq!(insert(0x90, (0, b""), (1, &part)), number);
-            assert_eq!(insert(0x90, (1, b""), (0, &part)), 0);
-            assert_eq!(insert(0x80, (0, b""), (0, &part)), 0);
-        }
-    }
-}
-
-/// Replacing an entry replaces its parts, and no others.
-#[test]
-fn f5_replaced() {
-    for file in &FILES {
-        let mut book = Book::new(file, 4_096);
-        assert_eq!(book.insert_parts(b"a", 0x90, (1, b"ex"), (1, b"pr")), 0);
-        assert_eq!(book.insert_parts(b"b", 0x90, (1, b"other"), (0, b"")), 0);
-        assert_eq!(book.insert_parts(b"a", 0x90, (0, b""), (1, b"p")), 0);
-        assert_eq!(book.list(b"a"), b"\x02p\x00\x80");
-        assert_eq!(book.insert(b"a", b"plain"), 0);
-        assert_eq!(book.list(b"a"), b"");
-        assert_eq!(book.insert_parts(b"a", 0x90, (1, b""), (0, b"")), 0);
-        assert_eq!(book.list(b"a"), b"\x01\x00\x80");
-        assert_eq!(book.list(b"b"), b"\x01other\x00\x80");
-    }
-}
-
-/// A file of another program: one run with a and b, whose lists have the pronunciation first.
-fn with_turned_lists(file: &File) -> Book {
-    let mut bytes = empty(file);
-    bytes.resize(768, 0);
-    for (place, byte) in [(148, 1), (160, 2), (file.nindex2, 1), (file.nblock2, 1)] {
-        bytes[place] = byte;
-    }
-    put(&mut bytes, 256, b"\x00\x00a\x00");
-    let run = b"\x01\x00\x0c\x00\x00a\x00\x90t\x00\x02p\x00\x01e\x00\x80";
-    put(&mut bytes, 512, run);
-    put(
-        &mut bytes,
-        512 + run.len(),
-        b"\x0b\x00\x00b\x00\x90\x00\x02p\x00\x01e\x00\x80",
-    );
-    bytes.resize(4_096, 0);
-    Book {
-        both: Both::new(&bytes, Random::of(1, 1)),
-        len: 768,
-    }
-}
-
-/// "a stored list keeps its order".
-#[test]
-fn f5_stored_order_is_kept() {
-    const TURNED: &[u8] = b"\x02p\x00\x01e\x00\x80";
-    for file in &FILES {
-        let mut book = with_turned_lists(file);
-        let read = read(book.bytes(), book.len);
-        assert_eq!(book.both.check(&read, book.len), Ok(0));
-        let lists = |book: &Book| [book.list(b"a"), book.list(b"b")];
-        assert_eq!(book.optimise(), 0);
-        assert_eq!(lists(&book), [TURNED, TURNED]);
-        // Other entries of the run come, change and go.
-        assert_eq!(book.insert_parts(b"ab", 0x90, (1, b"ex"), (1, b"pr")), 0);
-        assert_eq!(lists(&book), [TURNED, TURNED]);
-        assert_eq!(book.insert(b"ab", &t(1_000)), 0);
-        assert_eq!(lists(&book), [TURNED, TURNED]);
-        assert_eq!(book.delete(b"ab"), 0);
-        assert_eq!(lists(&book), [TURNED, TURNED]);
-        // Its own insertion writes the example first; the deletion of another keeps the rest.
-        assert_eq!(book.insert_parts(b"a", 0x90, (1, b"e"), (1, b"p")), 0);
-        assert_eq!(lists(&book), [&b"\x01e\x00\x02p\x00\x80"[..], TURNED]);
-        assert_eq!(book.delete(b"a"), 0);
-        assert_eq!(book.list(b"b"), TURNED);
-    }
-}
-
-/// The longest entry has 24,259 bytes, its run 95 blocks.
-#[test]
-fn f5_longest() {
-    let (example, pronunciation) = (vec![b'e'; 20_000], vec![b'p'; 1_000]);
-    for file in &FILES {
-        for (size, number) in [(256 * 97, 0), (256 * 97 - 1, 15)] {
-            let mut book = Book::new(file, size);
-            let insertion = Insertion {
-                headword: vec![b'x'; 248],
-                attribute: 0x90,
-                text: t(3_000),
-                example: Given::there(&example),
-                pronunciation: Given::there(&pronunciation),
-            };
-            assert_eq!(book.change(Change::Insert(insertion)), number);
-            if number == 0 {
-                assert_eq!((book.len, book.places()), (size, vec![(0, 95)]));
-                assert_eq!(book.list(&[b'x'; 248]).len(), 21_005);
-            }
-        }
-    }
-}
-
-/// Steps at each offset of a slice, and past it: part, end, or 16.
-fn steps(list: &[u8]) -> Vec<u32> {
-    let mut both = Both::new(&[], Random::of(1, 1));
-    let past = [list.len(), list.len() + 1, usize::MAX - 1, usize::MAX];
-    for offset in past {
-        assert_eq!(both.part_step(list, offset), Ok(16));
-    }
-    let each = |offset| both.part_step(list, offset).expect("both answer alike");
-    (0..list.len()).map(each).collect()
-}
-
-#[test]
-fn f5_steps() {
-    for list in [
-        &b""[..],
-        b"\x80",
-        b"\x01\x00",
-        b"\x01\x80",
-        b"\x01\x00\x80\x80",
-        b"\x01\x00\x01\x00\x80",
-        b"\x03\x00\x80",
-    ] {
-        assert!(steps(list).iter().all(|number| *number == 16), "{:?}", list);
-    }
-    assert_eq!(steps(b"\x01\x00\x80"), [0, 16, 100]);
-    assert_eq!(steps(b"\x02p\x00\x80"), [0, 16, 16, 100]);
-    // The bytes of a part may be those of a kind or of the end.
-    assert_eq!(
-        steps(b"\x02\x01\x80\x00\x01\x02\x00\x80"),
-        [0, 16, 16, 16, 0, 16, 16, 100]
-    );
-}
-
-/// All slices of up to six bytes over those that lists are made of.
-#[test]
-fn f5_steps_of_short_slices() {
-    const BYTES: [u8; 5] = [0x00, 0x01, 0x02, 0x80, b'a'];
-    let mut both = Both::new(&[], Random::of(1, 1));
-    for size in 0..=6 {
-        for number in 0..BYTES.len().pow(size) {
-            let byte = |place| BYTES[number / BYTES.len().pow(place) % BYTES.len()];
-            let list: Vec<u8> = (0..size).map(byte).collect();
-            for offset in (0..=list.len()).chain([usize::MAX]) {
-                both.part_step(&list, offset).expect("both answer alike");
-            }
-        }
-    }
-}
-
-/// The longest list at all its offsets, and lists one byte longer.
-#[test]
-fn f5_steps_of_the_longest() {
-    let part = |kind: u8, size: usize| [&[kind], &vec![b'x'; size][..], &[0]].concat();
-    let list = |parts: &[Vec<u8>]| [&parts.concat()[..], &[0x80]].concat();
-    let numbers = steps(&list(&[part(2, 1_000), part(1, 20_000)]));
-    let places = |wanted| {
-        let places = numbers.iter().enumerate();
-        let places = places.filter(move |(_, number)| **number == wanted);
-        places.map(|(place, _)| place).collect::<Vec<usize>>()
-    };
-    assert_eq!((places(0), places(100)), (vec![0, 1_002], vec![21_004]));
-    let mut both = Both::new(&[], Random::of(1, 1));
-    for longer in [
-        list(&[part(1, 20_001)]),
-        list(&[part(2, 1_001)]),
-        list(&[part(2, 1_000), part(1, 20_001)]),
-    ] {
-        assert_eq!(both.part_step(&longer, 0), Ok(16));
-    }
 }

@@ -4,8 +4,8 @@
 mod by_hand;
 
 use by_hand::{empty, put, File, FILES};
-use second::calls::{check, look_up, walk, Answer, Counts, Sizes};
-use second::engine::{self, Lent, Outputs};
+use second::calls::{check, look_up, walk, Answer, Counts};
+use second::engine::{self, Lent};
 use second::make::{common, cut, encoded_size, lay_out, render, Cut, Fronts};
 use second::make::{Ground, Links, Sketch};
 use second::random::Random;
@@ -44,7 +44,6 @@ fn entry(headword: &[u8], text: &[u8]) -> Entry {
         headword: headword.to_vec(),
         attribute: 128,
         text: text.to_vec(),
-        list: vec![],
     }
 }
 
@@ -102,99 +101,34 @@ fn both_check(bytes: &[u8], len: usize) -> Result<[u64; 4], u32> {
     second
 }
 
-/// Output slices of these sizes, and numbers to be written.
-fn outputs(sizes: Sizes) -> Outputs {
-    Outputs {
-        headword: Lent::filled(sizes.headword, 0xEE, 0x33, 5),
-        text: Lent::filled(sizes.text, 0xEE, 0x11, 2),
-        parts: Lent::filled(sizes.parts, 0xEE, 0x44, 4),
-        attribute: Lent::filled(1, 0xEE, 0x22, 3),
-        lengths: [9; 7],
-    }
-}
-
-/// The first bytes of an output slice; those behind them keep their contents.
-fn written(slice: &Lent, length: usize) -> Vec<u8> {
-    let (answer, behind) = slice.contents().split_at(length);
-    assert!(behind.iter().all(|byte| *byte == 0xEE));
-    answer.to_vec()
-}
-
-/// An entry found: headword, attribute, text and part list.
-type Found = (Vec<u8>, u8, Vec<u8>, Vec<u8>);
-
-/// What was written with 0, or the number; nothing was written with another.
-fn found(
-    number: u32,
-    headword: Option<&[u8]>,
-    out: &Outputs,
-    before: &Outputs,
-) -> Result<Found, u32> {
-    if number != 0 {
-        assert_eq!(out, before);
-        return Err(number);
-    }
-    let [_, text, _, headword_length, _, parts, _] = out.lengths;
-    Ok((
-        headword.map_or_else(|| written(&out.headword, headword_length), <[u8]>::to_vec),
-        out.attribute.contents()[0],
-        written(&out.text, text),
-        written(&out.parts, parts),
-    ))
-}
-
-fn of_second(answer: Answer<&Entry>) -> Result<Found, u32> {
-    match answer {
-        Answer::Done(entry) => Ok((
-            entry.headword.clone(),
-            entry.attribute,
-            entry.text.clone(),
-            entry.list.clone(),
-        )),
-        other => Err(other.number()),
-    }
-}
-
-/// Look up by both: the entry, or the number. The sizes are those for text and parts.
-fn look_up_parts(bytes: &[u8], word: &[u8], sizes: (usize, usize)) -> Result<Found, u32> {
-    let sizes = Sizes {
-        headword: 0,
-        text: sizes.0,
-        parts: sizes.1,
-    };
-    let mut image = Lent::new(bytes, 0xA5, 0);
-    let mut headword = Lent::new(word, 0x5A, 1);
-    let mut out = outputs(sizes);
-    let number = engine::look_up(&mut image, bytes.len(), &mut headword, &mut out);
-    let engine = found(number, Some(word), &out, &outputs(sizes));
-    let second = of_second(look_up(&read(bytes, bytes.len()), word, sizes));
-    assert_eq!(engine, second);
-    second
-}
-
-/// Look up by both of an entry without parts: attribute and text, or the number.
+/// Look up by both: attribute and text, or the number.
 fn both_look_up(bytes: &[u8], word: &[u8], size: usize) -> Result<(u8, Vec<u8>), u32> {
-    look_up_parts(bytes, word, (size, 0)).map(|(_, attribute, text, _)| (attribute, text))
-}
-
-/// Walk by both: the entry, or the number. The sizes are those for headword, text and parts.
-fn walk_parts(
-    bytes: &[u8],
-    word: &[u8],
-    above: u8,
-    sizes: (usize, usize, usize),
-) -> Result<Found, u32> {
-    let sizes = Sizes {
-        headword: sizes.0,
-        text: sizes.1,
-        parts: sizes.2,
-    };
     let mut image = Lent::new(bytes, 0xA5, 0);
     let mut headword = Lent::new(word, 0x5A, 1);
-    let mut out = outputs(sizes);
-    let number = engine::walk(&mut image, bytes.len(), &mut headword, above, &mut out);
-    let engine = found(number, None, &out, &outputs(sizes));
-    let second = of_second(walk(&read(bytes, bytes.len()), word, above != 0, sizes));
+    let mut text = Lent::filled(size, 0xEE, 0x11, 2);
+    let mut attribute = Lent::filled(1, 0xEE, 0x22, 3);
+    let mut lengths = [9; 5];
+    let number = engine::look_up(
+        &mut image,
+        bytes.len(),
+        &mut headword,
+        &mut text,
+        &mut attribute,
+        &mut lengths,
+    );
+    let engine = match number {
+        0 => {
+            let length = lengths[1];
+            assert!(text.contents()[length..].iter().all(|byte| *byte == 0xEE));
+            Ok((attribute.contents()[0], text.contents()[..length].to_vec()))
+        }
+        _ => Err(number),
+    };
+    let read = read(bytes, bytes.len());
+    let second = match look_up(&read, word, size) {
+        Answer::Done(entry) => Ok((entry.attribute, entry.text.clone())),
+        other => Err(other.number()),
+    };
     assert_eq!(engine, second);
     second
 }
@@ -206,8 +140,36 @@ fn both_walk(
     above: u8,
     sizes: (usize, usize),
 ) -> Result<(Vec<u8>, Vec<u8>), u32> {
-    let found = walk_parts(bytes, word, above, (sizes.0, sizes.1, 0));
-    found.map(|(headword, _, text, _)| (headword, text))
+    let mut image = Lent::new(bytes, 0xA5, 0);
+    let mut headword = Lent::new(word, 0x5A, 1);
+    let mut out = Lent::filled(sizes.0, 0xEE, 0x33, 5);
+    let mut text = Lent::filled(sizes.1, 0xEE, 0x11, 2);
+    let mut attribute = Lent::filled(1, 0xEE, 0x22, 3);
+    let mut lengths = [9; 5];
+    let number = engine::walk(
+        &mut image,
+        bytes.len(),
+        &mut headword,
+        above,
+        &mut out,
+        &mut text,
+        &mut attribute,
+        &mut lengths,
+    );
+    let engine = match number {
+        0 => Ok((
+            out.contents()[..lengths[3]].to_vec(),
+            text.contents()[..lengths[1]].to_vec(),
+        )),
+        _ => Err(number),
+    };
+    let read = read(bytes, bytes.len());
+    let second = match walk(&read, word, above != 0, sizes.0, sizes.1) {
+        Answer::Done(entry) => Ok((entry.headword.clone(), entry.text.clone())),
+        other => Err(other.number()),
+    };
+    assert_eq!(engine, second);
+    second
 }
 
 const ROOM: (usize, usize) = (248, 3_000);
@@ -664,162 +626,4 @@ fn rows_7_and_8_run_by_run_of(file: &File) {
     let mut fault = bytes;
     put(&mut fault, 260, &[0, 0]);
     assert_eq!(both_check(&fault, 1_792), Err(8));
-}
-
-/// F-5: an image of P2 with 0x10 in its attribute and these bytes behind its text's zero.
-fn with_list(file: &File, list: &[u8]) -> Vec<u8> {
-    let mut bytes = p2(file);
-    let length = (9 + list.len()) as u16;
-    let run = [b"ABC\x00\x90one\x00", list, b"\x00\x00"].concat();
-    let blocks = (run.len() + 5).div_ceil(256);
-    bytes.resize(512 + 256 * blocks, 0);
-    bytes[512..].fill(0);
-    put(&mut bytes, file.nblock2, &(blocks as u32).to_le_bytes());
-    put(&mut bytes, 512, &(blocks as u16).to_le_bytes());
-    put(&mut bytes, 514, &length.to_le_bytes());
-    put(&mut bytes, 517, &run);
-    bytes
-}
-
-/// A part of one letter, so many times.
-fn part(kind: u8, letter: u8, size: usize) -> Vec<u8> {
-    [&[kind], &vec![letter; size][..], &[0]].concat()
-}
-
-/// "A list has one or two parts, each kind at most once, in either order".
-#[test]
-fn f5_lists() {
-    let example = |size| part(0x01, b'e', size);
-    let pronunciation = |size| part(0x02, b'p', size);
-    let end = vec![0x80];
-    let good: &[&[Vec<u8>]] = &[
-        &[example(0), end.clone()],
-        &[pronunciation(0), end.clone()],
-        &[example(3), end.clone()],
-        &[example(0), pronunciation(0), end.clone()],
-        &[pronunciation(0), example(0), end.clone()],
-        &[pronunciation(2), example(3), end.clone()],
-        &[example(20_000), end.clone()],
-        &[pronunciation(1_000), end.clone()],
-        &[example(20_000), pronunciation(1_000), end.clone()],
-        &[pronunciation(1_000), example(20_000), end.clone()],
-    ];
-    let broken: &[&[Vec<u8>]] = &[
-        &[],
-        &[end.clone()],
-        &[end.clone(), end.clone()],
-        &[vec![0]],
-        &[vec![0x01]],
-        &[vec![0x01, 0x80]],
-        &[vec![0x01, 0x00]],
-        &[vec![0x01, b'e', 0x80]],
-        &[vec![0x01, 0x00, 0x00, 0x80]],
-        &[example(3), end.clone(), vec![0]],
-        &[example(3), end.clone(), end.clone()],
-        &[end.clone(), example(3), end.clone()],
-        &[example(3), pronunciation(2)],
-        &[part(0x00, b'e', 3), end.clone()],
-        &[part(0x03, b'e', 3), end.clone()],
-        &[part(0x81, b'e', 3), end.clone()],
-        &[example(3), example(2), end.clone()],
-        &[pronunciation(3), pronunciation(2), end.clone()],
-        &[example(1), pronunciation(1), example(1), end.clone()],
-        &[example(1), part(0x03, b'x', 1), end.clone()],
-        &[example(20_001), end.clone()],
-        &[pronunciation(1_001), end.clone()],
-        &[example(1), pronunciation(1_001), end.clone()],
-        &[pronunciation(1), example(20_001), end],
-    ];
-    for file in &FILES {
-        for list in good {
-            let list = list.concat();
-            let bytes = with_list(file, &list);
-            let blocks = (bytes.len() / 256 - 2) as u64;
-            assert_eq!(both_check(&bytes, bytes.len()), Ok([1, 1, blocks, 0]));
-            let entry = Ok((b"ABC".to_vec(), 0x90, b"one".to_vec(), list.clone()));
-            assert_eq!(look_up_parts(&bytes, b"ABC", (3, list.len())), entry);
-            assert_eq!(walk_parts(&bytes, b"", 0, (3, 3, list.len())), entry);
-            // 14 by the parts slice alone.
-            let short = list.len() - 1;
-            assert_eq!(look_up_parts(&bytes, b"ABC", (3, short)), Err(14));
-            assert_eq!(walk_parts(&bytes, b"", 0, (3, 3, short)), Err(14));
-            assert_eq!(look_up_parts(&bytes, b"ABD", (0, 0)), Err(100));
-        }
-        for list in broken {
-            let bytes = with_list(file, &list.concat());
-            assert_eq!(both_check(&bytes, bytes.len()), Err(16), "{:?}", list);
-            assert_eq!(look_up_parts(&bytes, b"", (0, 0)), Err(16));
-            assert_eq!(walk_parts(&bytes, &[0], 0, (0, 0, 0)), Err(16));
-        }
-    }
-}
-
-/// "A text lacking its zero is 8", and so are a text of 3,001 bytes and parts without 0x10.
-#[test]
-fn f5_texts() {
-    for file in &FILES {
-        let mut bytes = p2(file);
-        bytes[521] = 0x90;
-        assert_eq!(both_check(&bytes, 768), Err(8));
-        let mut bytes = with_list(file, b"\x01\x00\x80");
-        bytes[521] = 0x80;
-        assert_eq!(both_check(&bytes, 768), Err(8));
-        let with_text = |size| {
-            let mut long = entry(b"ABC", &t(size));
-            long.attribute = 0x90;
-            long.list = b"\x01\x00\x80".to_vec();
-            make(file, vec![long])
-        };
-        assert!(both_check(&with_text(3_000), with_text(3_000).len()).is_ok());
-        assert_eq!(
-            both_check(&with_text(3_001), with_text(3_001).len()),
-            Err(8)
-        );
-    }
-}
-
-/// "tested after 8 for the same entry; a run's rules on its end marks and last headword (8) come
-/// after all its entries."
-#[test]
-fn f5_8_and_16() {
-    for file in &FILES {
-        let listed = |word: &[u8]| Entry {
-            attribute: 0x90,
-            list: b"\x01e\x00\x80".to_vec(),
-            ..entry(word, b"text")
-        };
-        // Two runs: a, b and a long text; d.
-        let long = entry(b"ca", &t(980));
-        let good = make(file, vec![listed(b"a"), listed(b"b"), long, listed(b"d")]);
-        let (first, second, third) = (514, 529, 544);
-        let (front, word, attribute, end) = (2, 3, 5, 14);
-        assert!(both_check(&good, good.len()).is_ok());
-        let with = |faults: &[(usize, u8)]| {
-            let mut bytes = good.clone();
-            for (place, byte) in faults {
-                bytes[*place] = *byte;
-            }
-            both_check(&bytes, bytes.len()).err()
-        };
-        let (list_1, list_2) = ((first + end, 0), (second + end, 0));
-        assert_eq!(with(&[list_1]), Some(16));
-        assert_eq!(with(&[list_2]), Some(16));
-        // In one entry: not its element's, no attribute, a front; no ascent, field past the run.
-        assert_eq!(with(&[list_1, (first + word, b'A')]), Some(8));
-        assert_eq!(with(&[list_1, (first + attribute, 0x10)]), Some(8));
-        assert_eq!(with(&[list_1, (first + front, 1)]), Some(8));
-        assert_eq!(with(&[list_2, (second + word, b'a')]), Some(8));
-        assert_eq!(with(&[list_2, (second + 1, 0xFF)]), Some(8));
-        // In two: the earlier one's number.
-        assert_eq!(with(&[list_1, (second + word, b'a')]), Some(16));
-        assert_eq!(with(&[list_1, (second + attribute, 0x10)]), Some(16));
-        assert_eq!(with(&[list_1, (second + 1, 0xFF)]), Some(16));
-        assert_eq!(with(&[list_2, (first + attribute, 0x10)]), Some(8));
-        // The last headword is not below the next element's, and a run is past the data area.
-        assert_eq!(with(&[(third + word, b'e')]), Some(8));
-        assert_eq!(with(&[list_2, (third + word, b'e')]), Some(16));
-        assert_eq!(with(&[list_2, (good.len() - 256, 9)]), Some(16));
-        assert_eq!(with(&[list_2, (512, 9)]), Some(7));
-        assert_eq!(with(&[list_2, (160, 9), (file.empty_block2, 9)]), Some(16));
-    }
 }

@@ -13,7 +13,7 @@ fn said_of(number: u32) -> String {
 
 #[test]
 fn answers_that_are_not_listed() {
-    for number in (0..=11).chain([16]) {
+    for number in 0..=11 {
         let line = format!("optimise answers {}, version 4", number);
         assert!(!said_of(number).contains(&line));
         assert!(!said_of(number).contains("NOT TO BE SEEN"));

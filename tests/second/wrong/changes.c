@@ -1,9 +1,32 @@
 /* Wrong engines, continued: the calls that change an image. Each is done right on the slices lent,
    then spoiled in the one way that WRONG names. */
 
-#include "wrong.h"
+#include <stddef.h>
+#include <stdint.h>
+#include <stdlib.h>
+#include <string.h>
+
+uint32_t right_pdic_create(uint8_t *image, size_t image_size, uint8_t version, uint64_t ident, size_t *new_len);
+uint32_t right_pdic_insert(uint8_t *image, size_t image_size, size_t len, uint8_t *work, size_t work_size,
+                           const uint8_t *headword, size_t headword_size, uint8_t attribute,
+                           const uint8_t *text, size_t text_size, size_t *new_len);
+uint32_t right_pdic_delete(uint8_t *image, size_t image_size, size_t len, uint8_t *work, size_t work_size,
+                           const uint8_t *headword, size_t headword_size, size_t *new_len);
+uint32_t right_pdic_optimise(uint8_t *image, size_t image_size, size_t len, uint8_t *work, size_t work_size,
+                             size_t *new_len);
+
+static int is(const char *name) {
+    const char *way = getenv("WRONG");
+    return way != NULL && strcmp(way, name) == 0;
+}
+
+static uint32_t two(const uint8_t *p) { return p[0] | (uint32_t)p[1] << 8; }
+static uint32_t four(const uint8_t *p) { return two(p) | two(p + 2) << 16; }
+static void put_two(uint8_t *p, uint32_t v) { p[0] = (uint8_t)v, p[1] = (uint8_t)(v >> 8); }
+static void put_four(uint8_t *p, uint32_t v) { put_two(p, v), put_two(p + 2, v >> 16); }
 
 enum { INSERT, DELETE, OPTIMISE };
+#define CHAIN_END 0xFFFFFFFFu
 
 /* A call: what was lent, and copies from before it. */
 typedef struct {
@@ -18,6 +41,16 @@ typedef struct {
 static void take_back(call *c) {
     memcpy(c->image, c->image_before, c->image_size);
     *c->new_len = c->new_len_before;
+}
+
+/* The fields that version 5 has two bytes later than version 4. */
+static uint8_t *moved(uint8_t *image, size_t place) { return image + place + (image[141] == 5 ? 2 : 0); }
+static uint8_t *empty_block2(uint8_t *image) { return moved(image, 186); }
+static uint8_t *nindex2(uint8_t *image) { return moved(image, 190); }
+
+static uint32_t index_blocks(const uint8_t *image) { return two(image + 148); }
+static uint8_t *block(uint8_t *image, uint32_t number) {
+    return image + 256 * (1 + (size_t)index_blocks(image) + number);
 }
 
 /* The element of an image at a place; NULL past the last. */
@@ -39,10 +72,6 @@ static uint32_t concerned(uint8_t *image, const uint8_t *headword, size_t size) 
         word += length + 1 + 2;
     }
     return found;
-}
-
-uint8_t *element_concerned(uint8_t *image, const uint8_t *headword, size_t size) {
-    return element(image, concerned(image, headword, size));
 }
 
 /* Behind a run's end marks. */
@@ -161,7 +190,8 @@ static int rewrite_fronts(uint8_t *run) {
     return keeps;
 }
 
-int each_run(uint8_t *image, int (*with)(uint8_t *run)) {
+/* Whether something holds of a run of an image, or could be done with one; all are taken. */
+static int each_run(uint8_t *image, int (*with)(uint8_t *run)) {
     int some = 0;
     uint8_t *at = image + 256;
     for (uint32_t left = four(nindex2(image)); left > 0; left--) {
@@ -180,6 +210,7 @@ static int run_inside_pair(uint8_t *run) {
     return 0;
 }
 
+/* Whether a stored front of an image ends inside a pair. */
 int front_inside_pair(uint8_t *image) { return each_run(image, run_inside_pair); }
 
 /* The deleted headword stands in the index again, where the one in its place is as long. */
@@ -291,16 +322,7 @@ static uint32_t done_wrong(call *c) {
             return 15;
         }
     }
-    if (c->kind == INSERT) {
-        size_t size;
-        uint8_t *entry = entry_of(image, c->headword, c->headword_size), *list = entry ? list_at(entry, &size) : NULL;
-        if (is("pronunciation-written-first") && list) turn_list(list, size);
-        if (is("other-parts-lost") && run) drop_list(run, c->headword, c->headword_size);
-    }
     if (c->kind == DELETE && is("old-headword-in-index")) old_headword(c);
-    if (c->kind == DELETE && is("delete-sorts-lists") && run) sort_lists(run);
-    if (c->kind == INSERT && is("insert-sorts-lists") && run) sort_lists(run);
-    if (c->kind == OPTIMISE && is("optimise-sorts-lists")) each_run(image, sort_lists);
     if (c->kind != OPTIMISE) {
         if (is("front-shorter") && run) shorten_front(run);
         if (is("change-mends-fronts")) each_run(image, rewrite_fronts);
@@ -347,9 +369,6 @@ static uint32_t refused_wrong(call *c, uint32_t number) {
     if (is("12-before-11") && number == 11 && c->kind != OPTIMISE && c->headword_size == 0) return 12;
     if (is("identifier-altered-on-15") && number == 15 && c->image[141] == 5) c->image[216] ^= 1;
     if (is("absent-as-12") && number == 100) return 12;
-    if (is("insert-8-for-16") && number == 16 && c->kind == INSERT) return 8;
-    if (is("delete-8-for-16") && number == 16 && c->kind == DELETE) return 8;
-    if (is("optimise-8-for-16") && number == 16 && c->kind == OPTIMISE) return 8;
     if (is("crash-on-15") && number == 15) *(volatile int *)0 = 0;
     return number;
 }
@@ -405,72 +424,20 @@ uint32_t pdic_create(uint8_t *image, size_t image_size, uint8_t version, uint64_
     return 0;
 }
 
-/* A part as lent. */
-typedef struct {
-    uint8_t there;
-    const uint8_t *bytes;
-    size_t size;
-} given;
-
-static int has_zero(given part) { return part.size > 0 && memchr(part.bytes, 0, part.size) != NULL; }
-
-/* The part of a kind in a list, as lent. */
-static given part_in(const uint8_t *list, size_t size, uint8_t kind) {
-    size_t place, length, next;
-    uint8_t found;
-    for (size_t at = 0; right_pdic_part_step(list, size, at, &found, &place, &length, &next) == 0; at = next)
-        if (found == kind) return (given){ 1, list + place, length };
-    return (given){ 0, list, 0 };
-}
-
-/* The parts that WRONG gives an insertion, and the attribute with them. */
-static void wrong_parts(uint8_t *old, uint8_t *attribute, given *example, given *pronunciation) {
-    size_t size;
-    uint8_t *list = old ? list_at(old, &size) : NULL;
-    int parts = example->there || pronunciation->there;
-    if (is("0x10-without-parts") && !parts) *attribute &= 0xEF;
-    if (is("0x10-clear-with-parts") && parts) *attribute |= 0x10;
-    if (is("20001-inserted") && example->size == MOST_EXAMPLE + 1) example->size--;
-    if (is("1001-inserted") && pronunciation->size == MOST_PRONUNCIATION + 1) pronunciation->size--;
-    if (is("part-16-bits")) example->size = (uint16_t)example->size, pronunciation->size = (uint16_t)pronunciation->size;
-    if (is("part-to-its-zero") && has_zero(*example)) example->size = strlen((char *)example->bytes);
-    if (is("mark-low-bit")) example->there &= 1, pronunciation->there &= 1;
-    if (is("empty-part-left-out") && example->size == 0) example->there = 0;
-    if (is("parts-kept") && !parts && list && (*attribute & 0x90) == 0x80) {
-        *attribute |= 0x10;
-        *example = part_in(list, size, 1);
-        *pronunciation = part_in(list, size, 2);
-    }
-}
-
-/* A part that is not there and could not be one. */
-static int passed_over(given part, size_t most) { return !part.there && (part.size > most || has_zero(part)); }
-
 uint32_t pdic_insert(uint8_t *image, size_t image_size, size_t len, uint8_t *work, size_t work_size,
                      const uint8_t *headword, size_t headword_size, uint8_t attribute, const uint8_t *text,
-                     size_t text_size, uint8_t has_example, const uint8_t *example, size_t example_size,
-                     uint8_t has_pronunciation, const uint8_t *pronunciation, size_t pronunciation_size,
-                     size_t *new_len) {
+                     size_t text_size, size_t *new_len) {
     if (is("text-first") && text_size > 3000) return 13;
     if (is("text-16-bits")) text_size = (uint16_t)text_size;
-    given e = { has_example, example, example_size }, p = { has_pronunciation, pronunciation, pronunciation_size };
-    int over = (is("absent-example-read") && passed_over(e, MOST_EXAMPLE)) ||
-               (is("absent-pronunciation-read") && passed_over(p, MOST_PRONUNCIATION));
+    if (is("attribute-high-bit-only")) attribute &= 0xEF;
     call c = before(INSERT, image, image_size, len, work, work_size, headword, headword_size, new_len);
-    uint64_t n[4];
-    int good = right_pdic_check(image, image_size, len, n, n + 1, n + 2, n + 3) == 0;
-    wrong_parts(good ? entry_of(c.image_before, headword, headword_size) : NULL, &attribute, &e, &p);
-    uint32_t number = right_pdic_insert(image, image_size, len, work, work_size, headword, headword_size, attribute, text,
-                                        text_size, e.there, e.bytes, e.size, p.there, p.bytes, p.size, new_len);
-    if (over && number == 0) {
-        take_back(&c);
-        number = 13;
-    }
+    uint32_t number = right_pdic_insert(image, image_size, len, work, work_size, headword, headword_size,
+                                        attribute, text, text_size, new_len);
     if (is("version-16-changed") && number == 11) {
         uint8_t version = image[140];
         image[140] = 0;
-        number = right_pdic_insert(image, image_size, len, work, work_size, headword, headword_size, attribute, text,
-                                   text_size, e.there, e.bytes, e.size, p.there, p.bytes, p.size, new_len);
+        number = right_pdic_insert(image, image_size, len, work, work_size, headword, headword_size,
+                                   attribute, text, text_size, new_len);
         image[140] = version;
     }
     return after(&c, number);

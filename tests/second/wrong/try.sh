@@ -6,7 +6,7 @@ here=$(cd "$(dirname "$0")" && pwd)
 work=$(mktemp -d)
 trap 'rm -rf "$work"' EXIT
 "$here/../../right.sh" "$work/libpdic.a"
-for part in wrong changes lists; do
+for part in wrong changes; do
     gcc -O2 -Wall -Werror -c "$here/$part.c" -o "$work/$part.o"
     ar rs "$work/libpdic.a" "$work/$part.o" 2>/dev/null
 done
@@ -46,14 +46,7 @@ try compare 20000 absent-always text-length-one-more 14-for-absent zero-behind-t
     attribute-on-absent argument-first headword-8-bits count-by-guess refuse-all accept-10 9-as-10 \
     chain-16-bits touch-behind-L number-on-refusal length-32-bits skip-run-start above-low-bit \
     write-before-14 walk-empty-12 crash version-6-read os-at-171 os-at-167-too nblock2-at-194 \
-    8-for-front-in-a-pair 16-before-8-of-its-entry 8-of-a-later-entry-first 8-of-the-end-first \
-    two-of-a-kind-accepted three-parts-accepted 20001-accepted 1001-accepted pronunciation-of-20000 \
-    kind-3-accepted bytes-behind-list-accepted empty-part-refused pronunciation-first-refused \
-    look-up-14-without-parts walk-14-without-parts text-before-14 list-end-not-copied list-length-one-more \
-    list-length-one-less list-turned list-length-kept-without-parts zero-in-empty-list text-length-with-zero \
-    walk-without-parts step-length-with-zero step-place-of-kind step-skips-a-part step-from-inside step-past-end \
-    step-empty-is-end step-offset-32-bits step-list-cut step-next-of-end step-kind-from-zero step-kind-at-end \
-    step-next-on-16 step-end-is-16
+    8-for-front-in-a-pair
 try histories 500 15-without-placing image-untouched first-call-only same-entry-ignored replaced-counted \
     L-one-block-more behind-end-marks touch-behind-new-L byte-past-image highest-of-equals full-slice-refused \
     old-headword-in-index front-shorter chain-not-renumbered moved-run-trimmed chain-descending \
@@ -63,13 +56,10 @@ try histories 500 15-without-placing image-untouched first-call-only same-entry-
     empty_block-written work-kept-past-L 15-at-index-32767 15-at-data-65536 L-on-refusal L-on-absent \
     absent-counted work-zeroed-on-2 work-kept-on-12 work-kept-on-15 half-done-on-15 12-before-11 \
     absent-as-12 crash-on-15 create-in-255 create-clears-all text-first text-16-bits \
-    version-16-changed counts-at-version-4 version-5-becomes-4 identifier-altered \
+    attribute-high-bit-only version-16-changed counts-at-version-4 version-5-becomes-4 identifier-altered \
     identifier-altered-on-15 optimise-zeroes-identifier identifier-high-byte-first identifier-32-bits \
     identifier-in-version-4 version-6-created create-low-bits create-3-before-1 create-clears-on-3 L-on-3 \
     empty_block2-at-186 front-in-a-pair front-a-pair-shorter pairs-of-the-earlier pairs-from-second-byte \
     pairs-by-the-byte-before 80-leads lead-from-82 lead-to-9e a0-leads df-leads lead-from-e1 lead-to-fb fd-leads \
-    optimise-mends-fronts change-mends-fronts pronunciation-written-first other-parts-lost parts-kept \
-    insert-sorts-lists delete-sorts-lists optimise-sorts-lists 0x10-without-parts 0x10-clear-with-parts 20001-inserted \
-    1001-inserted part-16-bits part-to-its-zero mark-low-bit empty-part-left-out absent-example-read \
-    absent-pronunciation-read insert-8-for-16 delete-8-for-16 optimise-8-for-16
+    optimise-mends-fronts change-mends-fronts
 exit $failed

@@ -1,6 +1,30 @@
-/* Wrong engines: the reading calls. */
+/* Wrong engines: the calls of a right one, each spoiled in one way that WRONG names.
+   The right engine's calls are renamed right_pdic_... in a copy of its library. */
 
-#include "wrong.h"
+#include <stddef.h>
+#include <stdint.h>
+#include <stdlib.h>
+#include <string.h>
+
+uint32_t right_pdic_check(const uint8_t *image, size_t image_size, size_t len, uint64_t *headwords,
+                          uint64_t *index_blocks, uint64_t *data_blocks, uint64_t *free_blocks);
+uint32_t right_pdic_look_up(const uint8_t *image, size_t image_size, size_t len, const uint8_t *headword,
+                            size_t headword_size, uint8_t *text, size_t text_size, uint8_t *attribute,
+                            size_t *text_len);
+uint32_t right_pdic_walk(const uint8_t *image, size_t image_size, size_t len, const uint8_t *headword,
+                         size_t headword_size, uint8_t above, uint8_t *headword_out,
+                         size_t headword_out_size, uint8_t *text, size_t text_size, uint8_t *attribute,
+                         size_t *headword_len, size_t *text_len);
+
+/* Whether a stored front of an accepted image ends inside a pair (changes.c). */
+int front_inside_pair(uint8_t *image);
+
+static const char *way(void) {
+    const char *name = getenv("WRONG");
+    return name ? name : "";
+}
+
+static int is(const char *name) { return strcmp(way(), name) == 0; }
 
 /* How much later a header has empty_block2, nindex2 and nblock2 than version 4. */
 static size_t later(const uint8_t *image) { return image[141] == 5 ? 2 : 0; }
@@ -37,11 +61,6 @@ uint32_t pdic_check(const uint8_t *image, size_t image_size, size_t len, uint64_
         len = (uint32_t)len;
     uint32_t number =
         check_misread(image, image_size, len, headwords, index_blocks, data_blocks, free_blocks);
-    uint64_t counts[4];
-    uint32_t listed = check_lists(image, image_size, len, number, counts);
-    if (listed == 0 && number != 0)
-        *headwords = counts[0], *index_blocks = counts[1], *data_blocks = counts[2], *free_blocks = counts[3];
-    number = listed;
     if (is("count-by-guess") && number == 0)
         *headwords = *data_blocks;
     if (is("refuse-all") && number == 0)
@@ -77,43 +96,14 @@ uint32_t pdic_check(const uint8_t *image, size_t image_size, size_t len, uint64_
 }
 
 uint32_t pdic_look_up(const uint8_t *image, size_t image_size, size_t len, const uint8_t *headword,
-                      size_t headword_size, uint8_t *text, size_t text_size, uint8_t *parts, size_t parts_size,
-                      uint8_t *attribute, size_t *text_len, size_t *parts_len) {
+                      size_t headword_size, uint8_t *text, size_t text_size, uint8_t *attribute,
+                      size_t *text_len) {
     if (is("argument-first") && (headword_size == 0 || headword_size > 248))
         return 12;
     if (is("headword-8-bits"))
         headword_size = (uint8_t)headword_size;
-    uint8_t last = parts_size > 0 ? parts[parts_size - 1] : 0, list[MOST_LIST];
-    if (is("look-up-14-without-parts") && parts_size < MOST_LIST) {
-        uint32_t number = right_pdic_look_up(image, image_size, len, headword, headword_size, text, text_size, list,
-                                             MOST_LIST, attribute, text_len, parts_len);
-        if (number == 0)
-            memcpy(parts, list, *parts_len < parts_size ? *parts_len : parts_size);
-        return number;
-    }
-    uint32_t number = right_pdic_look_up(image, image_size, len, headword, headword_size, text, text_size, parts,
-                                         parts_size, attribute, text_len, parts_len);
-    if (number == 0 && *parts_len > 0) {
-        if (is("list-end-not-copied")) {
-            *parts_len -= 1;
-            if (*parts_len == parts_size - 1)
-                parts[*parts_len] = last;
-        }
-        if (is("list-length-one-more"))
-            *parts_len += 1;
-        if (is("list-length-one-less"))
-            *parts_len -= 1;
-        if (is("text-length-with-zero"))
-            *text_len += 1;
-        if (is("list-turned"))
-            turn_list(parts, *parts_len);
-    }
-    if (is("list-length-kept-without-parts") && number == 0 && *parts_len == 0)
-        *parts_len = parts_size;
-    if (is("zero-in-empty-list") && number == 0 && *parts_len == 0 && parts_size > 0)
-        parts[0] = 0;
-    if (is("text-before-14") && number == 14 && text_size > 0)
-        text[0] ^= 1;
+    uint32_t number = right_pdic_look_up(image, image_size, len, headword, headword_size, text, text_size,
+                                         attribute, text_len);
     if (is("absent-always") && number == 0)
         return 100;
     if (is("text-length-one-more") && number == 0)
@@ -144,34 +134,23 @@ static int in_index(const uint8_t *image, const uint8_t *headword, size_t size) 
 
 uint32_t pdic_walk(const uint8_t *image, size_t image_size, size_t len, const uint8_t *headword,
                    size_t headword_size, uint8_t above, uint8_t *headword_out, size_t headword_out_size,
-                   uint8_t *text, size_t text_size, uint8_t *parts, size_t parts_size, uint8_t *attribute,
-                   size_t *headword_len, size_t *text_len, size_t *parts_len) {
+                   uint8_t *text, size_t text_size, uint8_t *attribute, size_t *headword_len,
+                   size_t *text_len) {
     if (is("above-low-bit"))
         above &= 1;
     if (is("skip-run-start") && headword_size > 0) {
-        uint8_t h[248], t[3000], p[MOST_LIST], a;
-        size_t h_len, t_len, p_len;
+        uint8_t h[248], t[3000], a;
+        size_t h_len, t_len;
         uint32_t number = right_pdic_walk(image, image_size, len, headword, headword_size, above, h, 248, t,
-                                          3000, p, MOST_LIST, &a, &h_len, &t_len, &p_len);
+                                          3000, &a, &h_len, &t_len);
         if (number == 0 && in_index(image, h, h_len) &&
             !(h_len == headword_size && memcmp(h, headword, h_len) == 0))
-            return right_pdic_walk(image, image_size, len, h, h_len, 1, headword_out, headword_out_size, text,
-                                   text_size, parts, parts_size, attribute, headword_len, text_len, parts_len);
-    }
-    if (is("walk-14-without-parts") && parts_size < MOST_LIST) {
-        uint8_t list[MOST_LIST];
-        uint32_t number =
-            right_pdic_walk(image, image_size, len, headword, headword_size, above, headword_out, headword_out_size,
-                            text, text_size, list, MOST_LIST, attribute, headword_len, text_len, parts_len);
-        if (number == 0)
-            memcpy(parts, list, *parts_len < parts_size ? *parts_len : parts_size);
-        return number;
+            return right_pdic_walk(image, image_size, len, h, h_len, 1, headword_out, headword_out_size,
+                                   text, text_size, attribute, headword_len, text_len);
     }
     uint32_t number =
-        right_pdic_walk(image, image_size, len, headword, headword_size, above, headword_out, headword_out_size,
-                        text, text_size, parts, parts_size, attribute, headword_len, text_len, parts_len);
-    if (is("walk-without-parts") && number == 0)
-        *parts_len = 0;
+        right_pdic_walk(image, image_size, len, headword, headword_size, above, headword_out,
+                        headword_out_size, text, text_size, attribute, headword_len, text_len);
     if (is("write-before-14") && number == 14 && headword_out_size > 0)
         headword_out[0] ^= 1;
     if (is("walk-empty-12") && headword_size == 0 && (number == 0 || number == 100))

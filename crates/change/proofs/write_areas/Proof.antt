@@ -61,8 +61,8 @@ after-form-of-write-parts c = search (after-index-of-write-parts c)
 abbrev start-of-write-parts : tie.After-write-parts → tie.Start
 start-of-write-parts c = search (after-form-of-write-parts c)
 
-parts_kept : (c : tie.After-write-parts) → length c.write-parts.new.1.0 ≡ length (start-of-write-parts c).args.image.now
-parts_kept c = c.write-parts.ensures.1.0 ∙ before-kept after-copy-elements
+parts-kept : (c : tie.After-write-parts) → length c.write-parts.new.1.0 ≡ length (start-of-write-parts c).args.image.now
+parts-kept c = c.write-parts.ensures.1.0 ∙ before-kept after-copy-elements
   where
     after-copy-elements : tie.After-copy-elements
     after-copy-elements = search
@@ -83,7 +83,7 @@ abbrev start-of-copy-elements2 : tie.After-copy-elements2 → tie.Start
 start-of-copy-elements2 c = search (after-form-of-copy-elements2 c)
 
 after_kept : (c : tie.After-copy-elements2) → length c.copy-elements2.new.1.0 ≡ length (start-of-copy-elements2 c).args.image.now
-after_kept c = c.copy-elements2.ensures.1.1 ∙ parts_kept after-write-parts
+after_kept c = c.copy-elements2.ensures.1.1 ∙ parts-kept after-write-parts
   where
     after-write-parts : tie.After-write-parts
     after-write-parts = search
@@ -382,7 +382,7 @@ write-parts-requires c κs =
 
 copy-elements-requires-2 : tie.Need-copy-elements-requires-2
 copy-elements-requires-2 c κs =
-    after_asks _ _ _ _ _ _ start.pre.0 _ start.pre.1 _ place.position.ensures _ _ _ (parts_kept after-write-parts) after-copy-elements.copy-elements.ensures.1.0
+    after_asks _ _ _ _ _ _ start.pre.0 _ start.pre.1 _ place.position.ensures _ _ _ (parts-kept after-write-parts) after-copy-elements.copy-elements.ensures.1.0
     (parts_bytes _ _ _ _ _ _ start.pre.0 _ start.pre.1 _ place.position.ensures _ after-entries-start.entries_start.ensures.0 _ _
     after-write-parts.write-parts.ensures.0.1)
   where

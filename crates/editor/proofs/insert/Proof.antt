@@ -1,8 +1,6 @@
 -- `insert` meets its contract.
 use native.Mathlib.Omega.{arith}
-use Rattle.parts.proofs.Laws.{first_bytes}
 use Rattle.editor.proofs.Rows.{insert_slice, insert_short, now_tested, insert_whole}
-use Rattle.editor.proofs.Changes.{made_ok}
 use borrow.Author.Rules.{rules}
 use Rattle.editor.proofs.insert.Statement.{statement}
 use Rattle.editor.proofs.insert.Tie as tie
@@ -22,35 +20,12 @@ same-length-2 c = search rules
 returns-2 : tie.Need-returns-2
 returns-2 c = search insert_short
 
-slice-aggregate-make-body : tie.Need-slice-aggregate-make-body
-slice-aggregate-make-body c = search rules
-
-make-body-requires : tie.Need-make-body-requires
-make-body-requires c κs = search rules
-
-array-share-prefix-buffer : tie.Need-array-share-prefix-buffer
-array-share-prefix-buffer c = omega (arith, after-make-body.make-body.ensures.0.inside, after-make-body.make-body.ensures.1)
-  where
-    after-make-body : tie.After-make-body
-    after-make-body = search
-
-slice-aggregate-insert-tested : tie.Need-slice-aggregate-insert-tested
-slice-aggregate-insert-tested c = first_bytes _ _ after-make-body.make-body.ensures.0.inside
-  where
-    after-make-body : tie.After-make-body
-    after-make-body = search
-
 insert-tested-requires : tie.Need-insert-tested-requires
-insert-tested-requires c κs = (
-  now_tested start.args.image.now start.args.len start.args.work.now _ after-slice-ok.slice_ok.ensures else1.if1.left else2.if2.left,
-  made_ok _ _ start.args.given.parts _ _ _ _ after-make-body.make-body.ensures.0,
-)
+insert-tested-requires c κs =
+    now_tested start.args.image.now start.args.len start.args.work.now _ after-slice-ok.slice_ok.ensures else1.if1.left else2.if2.left
   where
-    after-make-body : tie.After-make-body
-    after-make-body = search
-
     else2 : tie.Else2
-    else2 = search after-make-body
+    else2 = search
 
     else1 : tie.Else1
     else1 = search else2
@@ -76,7 +51,7 @@ returns-3 c =
     insert_whole start.args.image.now start.args.len start.args.work.now _ after-slice-ok.slice_ok.ensures else1.if1.left
     else2.if2.left
     (λ k. omega (arith, after-slice-known.slice-known.given k)) call.last.1.1.0 _ call.ensures.1.1 after-clear.clear.ensures.0 _
-    start.args.headword.now start.args.given _ _ _ _ _ after-make-body.make-body.ensures.0 _ (call.ensures.0, call.ensures.1.0)
+    start.args.headword.now start.args.attribute start.args.text.now _ call.ensures.0 call.ensures.1.0
   where
     after-clear : tie.After-clear
     after-clear = search
@@ -84,11 +59,8 @@ returns-3 c =
     after-insert-tested : tie.After-insert-tested
     after-insert-tested = search after-clear
 
-    after-make-body : tie.After-make-body
-    after-make-body = search after-insert-tested
-
     else2 : tie.Else2
-    else2 = search after-make-body
+    else2 = search after-insert-tested
 
     else1 : tie.Else1
     else1 = search else2
@@ -111,10 +83,6 @@ insert-spec =
     returns
     same-length-2
     returns-2
-    slice-aggregate-make-body
-    make-body-requires
-    array-share-prefix-buffer
-    slice-aggregate-insert-tested
     insert-tested-requires
     clear-requires
     same-length-3

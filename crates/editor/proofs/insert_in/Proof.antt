@@ -1,15 +1,19 @@
 -- `insert_in` meets its contract.
+use Prim.Native.Nat.{◌+◌, ◌≤◌}
 use native.Mathlib.Omega.{arith}
 use mathlib.Core.Path.{◌≡◌, refl}
 use mathlib.Core.Bool.{true}
-use borrow.Author.Tests.{not-false}
-use Rattle.spec.specs.Body.{body_ok}
+use mathlib.Core.List.{◌∷◌}
+use lib.ListN.{length, take}
 use Rattle.spec.specs.Entry.{headword_ok}
-use Rattle.spec.proofs.BodyLaws.{body_short}
+use Rattle.encoder.specs.Limits.{longest_body}
 use Rattle.parts.proofs.Laws.{first_bytes}
 use Rattle.editor.proofs.Rows.{front_blocks, front_accepted, whole_blocks}
 use Rattle.editor.proofs.Changes.{
+  text_short,
   head_good,
+  body_made,
+  body_few,
   draft_front,
   draft_measured,
   draft_inside,
@@ -18,6 +22,7 @@ use Rattle.editor.proofs.Changes.{
   insert_eleven,
   insert_twelve,
   insert_thirteen,
+  insert_attribute,
   insert_fifteen,
   insert_done,
 }
@@ -25,29 +30,82 @@ use borrow.Author.Rules.{rules}
 use Rattle.editor.proofs.insert_in.Statement.{statement}
 use Rattle.editor.proofs.insert_in.Tie as tie
 
--- where the body passed row 13, from the start of the call on: the image's length, and the start
-abbrev len_of : tie.Else3 → tie.After-position
-len_of c = search else1
+-- where the body is made, from the start of the call on: the image's length, and the start
+abbrev len_of : tie.After-body4 → tie.After-position
+len_of c = place
   where
-    else1 : tie.Else1
-    else1 = search
+    else4 : tie.Else4
+    else4 = search
 
-abbrev start : tie.Else3 → tie.Start
+    after-writable : tie.After-writable
+    after-writable = search else4
+
+    place : tie.After-position
+    place = search after-writable
+
+abbrev start : tie.After-body4 → tie.Start
 start c = search (len_of c)
 
--- the headword keeps its rule
-good : (c : tie.Else3) → headword_ok (start c).args.headword.now ≡ true
-good c = head_good (start c).args.headword.now _ after-headword-ok.headword_ok.ensures else2.if2.left
+-- the text is short
+text-few : (c : tie.After-body4) → length (start c).args.text.now ≤ 3000
+text-few c =
+    let q = after-text-ok.text_ok.ensures in
+    text_short start-place.args.text.now _ q else3.if3.left
   where
+    else3 : tie.Else3
+    else3 = search
+
+    after-text-ok : tie.After-text-ok
+    after-text-ok = search else3
+
+    after-writable : tie.After-writable
+    after-writable = search after-text-ok
+
+    start-place : tie.Start
+    start-place = search after-writable
+
+-- the body is the attribute and the text
+made : (c : tie.After-body4) → take (1 + length (start c).args.text.now) c.before.copy.new.0 ≡ (start c).args.attribute ∷ (start c).args.text.now
+made c =
+    body_made start-place.args.attribute start-place.args.text.now _ _ _ (omega (arith, text-few c)) after-write-u8.write-u8.ensures.0
+    after-copy.copy.ensures.0
+  where
+    after-copy : tie.After-copy
+    after-copy = search
+
+    after-write-u8 : tie.After-write-u8
+    after-write-u8 = search after-copy
+
+    else1 : tie.Else1
+    else1 = search after-write-u8
+
+    start-place : tie.Start
+    start-place = search else1
+
+abbrev after-copy-of-body4 : tie.After-body4 → tie.After-copy
+after-copy-of-body4 c = search
+
+-- what measuring asks of the entry, and the change too
+entry_good : (c : tie.After-body4) → (headword_ok (start c).args.headword.now ≡ true)
+    × (length (take (1 + length (start c).args.text.now) (after-copy-of-body4 c).copy.new.0) ≤ longest_body)
+entry_good c =
+    let q = after-headword-ok.headword_ok.ensures in
+    (head_good start-place.args.headword.now _ q else2.if2.left, body_few _ _ _ (made c) (text-few c))
+  where
+    after-body : tie.After-body
+    after-body = search
+
     else2 : tie.Else2
-    else2 = search
+    else2 = search after-body
 
     after-headword-ok : tie.After-headword-ok
     after-headword-ok = search else2
 
--- so does the body
-body-good : (c : tie.Else3) → body_ok (start c).args.body.now ≡ true
-body-good c = (start c).requires.1.1 (not-false (start c).args.fit c.if3.false)
+    after-writable : tie.After-writable
+    after-writable = search after-headword-ok
+
+    start-place : tie.Start
+    start-place = search after-writable
 
 position-requires : tie.Need-position-requires
 position-requires c κs = search rules
@@ -60,8 +118,8 @@ same_length c = search rules
 
 returns : tie.Need-returns
 returns c =
-    let r = insert_eleven start-place.args.image.now start-place.args.work.now start-place.args.v start-place.pre.0.0 start-place.pre.1.0.0
-    start-place.pre.1.0.1 _ after-writable.writable.ensures
+    let r = insert_eleven start-place.args.image.now start-place.args.work.now start-place.args.v start-place.pre.0.0 start-place.pre.1.0
+    start-place.pre.1.1 _ after-writable.writable.ensures
     start-place.args.headword.now c.if1.true _ _ in
     (r.0, (r.1, refl))
   where
@@ -79,8 +137,8 @@ same-length-2 c = search rules
 
 returns-2 : tie.Need-returns-2
 returns-2 c =
-    let r = insert_twelve start-place.args.image.now start-place.args.work.now start-place.args.v start-place.pre.0.0 start-place.pre.1.0.0
-    start-place.pre.1.0.1 _ after-writable.writable.ensures
+    let r = insert_twelve start-place.args.image.now start-place.args.work.now start-place.args.v start-place.pre.0.0 start-place.pre.1.0
+    start-place.pre.1.1 _ after-writable.writable.ensures
     start-place.args.headword.now else1.if1.left _ after-headword-ok.headword_ok.ensures c.if2.true _ _ in
     (r.0, (r.1, refl))
   where
@@ -96,19 +154,25 @@ returns-2 c =
     start-place : tie.Start
     start-place = search after-writable
 
+text-ok-requires : tie.Need-text-ok-requires
+text-ok-requires c κs = search rules
+
 same-length-3 : tie.Need-same-length-3
 same-length-3 c = search rules
 
 returns-3 : tie.Need-returns-3
 returns-3 c =
-    let r = insert_thirteen start-place.args.image.now start-place.args.work.now start-place.args.v start-place.pre.0.0 start-place.pre.1.0.0
-    start-place.pre.1.0.1 _ after-writable.writable.ensures
-    start-place.args.headword.now else1.if1.left _ after-headword-ok.headword_ok.ensures else2.if2.left start-place.args.fit
-    start-place.args.body.now c.if3.true in
+    let r = insert_thirteen start-place.args.image.now start-place.args.work.now start-place.args.v start-place.pre.0.0 start-place.pre.1.0
+    start-place.pre.1.1 _ after-writable.writable.ensures
+    start-place.args.headword.now else1.if1.left _ after-headword-ok.headword_ok.ensures else2.if2.left start-place.args.attribute
+    start-place.args.text.now _ after-text-ok.text_ok.ensures c.if3.true in
     (r.0, (r.1, refl))
   where
+    after-text-ok : tie.After-text-ok
+    after-text-ok = search
+
     else2 : tie.Else2
-    else2 = search
+    else2 = search after-text-ok
 
     after-headword-ok : tie.After-headword-ok
     after-headword-ok = search else2
@@ -122,49 +186,126 @@ returns-3 c =
     start-place : tie.Start
     start-place = search after-writable
 
-slice-reshare-prefix-measure-change : tie.Need-slice-reshare-prefix-measure-change
-slice-reshare-prefix-measure-change c = omega (arith, (start else3).pre.1.0.0, (len_of else3).position.ensures)
+attribute-ok-requires : tie.Need-attribute-ok-requires
+attribute-ok-requires c κs = search rules
+
+same-length-4 : tie.Need-same-length-4
+same-length-4 c = search rules
+
+returns-4 : tie.Need-returns-4
+returns-4 c =
+    let r = insert_attribute start-place.args.image.now start-place.args.work.now start-place.args.v start-place.pre.0.0 start-place.pre.1.0
+    start-place.pre.1.1 _ after-writable.writable.ensures
+    start-place.args.headword.now else1.if1.left _ after-headword-ok.headword_ok.ensures else2.if2.left start-place.args.attribute
+    start-place.args.text.now _ after-text-ok.text_ok.ensures else3.if3.left _ after-attribute-ok.attribute_ok.ensures c.if4.true in
+    (r.0, (r.1, refl))
+  where
+    after-attribute-ok : tie.After-attribute-ok
+    after-attribute-ok = search
+
+    else3 : tie.Else3
+    else3 = search after-attribute-ok
+
+    after-text-ok : tie.After-text-ok
+    after-text-ok = search else3
+
+    else2 : tie.Else2
+    else2 = search after-text-ok
+
+    after-headword-ok : tie.After-headword-ok
+    after-headword-ok = search else2
+
+    else1 : tie.Else1
+    else1 = search after-headword-ok
+
+    after-writable : tie.After-writable
+    after-writable = search else1
+
+    start-place : tie.Start
+    start-place = search after-writable
+
+slice-aggregate-write-u8 : tie.Need-slice-aggregate-write-u8
+slice-aggregate-write-u8 c = search rules
+
+write-u8-requires : tie.Need-write-u8-requires
+write-u8-requires c κs = search rules
+
+slice-aggregate-copy : tie.Need-slice-aggregate-copy
+slice-aggregate-copy c = search rules
+
+copy-requires : tie.Need-copy-requires
+copy-requires c κs = (omega (arith, text_short start-place.args.text.now _ after-text-ok.text_ok.ensures else3.if3.left), omega arith)
   where
     else3 : tie.Else3
     else3 = search
 
-slice-aggregate-measure-change : tie.Need-slice-aggregate-measure-change
-slice-aggregate-measure-change c = first_bytes _ _ (omega (arith, (start else3).pre.1.0.0, (len_of else3).position.ensures))
+    after-text-ok : tie.After-text-ok
+    after-text-ok = search else3
+
+    after-writable : tie.After-writable
+    after-writable = search after-text-ok
+
+    start-place : tie.Start
+    start-place = search after-writable
+
+add_body : tie.Need-overflow-add-body
+add_body c = omega (arith, text-few c)
+
+array-share-prefix-body : tie.Need-array-share-prefix-body
+array-share-prefix-body c = omega (arith, text-few c)
+
+slice-aggregate-new : tie.Need-slice-aggregate-new
+slice-aggregate-new c = first_bytes _ _ (omega (arith, text-few c.before))
+
+slice-reshare-prefix-measure-change : tie.Need-slice-reshare-prefix-measure-change
+slice-reshare-prefix-measure-change c = omega (arith, (start after-body4).pre.1.0, (len_of after-body4).position.ensures)
   where
-    else3 : tie.Else3
-    else3 = search
+    after-body4 : tie.After-body4
+    after-body4 = search
+
+slice-aggregate-measure-change : tie.Need-slice-aggregate-measure-change
+slice-aggregate-measure-change c = first_bytes _ _ (omega (arith, (start after-body4).pre.1.0, (len_of after-body4).position.ensures))
+  where
+    after-body4 : tie.After-body4
+    after-body4 = search
 
 measure-change-requires : tie.Need-measure-change-requires
 measure-change-requires c κs =
-    let p = (start else3).pre in
-    let there = (len_of else3).position.ensures in (
+    let p = (start after-body4).pre in
+    let there = (len_of after-body4).position.ensures in (
       front_accepted _ _ _ there p.0.0,
       (
-        front_blocks (start else3).args.image.now (len_of else3).position.result (omega (arith, there, p.1.0.0)) (omega (arith, there, whole_blocks _ _ p.0.0)),
-        good else3,
-        body_short _ (body-good else3),
+        front_blocks (start after-body4).args.image.now (len_of after-body4).position.result (omega (arith, there, p.1.0)) (omega (arith, there, whole_blocks _ _ p.0.0)),
+        (entry_good after-body4).0,
+        (entry_good after-body4).1,
       ),
     )
   where
-    else3 : tie.Else3
-    else3 = search
+    after-body4 : tie.After-body4
+    after-body4 = search
 
 words-after-requires : tie.Need-words-after-requires
-words-after-requires c κs = (start else3).pre.1.0.3
+words-after-requires c κs = (start after-body4).pre.1.3
   where
-    else3 : tie.Else3
-    else3 = search
+    after-body4 : tie.After-body4
+    after-body4 = search
 
 change-requires : tie.Need-change-requires
 change-requires c κs =
-    let a = (start else3).args in
-    let p = (start else3).pre in
-    let m = draft_front _ a.v _ _ _ _ _ (len_of else3).position.ensures after-measure-change.measure-change.ensures in
-    let ready = insert_ready _ a.v p.0.0 a.headword.now a.body.now (good else3) (body-good else3) _ m _ after-words-after.words_after.ensures in (
+    let a = start-place.args in
+    let p = start-place.pre in
+    let m = draft_front _ start-place.args.v _ _ _ _ _ place.position.ensures after-measure-change.measure-change.ensures in
+    let h = after-headword-ok.headword_ok.ensures in
+    let t = after-text-ok.text_ok.ensures in
+    let w = after-words-after.words_after.ensures in
+    let ready = insert_ready _ a.v p.0.0 a.headword.now _ h else2.if2.left
+    a.text.now _ t else3.if3.left
+    a.attribute _ after-attribute-ok.attribute_ok.ensures else4.if4.left
+    _ (made after-body4) _ m _ w in (
       draft_measured _ a.v _ _ _ _ m,
       (
-        (draft_inside _ a.v _ _ _ _ m p.1.0.0, p.1.0.1, p.1.0.2),
-        (draft_marked _ a.v _ _ _ _ m _ p.0.1, ((good else3, body_short _ (body-good else3)), ready)),
+        (draft_inside _ a.v _ _ _ _ m p.1.0, p.1.1, p.1.2),
+        (draft_marked _ a.v _ _ _ _ m _ p.0.1, (entry_good after-body4, ready)),
       ),
     )
   where
@@ -174,8 +315,35 @@ change-requires c κs =
     after-measure-change : tie.After-measure-change
     after-measure-change = search after-words-after
 
+    after-body4 : tie.After-body4
+    after-body4 = search after-measure-change
+
+    else4 : tie.Else4
+    else4 = search after-body4
+
+    after-attribute-ok : tie.After-attribute-ok
+    after-attribute-ok = search else4
+
     else3 : tie.Else3
-    else3 = search after-measure-change
+    else3 = search after-attribute-ok
+
+    after-text-ok : tie.After-text-ok
+    after-text-ok = search else3
+
+    else2 : tie.Else2
+    else2 = search after-text-ok
+
+    after-headword-ok : tie.After-headword-ok
+    after-headword-ok = search else2
+
+    after-writable : tie.After-writable
+    after-writable = search after-headword-ok
+
+    place : tie.After-position
+    place = search after-writable
+
+    start-place : tie.Start
+    start-place = search place
 
 enum_told : tie.Need-enum-told
 enum_told c = search rules
@@ -183,25 +351,28 @@ enum_told c = search rules
 enum-known-r : tie.Need-enum-known-r
 enum-known-r c = search rules
 
-same-length-4 : tie.Need-same-length-4
-same-length-4 c = search rules
-
 same-length-5 : tie.Need-same-length-5
 same-length-5 c = search rules
 
 same-length-6 : tie.Need-same-length-6
 same-length-6 c = search rules
 
-returns-4 : tie.Need-returns-4
-returns-4 c =
+same-length-7 : tie.Need-same-length-7
+same-length-7 c = search rules
+
+returns-5 : tie.Need-returns-5
+returns-5 c =
     let p = start-place.pre in
     let v = after-writable.writable.ensures in
     let h = after-headword-ok.headword_ok.ensures in
+    let t = after-text-ok.text_ok.ensures in
     let m = draft_front _ start-place.args.v _ _ _ _ _ place.position.ensures after-measure-change.measure-change.ensures in
     let q = after_change.change.ensures in
-    let r = insert_fifteen start-place.args.image.now start-place.args.work.now start-place.args.v p.0.0 p.1.0.0 p.1.0.1 _ v
+    let r = insert_fifteen start-place.args.image.now start-place.args.work.now start-place.args.v p.0.0 p.1.0 p.1.1 _ v
     start-place.args.headword.now else1.if1.left
-    _ h else2.if2.left start-place.args.fit start-place.args.body.now else3.if3.left _ m
+    _ h else2.if2.left
+    start-place.args.attribute start-place.args.text.now _ t else3.if3.left
+    _ after-attribute-ok.attribute_ok.ensures else4.if4.left _ (made after-body4) _ m
     after_change.change.result after_change.change.last.0 q.0 (search rules) in
     (r.0, (r.1, q.1.1))
   where
@@ -211,11 +382,23 @@ returns-4 c =
     after-measure-change : tie.After-measure-change
     after-measure-change = search after_change
 
+    after-body4 : tie.After-body4
+    after-body4 = search after-measure-change
+
+    else4 : tie.Else4
+    else4 = search after-body4
+
+    after-attribute-ok : tie.After-attribute-ok
+    after-attribute-ok = search else4
+
     else3 : tie.Else3
-    else3 = search after-measure-change
+    else3 = search after-attribute-ok
+
+    after-text-ok : tie.After-text-ok
+    after-text-ok = search else3
 
     else2 : tie.Else2
-    else2 = search else3
+    else2 = search after-text-ok
 
     after-headword-ok : tie.After-headword-ok
     after-headword-ok = search else2
@@ -232,25 +415,28 @@ returns-4 c =
     start-place : tie.Start
     start-place = search place
 
-same-length-7 : tie.Need-same-length-7
-same-length-7 c = search rules
-
 same-length-8 : tie.Need-same-length-8
 same-length-8 c = search rules
 
 same-length-9 : tie.Need-same-length-9
 same-length-9 c = search rules
 
-returns-5 : tie.Need-returns-5
-returns-5 c =
+same-length-10 : tie.Need-same-length-10
+same-length-10 c = search rules
+
+returns-6 : tie.Need-returns-6
+returns-6 c =
     let p = start-place.pre in
     let v = after-writable.writable.ensures in
     let h = after-headword-ok.headword_ok.ensures in
+    let t = after-text-ok.text_ok.ensures in
     let m = draft_front _ start-place.args.v _ _ _ _ _ place.position.ensures after-measure-change.measure-change.ensures in
     let q = after_change.change.ensures in
-    let r = insert_done start-place.args.image.now start-place.args.work.now start-place.args.v p.0.0 p.1.0.0 p.1.0.1 _ v
+    let r = insert_done start-place.args.image.now start-place.args.work.now start-place.args.v p.0.0 p.1.0 p.1.1 _ v
     start-place.args.headword.now else1.if1.left
-    _ h else2.if2.left start-place.args.fit start-place.args.body.now else3.if3.left _ m
+    _ h else2.if2.left
+    start-place.args.attribute start-place.args.text.now _ t else3.if3.left
+    _ after-attribute-ok.attribute_ok.ensures else4.if4.left _ (made after-body4) _ m
     after_change.change.result after_change.change.last.0 q.0 after-r.r.given.0.0 (search rules) in
     (r.0, (r.1, q.1.1))
   where
@@ -263,11 +449,23 @@ returns-5 c =
     after-measure-change : tie.After-measure-change
     after-measure-change = search after_change
 
+    after-body4 : tie.After-body4
+    after-body4 = search after-measure-change
+
+    else4 : tie.Else4
+    else4 = search after-body4
+
+    after-attribute-ok : tie.After-attribute-ok
+    after-attribute-ok = search else4
+
     else3 : tie.Else3
-    else3 = search after-measure-change
+    else3 = search after-attribute-ok
+
+    after-text-ok : tie.After-text-ok
+    after-text-ok = search else3
 
     else2 : tie.Else2
-    else2 = search else3
+    else2 = search after-text-ok
 
     after-headword-ok : tie.After-headword-ok
     after-headword-ok = search else2
@@ -295,8 +493,19 @@ insert-in-spec =
     headword-ok-requires
     same-length-2
     returns-2
+    text-ok-requires
     same-length-3
     returns-3
+    attribute-ok-requires
+    same-length-4
+    returns-4
+    slice-aggregate-write-u8
+    write-u8-requires
+    slice-aggregate-copy
+    copy-requires
+    add_body
+    array-share-prefix-body
+    slice-aggregate-new
     slice-reshare-prefix-measure-change
     slice-aggregate-measure-change
     measure-change-requires
@@ -304,11 +513,11 @@ insert-in-spec =
     change-requires
     enum_told
     enum-known-r
-    same-length-4
     same-length-5
     same-length-6
-    returns-4
     same-length-7
+    returns-5
     same-length-8
     same-length-9
-    returns-5)
+    same-length-10
+    returns-6)

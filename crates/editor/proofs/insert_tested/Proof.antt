@@ -29,7 +29,7 @@ accepted c = search is_accepted
 
 -- what is told of it is as long as it
 whole : (c : tie.After-known-told2) → old_length (after-r2-of-known-told2 c).r2.given.0.0 ≡ (start-of-known-told2 c).args.len
-whole c = let p = (start-of-known-told2 c).requires.0 in front_whole _ _ p.2 p.1 _ (accepted c)
+whole c = let p = (start-of-known-told2 c).requires in front_whole _ _ p.2 p.1 _ (accepted c)
 
 slice-reshare-prefix-inspect : tie.Need-slice-reshare-prefix-inspect
 slice-reshare-prefix-inspect c = search rules
@@ -55,8 +55,8 @@ slice-aggregate-insert-in c = search rules
 insert-in-requires : tie.Need-insert-in-requires
 insert-in-requires c κs =
     let e = whole after-known-told2 in
-    let few = words_few _ _ start.pre.0.2 start.pre.0.0 (λ k. omega (arith, after-slice-known.slice-known.given k)) _ (accepted after-known-told2) in
-    ((rw e (accepted after-known-told2), rw e (search is_marked)), ((rw e start.pre.0.2, start.pre.0.3, search rules, few), start.pre.1))
+    let few = words_few _ _ start.pre.2 start.pre.0 (λ k. omega (arith, after-slice-known.slice-known.given k)) _ (accepted after-known-told2) in
+    ((rw e (accepted after-known-told2), rw e (search is_marked)), (rw e start.pre.2, start.pre.3, search rules, few))
   where
     after-known-told2 : tie.After-known-told2
     after-known-told2 = search
@@ -75,9 +75,9 @@ same_length c = search rules
 
 returns : tie.Need-returns
 returns c =
-    let p = start.pre.0 in
+    let p = start.pre in
     let r = insert_refused start.args.image.now start.args.len start.args.work.now p.0 p.1 p.2 p.3
-    after-r.r.given.0.0 (search is_refused) start.args.headword.now start.args.fit start.args.body.now in
+    after-r.r.given.0.0 (search is_refused) start.args.headword.now start.args.attribute start.args.text.now in
     (r.0, (r.1, refl))
   where
     after-r : tie.After-r

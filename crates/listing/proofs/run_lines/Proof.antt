@@ -4,7 +4,6 @@ use native.Mathlib.Omega.{arith}
 use lib.ListN.{length}
 use borrow.Author.Rules.{rules}
 use Rattle.spec.specs.Order.{below_of}
-use Rattle.runs.proofs.Laws.{inside_body, inside_run}
 use Rattle.listing.proofs.Entries.{
   Printing,
   printing_start,
@@ -77,8 +76,23 @@ shared-slice-read-wide c = omega (arith, step.read_entry.ensures.1.0 there.st.gi
 wide-requires : tie.Need-wide-requires invariant-loop decreases-loop
 wide-requires c κs = search rules
 
-text-length-requires : tie.Need-text-length-requires invariant-loop decreases-loop
-text-length-requires c κs = (search inside_body, search inside_run)
+add-text : tie.Need-overflow-add-text invariant-loop decreases-loop
+add-text c = omega (arith, step.read_entry.ensures.1.0 there.st.given.0.0 there.st.given.0.1.0 there.st.given.0.1.1.0 (search))
+  where
+    there : tie.After-st invariant-loop decreases-loop
+    there = search
+
+    step : tie.After-read-entry invariant-loop decreases-loop
+    step = search there
+
+sub-text : tie.Need-overflow-sub-text invariant-loop decreases-loop
+sub-text c = omega (arith, step.read_entry.ensures.1.0 there.st.given.0.0 there.st.given.0.1.0 there.st.given.0.1.1.0 (search))
+  where
+    there : tie.After-st invariant-loop decreases-loop
+    there = search
+
+    step : tie.After-read-entry invariant-loop decreases-loop
+    step = search there
 
 array-share-prefix-word : tie.Need-array-share-prefix-word invariant-loop decreases-loop
 array-share-prefix-word c = search printing_fits
@@ -117,7 +131,8 @@ run-lines-spec =
     add_wide
     shared-slice-read-wide
     wide-requires
-    text-length-requires
+    add-text
+    sub-text
     array-share-prefix-word
     slice-aggregate-entry-line
     entry-line-requires

@@ -1,39 +1,28 @@
 -- `write_parts` meets its contract.
 use Prim.Native.Nat.{◌+◌, ◌-◌, ◌*◌, ◌≤◌}
-use mathlib.Core.Path.{◌≡◌, refl, ◌∙◌}
+use mathlib.Core.Path.{◌≡◌, refl, sym, ◌∙◌}
 use native.Mathlib.Omega.{arith}
 use borrow.Author.Rules.{rules}
 use borrow.Rule.Slice.PartMut.{put_mid}
-use lib.ListN.{length}
+use mathlib.Core.List.{[]}
+use lib.ListN.{length, take, drop}
 use Rattle.marks.specs.Marks.{marks}
 use Rattle.spec.specs.Header.{block_position}
-use Rattle.encoder.specs.Limits.{longest_headword, longest_run}
+use Rattle.spec.specs.Place.{first_headword}
+use Rattle.encoder.specs.Limits.{longest_run}
+use Rattle.parts.specs.Room.{part_room}
+use Rattle.parts.specs.Part.{part_of}
 use Rattle.parts.specs.Merge.{todo, changed_entries, CursorOk}
-use Rattle.parts.proofs.PartLaws.{length_lent, none_left, fewer_left, part_head_few}
-use Rattle.parts.proofs.Laws.{none_zero, begun_todo, todo_short}
+use Rattle.parts.proofs.PartLaws.{none_left, used_some, fewer_left}
+use Rattle.parts.proofs.Laws.{first_bytes, none_zero, begun_todo, todo_short}
 use Rattle.newruns.specs.Laid.{laid, elements_long}
-use Rattle.newruns.proofs.Laws.{
-  Writing,
-  planning_under,
-  planning_more,
-  writing_start,
-  writing_more,
-  written_image,
-  written_size,
-  written_free,
-  run_room,
-  next_behind,
-  head_inside,
-  element_fits,
-  element_past,
-  part_stored,
-}
+use Rattle.newruns.proofs.Laws.{Writing, planning_under, planning_more, writing_start, writing_more, written_image, written_size, written_free, length_lent, run_room, element_fits, element_past, head_stands, part_stored}
 use Rattle.newruns.proofs.write_parts.Statement.{statement}
 use Rattle.newruns.proofs.write_parts.Tie as tie
 
 abbrev invariant-loop : tie.invariant-loop
-invariant-loop image₀ run h body free₀ form fresh index g word₀ cur₀ last₀ out₀ image free word cur last out =
-    (length word ≡ 256) × CursorOk run word cur × (length image ≡ length image₀) × (length free ≡ length free₀) × (g ≤ last)
+invariant-loop image₀ run h body free₀ form fresh index g word₀ part₀ cur₀ last₀ out₀ image free word part cur last out =
+    (length word ≡ 256) × (length part ≡ part_room) × CursorOk run word cur × (length image ≡ length image₀) × (length free ≡ length free₀) × (g ≤ last)
     × ((laid form.limit g last₀ (marks free₀) (changed_entries form.order run h body fresh)).end + longest_run ≤ 64 * length free₀)
     × (block_position form.extended index (laid form.limit g last₀ (marks free₀) (changed_entries form.order run h body fresh)).end ≤ length image₀)
     × (out₀ + elements_long form.width form.limit g (laid form.limit g last₀ (marks free₀) (changed_entries form.order run h body fresh)).places
@@ -42,7 +31,14 @@ invariant-loop image₀ run h body free₀ form fresh index g word₀ cur₀ las
     (todo form.order run word h body cur) image
 
 abbrev decreases-loop : tie.decreases-loop
-decreases-loop image₀ run h body free₀ form fresh index g word₀ cur₀ last₀ out₀ image free word cur last out = length (todo form.order run word h body cur)
+decreases-loop image₀ run h body free₀ form fresh index g word₀ part₀ cur₀ last₀ out₀ image free word part cur last out = length (todo form.order run word h body cur)
+
+-- the part fits its slice
+part_filled : (c : tie.After-encode-part invariant-loop decreases-loop) → c.encode-part.result.used ≤ length c.encode-part.new.1.1.1.1.1.1.0
+part_filled c = omega (arith, c.encode-part.ensures.1.1.1.1.0.0, c.encode-part.ensures.1.1.1.1.0.1, at-loop.loop.inv.1)
+  where
+    at-loop : tie.At-loop invariant-loop decreases-loop
+    at-loop = search
 
 abbrev after-place-of-larger : tie.After-larger invariant-loop decreases-loop → tie.After-place invariant-loop decreases-loop
 after-place-of-larger c = search
@@ -59,19 +55,19 @@ after-advance-of-larger c = search (at-loop-of-larger c)
 abbrev start-of-larger : tie.After-larger invariant-loop decreases-loop → tie.Start invariant-loop decreases-loop
 start-of-larger c = search (after-advance-of-larger c)
 
--- the part's run fits the image
+-- its run fits the image
 run_fits : (c : tie.After-larger invariant-loop decreases-loop)
     → block_position (start-of-larger c).args.edit.form.extended (start-of-larger c).args.to.index (after-place-of-larger c).place.result
     + 256 * (after-run-blocks-of-larger c).run_blocks.result ≤ length (at-loop-of-larger c).loop.image
 run_fits c =
     omega (
       arith,
-      at-loop.loop.inv.2,
-      at-loop.loop.inv.5,
+      at-loop.loop.inv.3,
       at-loop.loop.inv.6,
+      at-loop.loop.inv.7,
       planning_under _ _ _ _ _ _ _ _ (planning_more _ _ _
-          after-measure-part.measure-part.ensures.0.used else1.if1.left _ after-measure-part.measure-part.ensures.1.0 _ _ _ _ _ _ _
-          after-run-blocks.run_blocks.ensures.0 after-place.place.ensures.0 refl refl _ _ _ at-loop.loop.inv.8.planning),
+          after-encode-part.encode-part.ensures.1.0 else1.if1.left _ after-encode-part.encode-part.ensures.1.1.0 _ _ _ _ _ _ _
+          after-run-blocks.run_blocks.ensures.0 after-place.place.ensures.0 refl refl _ _ _ at-loop.loop.inv.9.planning),
     )
   where
     after-place : tie.After-place invariant-loop decreases-loop
@@ -83,11 +79,11 @@ run_fits c =
     else1 : tie.Else1 invariant-loop decreases-loop
     else1 = search after-run-blocks
 
-    after-measure-part : tie.After-measure-part invariant-loop decreases-loop
-    after-measure-part = search else1
+    after-encode-part : tie.After-encode-part invariant-loop decreases-loop
+    after-encode-part = search else1
 
     at-loop : tie.At-loop invariant-loop decreases-loop
-    at-loop = search after-measure-part
+    at-loop = search after-encode-part
 
 abbrev after-larger-of-position : tie.After-position invariant-loop decreases-loop → tie.After-larger invariant-loop decreases-loop
 after-larger-of-position c = search
@@ -97,25 +93,57 @@ run-there : (c : tie.After-position invariant-loop decreases-loop)
     → c.position.result + 256 * (after-run-blocks-of-larger (after-larger-of-position c)).run_blocks.result ≤ length (at-loop-of-larger (after-larger-of-position c)).loop.image
 run-there c = omega (arith, run_fits (after-larger-of-position c), c.position.ensures)
 
-abbrev after-position-of-write-part : tie.After-write-part invariant-loop decreases-loop → tie.After-position invariant-loop decreases-loop
-after-position-of-write-part c = search
+abbrev after-position-of-write-run : tie.After-write-run invariant-loop decreases-loop → tie.After-position invariant-loop decreases-loop
+after-position-of-write-run c = search
 
-abbrev at-loop-of-write-part : tie.After-write-part invariant-loop decreases-loop → tie.At-loop invariant-loop decreases-loop
-at-loop-of-write-part c = at-loop-of-larger (after-larger-of-position (after-position-of-write-part c))
+abbrev at-loop-of-write-run : tie.After-write-run invariant-loop decreases-loop → tie.At-loop invariant-loop decreases-loop
+at-loop-of-write-run c = at-loop-of-larger (after-larger-of-position (after-position-of-write-run c))
 
 -- the image after it is as long
-run-kept : (c : tie.After-write-part invariant-loop decreases-loop) → length (put_mid (after-position-of-write-part c).position.result
-    (length (at-loop-of-write-part c).loop.image - (after-position-of-write-part c).position.result) (at-loop-of-write-part c).loop.image c.write-part.new.1.0)
-    ≡ length (at-loop-of-write-part c).loop.image
-run-kept c = length_lent _ _ (at-loop-of-write-part c).loop.image c.write-part.new.1.0 refl (omega (arith, run-there (after-position-of-write-part c)))
-    c.write-part.ensures.1.1.1.0
+run-kept : (c : tie.After-write-run invariant-loop decreases-loop) → length (put_mid (after-position-of-write-run c).position.result
+    (length (at-loop-of-write-run c).loop.image - (after-position-of-write-run c).position.result) (at-loop-of-write-run c).loop.image c.write-run.new.0)
+    ≡ length (at-loop-of-write-run c).loop.image
+run-kept c = length_lent _ _ (at-loop-of-write-run c).loop.image c.write-run.new.0 refl (omega (arith, run-there (after-position-of-write-run c))) c.write-run.ensures.1
 
--- the part's first headword is no longer than a headword may be
-head_few : (c : tie.After-measure-part invariant-loop decreases-loop) → c.measure-part.result.load.head ≤ longest_headword
-head_few c = part_head_few _ _ _ c.measure-part.ensures.0.head (todo_short _ _ _ _ _ _ at-loop.loop.inv.1 start.pre.0.0 start.pre.0.1)
+abbrev after-write-run-of-head-length : tie.After-head-length invariant-loop decreases-loop → tie.After-write-run invariant-loop decreases-loop
+after-write-run-of-head-length c = search
+
+abbrev after-place-of-head-length : tie.After-head-length invariant-loop decreases-loop → tie.After-place invariant-loop decreases-loop
+after-place-of-head-length c = search (after-write-run-of-head-length c)
+
+abbrev after-encode-part-of-head-length : tie.After-head-length invariant-loop decreases-loop → tie.After-encode-part invariant-loop decreases-loop
+after-encode-part-of-head-length c = search (after-place-of-head-length c)
+
+abbrev at-loop-of-head-length : tie.After-head-length invariant-loop decreases-loop → tie.At-loop invariant-loop decreases-loop
+at-loop-of-head-length c = search (after-encode-part-of-head-length c)
+
+abbrev after-advance-of-head-length : tie.After-head-length invariant-loop decreases-loop → tie.After-advance invariant-loop decreases-loop
+after-advance-of-head-length c = search (at-loop-of-head-length c)
+
+abbrev start-of-head-length : tie.After-head-length invariant-loop decreases-loop → tie.Start invariant-loop decreases-loop
+start-of-head-length c = search (after-advance-of-head-length c)
+
+-- the element's headword is that of the part
+part-head : (c : tie.After-head-length invariant-loop decreases-loop)
+    → take (3 + c.head_length.result - 3) (drop 3 (after-encode-part-of-head-length c).encode-part.new.1.1.1.1.1.1.0)
+    ≡ first_headword (part_of (start-of-head-length c).args.edit.form.limit 0 []
+    (todo (start-of-head-length c).args.edit.form.order (start-of-head-length c).args.run.now (at-loop-of-head-length c).loop.word
+    (start-of-head-length c).args.h.now (start-of-head-length c).args.body.now (at-loop-of-head-length c).loop.cur))
+part-head c =
+    head_stands _ _ _ _ _ after-encode-part.encode-part.ensures.1.0 after-encode-part.encode-part.ensures.0 else1.if1.left
+    (todo_short _ _ _ _ _ _ at-loop.loop.inv.2 start.pre.0.0 start.pre.0.1) _ c.head_length.ensures.1 (3 + c.head_length.result - 3) (omega arith)
   where
+    after-larger : tie.After-larger invariant-loop decreases-loop
+    after-larger = search
+
+    else1 : tie.Else1 invariant-loop decreases-loop
+    else1 = search after-larger
+
+    after-encode-part : tie.After-encode-part invariant-loop decreases-loop
+    after-encode-part = search else1
+
     at-loop : tie.At-loop invariant-loop decreases-loop
-    at-loop = search
+    at-loop = search after-encode-part
 
     after-advance : tie.After-advance invariant-loop decreases-loop
     after-advance = search at-loop
@@ -132,6 +160,7 @@ advance-requires c κs = (omega arith, (omega arith, omega arith, none_zero))
 loop-holds : tie.Need-loop-init invariant-loop decreases-loop
 loop-holds c = (
   after-advance.advance.ensures.1.1.1,
+  refl,
   after-advance.advance.ensures.1.1.0,
   refl,
   refl,
@@ -148,11 +177,14 @@ loop-holds c = (
     start : tie.Start invariant-loop decreases-loop
     start = search after-advance
 
-slice-aggregate-measure-part : tie.Need-slice-aggregate-measure-part invariant-loop decreases-loop
-slice-aggregate-measure-part c = omega arith
+slice-aggregate-encode-part : tie.Need-slice-aggregate-encode-part invariant-loop decreases-loop
+slice-aggregate-encode-part c = omega arith
 
-measure-part-requires : tie.Need-measure-part-requires invariant-loop decreases-loop
-measure-part-requires c κs = (at-loop.loop.inv.1, (start.pre.0.0, start.pre.0.1, start.pre.1.0.1))
+slice-aggregate-encode-part-2 : tie.Need-slice-aggregate-encode-part-2 invariant-loop decreases-loop
+slice-aggregate-encode-part-2 c = omega arith
+
+encode-part-requires : tie.Need-encode-part-requires invariant-loop decreases-loop
+encode-part-requires c κs = (at-loop.loop.inv.2, (start.pre.0.0, start.pre.0.1, omega arith, start.pre.1.0.1))
   where
     at-loop : tie.At-loop invariant-loop decreases-loop
     at-loop = search
@@ -171,41 +203,41 @@ same-length-2 c = omega arith
 
 returns : tie.Need-returns invariant-loop decreases-loop
 returns c =
-    let none = none_left _ _ _ after-measure-part.measure-part.ensures.0.used c.if1.true in
-    let w = at-loop.loop.inv.8 in (
+    let none = none_left _ _ _ after-encode-part.encode-part.ensures.1.0 c.if1.true in
+    let w = at-loop.loop.inv.9 in (
       (written_image _ _ _ _ _ _ _ _ _ _ _ _ _ _ _ w none, written_size _ _ _ _ _ _ _ _ _ _ _ _ _ _ _ w none, written_free _ _ _ _ _ _ _ _ _ _ _ _ _ _ _ w none),
       (omega arith, omega arith),
     )
   where
-    after-measure-part : tie.After-measure-part invariant-loop decreases-loop
-    after-measure-part = search
+    after-encode-part : tie.After-encode-part invariant-loop decreases-loop
+    after-encode-part = search
 
     at-loop : tie.At-loop invariant-loop decreases-loop
-    at-loop = search after-measure-part
+    at-loop = search after-encode-part
 
 run-blocks-requires : tie.Need-run-blocks-requires invariant-loop decreases-loop
-run-blocks-requires c κs = after-measure-part.measure-part.ensures.1.1.1.0.0
+run-blocks-requires c κs = after-encode-part.encode-part.ensures.1.1.1.1.0.0
   where
-    after-measure-part : tie.After-measure-part invariant-loop decreases-loop
-    after-measure-part = search
+    after-encode-part : tie.After-encode-part invariant-loop decreases-loop
+    after-encode-part = search
 
 place-requires : tie.Need-place-requires invariant-loop decreases-loop
-place-requires c κs = (omega arith, omega (arith, planning_under _ _ _ _ _ _ _ _ at-loop.loop.inv.8.planning), omega arith)
+place-requires c κs = (omega arith, omega (arith, planning_under _ _ _ _ _ _ _ _ at-loop.loop.inv.9.planning), omega arith)
   where
-    after-run-blocks : tie.After-run-blocks invariant-loop decreases-loop
-    after-run-blocks = search
+    after-word4 : tie.After-word4 invariant-loop decreases-loop
+    after-word4 = search
 
     at-loop : tie.At-loop invariant-loop decreases-loop
-    at-loop = search after-run-blocks
+    at-loop = search after-word4
 
 add-larger : tie.Need-overflow-add-larger invariant-loop decreases-loop
-add-larger c = omega (arith, planning_under _ _ _ _ _ _ _ _ at-loop.loop.inv.8.planning, at-loop.loop.inv.6, start.good.1.0)
+add-larger c = omega (arith, planning_under _ _ _ _ _ _ _ _ at-loop.loop.inv.9.planning, at-loop.loop.inv.7, start.good.1.0)
   where
-    after-place : tie.After-place invariant-loop decreases-loop
-    after-place = search
+    after-part2 : tie.After-part2 invariant-loop decreases-loop
+    after-part2 = search
 
     at-loop : tie.At-loop invariant-loop decreases-loop
-    at-loop = search after-place
+    at-loop = search after-part2
 
     after-advance : tie.After-advance invariant-loop decreases-loop
     after-advance = search at-loop
@@ -222,45 +254,47 @@ position-requires c κs = omega (arith, run_fits after-larger, (start-of-larger 
     after-larger : tie.After-larger invariant-loop decreases-loop
     after-larger = search
 
-sub-write-part : tie.Need-overflow-sub-write-part invariant-loop decreases-loop
-sub-write-part c = omega (arith, run-there after-position)
+sub-write-run : tie.Need-overflow-sub-write-run invariant-loop decreases-loop
+sub-write-run c = omega (arith, run-there after-position)
   where
     after-position : tie.After-position invariant-loop decreases-loop
     after-position = search
 
-part-write-part-start : tie.Need-slice-bounds-write-part-start invariant-loop decreases-loop
-part-write-part-start c = omega (arith, run-there after-position)
+part-write-run-start : tie.Need-slice-bounds-write-run-start invariant-loop decreases-loop
+part-write-run-start c = omega (arith, run-there after-position)
   where
     after-position : tie.After-position invariant-loop decreases-loop
     after-position = search
 
-part-write-part-end : tie.Need-slice-bounds-write-part-end invariant-loop decreases-loop
-part-write-part-end c = omega (arith, run-there after-position)
+part-write-run-end : tie.Need-slice-bounds-write-run-end invariant-loop decreases-loop
+part-write-run-end c = omega (arith, run-there after-position)
   where
     after-position : tie.After-position invariant-loop decreases-loop
     after-position = search
 
-slice-aggregate-write-part : tie.Need-slice-aggregate-write-part invariant-loop decreases-loop
-slice-aggregate-write-part c = omega (arith, at-loop.loop.inv.0)
+array-share-prefix-part : tie.Need-array-share-prefix-part invariant-loop decreases-loop
+array-share-prefix-part c = omega (arith, after-encode-part.encode-part.ensures.1.1.1.1.0.0)
   where
-    after-position : tie.After-position invariant-loop decreases-loop
-    after-position = search
-
     after-run-blocks : tie.After-run-blocks invariant-loop decreases-loop
-    after-run-blocks = search after-position
+    after-run-blocks = search
 
-    at-loop : tie.At-loop invariant-loop decreases-loop
-    at-loop = search after-run-blocks
+    after-encode-part : tie.After-encode-part invariant-loop decreases-loop
+    after-encode-part = search after-run-blocks
 
-write-part-requires : tie.Need-write-part-requires invariant-loop decreases-loop
-write-part-requires c κs = (
-  at-loop.loop.inv.1,
-  (
-    (start.pre.0.0, start.pre.0.1),
-    run_room _ _ _ after-measure-part.measure-part.ensures.0 _ _ _ at-loop.loop.image after-measure-part.measure-part.ensures.1.1.1.0.0
-        after-run-blocks.run_blocks.ensures.0 refl (run-there after-position),
-  ),
-)
+slice-aggregate-write-run : tie.Need-slice-aggregate-write-run invariant-loop decreases-loop
+slice-aggregate-write-run c = first_bytes _ _ (part_filled after-encode-part)
+  where
+    after-run-blocks : tie.After-run-blocks invariant-loop decreases-loop
+    after-run-blocks = search
+
+    after-encode-part : tie.After-encode-part invariant-loop decreases-loop
+    after-encode-part = search after-run-blocks
+
+write-run-requires : tie.Need-write-run-requires invariant-loop decreases-loop
+write-run-requires c κs =
+    let n = after-run-blocks.run_blocks.ensures.0 in
+    run_room _ _ _ _ _ at-loop.loop.image after-encode-part.encode-part.ensures.1.1.1.1.0.0 (part_filled after-encode-part) n refl
+    (run-there after-position)
   where
     after-position : tie.After-position invariant-loop decreases-loop
     after-position = search
@@ -271,47 +305,77 @@ write-part-requires c κs = (
     after-run-blocks : tie.After-run-blocks invariant-loop decreases-loop
     after-run-blocks = search after-larger
 
-    after-measure-part : tie.After-measure-part invariant-loop decreases-loop
-    after-measure-part = search after-run-blocks
+    after-encode-part : tie.After-encode-part invariant-loop decreases-loop
+    after-encode-part = search after-run-blocks
 
     at-loop : tie.At-loop invariant-loop decreases-loop
-    at-loop = search after-measure-part
+    at-loop = search after-encode-part
 
-    after-advance : tie.After-advance invariant-loop decreases-loop
-    after-advance = search at-loop
-
-    start : tie.Start invariant-loop decreases-loop
-    start = search after-advance
-
-sub-put-first : tie.Need-overflow-sub-put-first invariant-loop decreases-loop
-sub-put-first c = omega (arith, after-place.place.ensures.1.0.0)
+slice-aggregate-head-length : tie.Need-slice-aggregate-head-length invariant-loop decreases-loop
+slice-aggregate-head-length c =
+    sym (after-encode-part.encode-part.ensures.1.1.1.1.0.1 ∙ at-loop.loop.inv.1)
   where
-    after-write-part : tie.After-write-part invariant-loop decreases-loop
-    after-write-part = search
+    after_free : tie.After-free invariant-loop decreases-loop
+    after_free = search
+
+    after-encode-part : tie.After-encode-part invariant-loop decreases-loop
+    after-encode-part = search after_free
+
+    at-loop : tie.At-loop invariant-loop decreases-loop
+    at-loop = search after-encode-part
+
+head-length-requires : tie.Need-head-length-requires invariant-loop decreases-loop
+head-length-requires c κs = (omega (arith, used_some _ _ _ after-encode-part.encode-part.ensures.1.0 else1.if1.left), part_filled after-encode-part)
+  where
+    after-larger : tie.After-larger invariant-loop decreases-loop
+    after-larger = search
+
+    else1 : tie.Else1 invariant-loop decreases-loop
+    else1 = search after-larger
+
+    after-encode-part : tie.After-encode-part invariant-loop decreases-loop
+    after-encode-part = search else1
+
+add-end : tie.Need-overflow-add-end invariant-loop decreases-loop
+add-end c = search rules
+
+sub-put-element : tie.Need-overflow-sub-put-element invariant-loop decreases-loop
+sub-put-element c = omega (arith, after-place.place.ensures.1.0.0)
+  where
+    after-part3 : tie.After-part3 invariant-loop decreases-loop
+    after-part3 = search
 
     after-place : tie.After-place invariant-loop decreases-loop
-    after-place = search after-write-part
+    after-place = search after-part3
 
-put-first-requires : tie.Need-put-first-requires invariant-loop decreases-loop
-put-first-requires c κs = (
-  (start.pre.1.0.0, head_few after-measure-part),
-  (
-    element_fits _ _ _ after-measure-part.measure-part.ensures.0.used else1.if1.left _ after-measure-part.measure-part.ensures.1.0 _ _ _ _ _ _ _
-        after-run-blocks.run_blocks.ensures.0 after-place.place.ensures.0 refl refl _ _ _ _ _ _ _ _ _ _ _ _ after-measure-part.measure-part.ensures.0.head
-        at-loop.loop.inv.8 at-loop.loop.inv.7 at-loop.loop.inv.2 (run-kept after-write-part),
-    head_inside _ _ _ after-measure-part.measure-part.ensures.0 else1.if1.left _ _ at-loop.loop.image after-run-blocks.run_blocks.ensures.0
-        (run-there after-position) _ (run-kept after-write-part),
-  ),
+sub-put-element-2 : tie.Need-overflow-sub-put-element-2 invariant-loop decreases-loop
+sub-put-element-2 c = omega arith
+
+part-put-element-start : tie.Need-slice-bounds-put-element-start invariant-loop decreases-loop
+part-put-element-start c = omega arith
+
+part-put-element-end : tie.Need-slice-bounds-put-element-end invariant-loop decreases-loop
+part-put-element-end c = omega (arith, after-head-length.head_length.ensures.0)
+  where
+    after-head-length : tie.After-head-length invariant-loop decreases-loop
+    after-head-length = search
+
+put-element-requires : tie.Need-put-element-requires invariant-loop decreases-loop
+put-element-requires c κs = (
+  start.pre.1.0.0,
+  element_fits _ _ _ after-encode-part.encode-part.ensures.1.0 else1.if1.left _ after-encode-part.encode-part.ensures.1.1.0 _ _ _ _ _ _ _
+      after-run-blocks.run_blocks.ensures.0 after-place.place.ensures.0 refl refl _ _ _ _ _ _ _ _ _ _ _ _ (part-head after-head-length)
+      at-loop.loop.inv.9 at-loop.loop.inv.8 at-loop.loop.inv.3 (run-kept after-write-run),
 )
   where
-    after-write-part : tie.After-write-part invariant-loop decreases-loop
-    after-write-part = search
+    after-head-length : tie.After-head-length invariant-loop decreases-loop
+    after-head-length = search
 
-    after-position : tie.After-position invariant-loop decreases-loop
-    after-position = search after-write-part
+    after-write-run : tie.After-write-run invariant-loop decreases-loop
+    after-write-run = search after-head-length
 
     after-place : tie.After-place invariant-loop decreases-loop
-    after-place = search after-position
+    after-place = search after-write-run
 
     after-run-blocks : tie.After-run-blocks invariant-loop decreases-loop
     after-run-blocks = search after-place
@@ -319,11 +383,11 @@ put-first-requires c κs = (
     else1 : tie.Else1 invariant-loop decreases-loop
     else1 = search after-run-blocks
 
-    after-measure-part : tie.After-measure-part invariant-loop decreases-loop
-    after-measure-part = search else1
+    after-encode-part : tie.After-encode-part invariant-loop decreases-loop
+    after-encode-part = search else1
 
     at-loop : tie.At-loop invariant-loop decreases-loop
-    at-loop = search after-measure-part
+    at-loop = search after-encode-part
 
     after-advance : tie.After-advance invariant-loop decreases-loop
     after-advance = search at-loop
@@ -332,53 +396,52 @@ put-first-requires c κs = (
     start = search after-advance
 
 loop-less : tie.Need-loop-smaller invariant-loop decreases-loop
-loop-less c =
-    fewer_left _ _ _ after-measure-part.measure-part.ensures.0.used else1.if1.left _
-    (next_behind _ _ _ after-measure-part.measure-part.ensures.0 _ after-write-part.write-part.ensures.1.0)
+loop-less c = fewer_left _ _ _ after-encode-part.encode-part.ensures.1.0 else1.if1.left _ after-encode-part.encode-part.ensures.1.1.0
   where
-    after-put-first : tie.After-put-first invariant-loop decreases-loop
-    after-put-first = search
-
-    after-write-part : tie.After-write-part invariant-loop decreases-loop
-    after-write-part = search after-put-first
+    after-head-length : tie.After-head-length invariant-loop decreases-loop
+    after-head-length = search
 
     after-larger : tie.After-larger invariant-loop decreases-loop
-    after-larger = search after-write-part
+    after-larger = search after-head-length
 
     else1 : tie.Else1 invariant-loop decreases-loop
     else1 = search after-larger
 
-    after-measure-part : tie.After-measure-part invariant-loop decreases-loop
-    after-measure-part = search else1
+    after-encode-part : tie.After-encode-part invariant-loop decreases-loop
+    after-encode-part = search else1
 
 loop-again : tie.Need-loop-preserved invariant-loop decreases-loop
 loop-again c = (
-  after-write-part.write-part.ensures.1.1.1.1 ∙ at-loop.loop.inv.0,
-  after-write-part.write-part.ensures.1.1.0,
-  after-put-first.put_first.ensures.1.1 ∙ run-kept after-write-part ∙ at-loop.loop.inv.2,
-  after-place.place.ensures.1.1.1 ∙ at-loop.loop.inv.3,
-  omega (arith, after-larger.larger.ensures, at-loop.loop.inv.4),
-  at-loop.loop.inv.5,
+  after-encode-part.encode-part.ensures.1.1.1.1.0.2 ∙ at-loop.loop.inv.0,
+  after-encode-part.encode-part.ensures.1.1.1.1.0.1 ∙ at-loop.loop.inv.1,
+  after-encode-part.encode-part.ensures.1.1.1.0,
+  after-put-element.put-element.ensures.1.1 ∙ run-kept after-write-run ∙ at-loop.loop.inv.3,
+  after-place.place.ensures.1.1.1 ∙ at-loop.loop.inv.4,
+  omega (arith, after-larger.larger.ensures, at-loop.loop.inv.5),
   at-loop.loop.inv.6,
   at-loop.loop.inv.7,
-  writing_more _ _ _ after-measure-part.measure-part.ensures.0.used else1.if1.left _
-      (next_behind _ _ _ after-measure-part.measure-part.ensures.0 _ after-write-part.write-part.ensures.1.0) _ _ _ _ _ _ _
+  at-loop.loop.inv.8,
+  writing_more _ _ _ after-encode-part.encode-part.ensures.1.0 else1.if1.left _ after-encode-part.encode-part.ensures.1.1.0 _ _ _ _ _ _ _
       after-run-blocks.run_blocks.ensures.0 after-place.place.ensures.0 after-larger.larger.ensures after-place.place.ensures.1.1.0 _ _ _ _
       _ _ _ _ _ _ _ _ _ after-position.position.ensures
-      (part_stored _ _ _ after-measure-part.measure-part.ensures.0 else1.if1.left _ _ at-loop.loop.image after-run-blocks.run_blocks.ensures.0
-      (run-there after-position) _ _ _ _ _ _ refl after-write-part.write-part.ensures.0 after-put-first.put_first.ensures.0)
-      (element_past _ _ _ _ _ _ after-measure-part.measure-part.ensures.0.head after-put-first.put_first.ensures.1.0)
-      at-loop.loop.inv.8,
+      (part_stored _ _ _ _ _ after-encode-part.encode-part.ensures.1.0 after-encode-part.encode-part.ensures.0 _ _ _ _ _ _ _ _ _ _
+      after-run-blocks.run_blocks.ensures.0 refl (run-there after-position) after-write-run.write-run.ensures.0 (part-head after-head-length)
+      after-put-element.put-element.ensures.0)
+      (element_past _ _ _ _ _ _ (part-head after-head-length) after-put-element.put-element.ensures.1.0)
+      at-loop.loop.inv.9,
 )
   where
-    after-put-first : tie.After-put-first invariant-loop decreases-loop
-    after-put-first = search
+    after-put-element : tie.After-put-element invariant-loop decreases-loop
+    after-put-element = search
 
-    after-write-part : tie.After-write-part invariant-loop decreases-loop
-    after-write-part = search after-put-first
+    after-head-length : tie.After-head-length invariant-loop decreases-loop
+    after-head-length = search after-put-element
+
+    after-write-run : tie.After-write-run invariant-loop decreases-loop
+    after-write-run = search after-head-length
 
     after-position : tie.After-position invariant-loop decreases-loop
-    after-position = search after-write-part
+    after-position = search after-write-run
 
     after-larger : tie.After-larger invariant-loop decreases-loop
     after-larger = search after-position
@@ -392,11 +455,11 @@ loop-again c = (
     else1 : tie.Else1 invariant-loop decreases-loop
     else1 = search after-run-blocks
 
-    after-measure-part : tie.After-measure-part invariant-loop decreases-loop
-    after-measure-part = search else1
+    after-encode-part : tie.After-encode-part invariant-loop decreases-loop
+    after-encode-part = search else1
 
     at-loop : tie.At-loop invariant-loop decreases-loop
-    at-loop = search after-measure-part
+    at-loop = search after-encode-part
 
 pub write-parts-spec : {M : Type 1} → statement M
 write-parts-spec =
@@ -407,8 +470,9 @@ write-parts-spec =
     slice-aggregate-advance
     advance-requires
     loop-holds
-    slice-aggregate-measure-part
-    measure-part-requires
+    slice-aggregate-encode-part
+    slice-aggregate-encode-part-2
+    encode-part-requires
     same_length
     same-length-2
     returns
@@ -417,12 +481,19 @@ write-parts-spec =
     add-larger
     larger-requires
     position-requires
-    sub-write-part
-    part-write-part-start
-    part-write-part-end
-    slice-aggregate-write-part
-    write-part-requires
-    sub-put-first
-    put-first-requires
+    sub-write-run
+    part-write-run-start
+    part-write-run-end
+    array-share-prefix-part
+    slice-aggregate-write-run
+    write-run-requires
+    slice-aggregate-head-length
+    head-length-requires
+    add-end
+    sub-put-element
+    sub-put-element-2
+    part-put-element-start
+    part-put-element-end
+    put-element-requires
     loop-less
     loop-again)

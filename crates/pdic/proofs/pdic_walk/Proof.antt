@@ -22,32 +22,23 @@ same_length c = search rules
 same-length-2 : tie.Need-same-length-2
 same-length-2 c = search rules
 
-same-length-3 : tie.Need-same-length-3
-same-length-3 c = search rules
-
 returns : tie.Need-returns
 returns c = search walk_refused
 
+same-length-3 : tie.Need-same-length-3
+same-length-3 c = search rules
+
 same-length-4 : tie.Need-same-length-4
 same-length-4 c = search rules
+
+returns-2 : tie.Need-returns-2
+returns-2 c = search walk_absent
 
 same-length-5 : tie.Need-same-length-5
 same-length-5 c = search rules
 
 same-length-6 : tie.Need-same-length-6
 same-length-6 c = search rules
-
-returns-2 : tie.Need-returns-2
-returns-2 c = search walk_absent
-
-same-length-7 : tie.Need-same-length-7
-same-length-7 c = search rules
-
-same-length-8 : tie.Need-same-length-8
-same-length-8 c = search rules
-
-same-length-9 : tie.Need-same-length-9
-same-length-9 c = search rules
 
 returns-3 : tie.Need-returns-3
 returns-3 c = search walk_found
@@ -62,13 +53,10 @@ pdic-walk-spec =
     enum-known-r-2
     same_length
     same-length-2
-    same-length-3
     returns
+    same-length-3
     same-length-4
+    returns-2
     same-length-5
     same-length-6
-    returns-2
-    same-length-7
-    same-length-8
-    same-length-9
     returns-3)

@@ -35,9 +35,6 @@ returns-2 c = search look_up_refused
 same_length : tie.Need-same-length
 same_length c = search rules
 
-same-length-2 : tie.Need-same-length-2
-same-length-2 c = search rules
-
 returns-3 : tie.Need-returns-3
 returns-3 c = search look_up_answered
 
@@ -55,5 +52,4 @@ look-up-spec =
     look-up-in-requires
     returns-2
     same_length
-    same-length-2
     returns-3)

@@ -65,14 +65,11 @@ give-text-requires c κs = (search spot_body, search spot_area)
 same_length : tie.Need-same-length
 same_length c = search rules
 
-same-length-2 : tie.Need-same-length-2
-same-length-2 c = search rules
-
 returns-2 : tie.Need-returns-2
 returns-2 c i o =
-    look_up_same _ _ _ _ _ start.pre.0 start.pre.1.1 _ after-headword-ok.headword_ok.ensures else1.if1.left _ after-position.position.ensures _
+    look_up_same _ _ _ _ start.pre.0 start.pre.1.1 _ after-headword-ok.headword_ok.ensures else1.if1.left _ after-position.position.ensures _
     after-nindex2.nindex2.ensures.0 _ _ after-seek.seek.ensures.0 i o _ _ _ after-found.found.given.1 _ after-is-equal.is-equal.ensures
-    then2.if2.taken _ _ _ after-give-text.give-text.ensures
+    then2.if2.taken _ _ after-give-text.give-text.ensures
   where
     after-give-text : tie.After-give-text
     after-give-text = search
@@ -106,7 +103,7 @@ returns-2 c i o =
 
 returns-3 : tie.Need-returns-3
 returns-3 c =
-    look_up_absent _ _ _ _ _ start.pre.0 start.pre.1.1 _ after-headword-ok.headword_ok.ensures else1.if1.left _ after-position.position.ensures _
+    look_up_absent _ _ _ _ start.pre.0 start.pre.1.1 _ after-headword-ok.headword_ok.ensures else1.if1.left _ after-position.position.ensures _
     after-nindex2.nindex2.ensures.0 _ _ after-seek.seek.ensures.0 (search)
   where
     after-seek : tie.After-seek
@@ -129,7 +126,7 @@ returns-3 c =
 
 returns-4 : tie.Need-returns-4
 returns-4 c i o =
-    look_up_other _ _ _ _ _ start.pre.0 start.pre.1.1 _ after-headword-ok.headword_ok.ensures else1.if1.left _ after-position.position.ensures _
+    look_up_other _ _ _ _ start.pre.0 start.pre.1.1 _ after-headword-ok.headword_ok.ensures else1.if1.left _ after-position.position.ensures _
     after-nindex2.nindex2.ensures.0 _ _ after-seek.seek.ensures.0 i o _ _ _ after-found.found.given.1 _ after-is-equal.is-equal.ensures c.if2.false
   where
     after-is-equal : tie.After-is-equal
@@ -180,7 +177,6 @@ look-up-in-spec =
     is-equal-requires
     give-text-requires
     same_length
-    same-length-2
     returns-2
     returns-3
     returns-4)

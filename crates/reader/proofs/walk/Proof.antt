@@ -38,9 +38,6 @@ same_length c = search rules
 same-length-2 : tie.Need-same-length-2
 same-length-2 c = search rules
 
-same-length-3 : tie.Need-same-length-3
-same-length-3 c = search rules
-
 returns-3 : tie.Need-returns-3
 returns-3 c = search walk_answered
 
@@ -59,5 +56,4 @@ walk-spec =
     returns-2
     same_length
     same-length-2
-    same-length-3
     returns-3)

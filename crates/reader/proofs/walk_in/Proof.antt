@@ -61,7 +61,7 @@ give-entry-requires c κs = (search spot_body, search spot_area)
 
 returns-2 : tie.Need-returns-2
 returns-2 c =
-    walk_absent _ _ _ _ _ _ start.pre.0 start.pre.1.1 _ _ after-start-ok.start_ok.ensures else1.if1.left _ after-position.position.ensures _
+    walk_absent _ _ _ _ _ start.pre.0 start.pre.1.1 _ _ after-start-ok.start_ok.ensures else1.if1.left _ after-position.position.ensures _
     after-nindex2.nindex2.ensures.0 _ _ after-seek.seek.ensures.0 (search)
   where
     after-seek : tie.After-seek
@@ -88,13 +88,10 @@ same_length c = search rules
 same-length-2 : tie.Need-same-length-2
 same-length-2 c = search rules
 
-same-length-3 : tie.Need-same-length-3
-same-length-3 c = search rules
-
 returns-3 : tie.Need-returns-3
 returns-3 c =
-    walk_found _ _ _ _ _ _ start.pre.0 start.pre.1.1 _ _ after-start-ok.start_ok.ensures else1.if1.left _ after-position.position.ensures _
-    after-nindex2.nindex2.ensures.0 _ _ after-seek.seek.ensures.0 _ _ _ after-found.found.given.1 _ _ _ _ after-give-entry.give-entry.ensures
+    walk_found _ _ _ _ _ start.pre.0 start.pre.1.1 _ _ after-start-ok.start_ok.ensures else1.if1.left _ after-position.position.ensures _
+    after-nindex2.nindex2.ensures.0 _ _ after-seek.seek.ensures.0 _ _ _ after-found.found.given.1 _ _ _ after-give-entry.give-entry.ensures
   where
     after-give-entry : tie.After-give-entry
     after-give-entry = search
@@ -145,5 +142,4 @@ walk-in-spec =
     returns-2
     same_length
     same-length-2
-    same-length-3
     returns-3)

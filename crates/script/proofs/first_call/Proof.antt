@@ -13,8 +13,20 @@ shared-slice-read-if2 c = search rules
 returns-2 : tie.Need-returns-2
 returns-2 c = search size_kind
 
-call-ends-requires : tie.Need-call-ends-requires
-call-ends-requires c κs = search rules
+shared-slice-read-wide : tie.Need-shared-slice-read-wide
+shared-slice-read-wide c = search rules
+
+wide-requires : tie.Need-wide-requires
+wide-requires c κs = search rules
+
+add-size : tie.Need-overflow-add-size
+add-size c = search rules
+
+read-u16-requires : tie.Need-read-u16-requires
+read-u16-requires c κs = search rules
+
+add-size-2 : tie.Need-overflow-add-size-2
+add-size-2 c = search rules
 
 returns-3 : tie.Need-returns-3
 returns-3 c = search size_past
@@ -29,6 +41,10 @@ first-call-spec =
     returns
     shared-slice-read-if2
     returns-2
-    call-ends-requires
+    shared-slice-read-wide
+    wide-requires
+    add-size
+    read-u16-requires
+    add-size-2
     returns-3
     returns-4)

@@ -7,9 +7,6 @@ use Rattle.script.proofs.look_up.Tie as tie
 slice-aggregate-look-up : tie.Need-slice-aggregate-look-up
 slice-aggregate-look-up c = search rules
 
-slice-aggregate-look-up-2 : tie.Need-slice-aggregate-look-up-2
-slice-aggregate-look-up-2 c = search rules
-
 look-up-requires : tie.Need-look-up-requires
 look-up-requires c κs = search rules
 
@@ -36,7 +33,6 @@ look-up-spec =
     tie.close
     (tie.spec
     slice-aggregate-look-up
-    slice-aggregate-look-up-2
     look-up-requires
     enum-known-r
     enum_told

@@ -103,6 +103,24 @@ returns-3 c =
     start-place : tie.Start
     start-place = search after-slice-known
 
+read-u16-requires : tie.Need-read-u16-requires
+read-u16-requires c κs = search rules
+
+add-end : tie.Need-overflow-add-end
+add-end c = search rules
+
+shared-slice-read-insert : tie.Need-shared-slice-read-insert
+shared-slice-read-insert c = search rules
+
+sub-insert : tie.Need-overflow-sub-insert
+sub-insert c = search rules
+
+part-insert-start : tie.Need-slice-bounds-insert-start
+part-insert-start c = search rules
+
+part-insert-end : tie.Need-slice-bounds-insert-end
+part-insert-end c = search rules
+
 insert-requires : tie.Need-insert-requires
 insert-requires c κs = search rules
 
@@ -116,16 +134,24 @@ returns-4 : tie.Need-returns-4
 returns-4 c =
     let start = start-place.args in
     let bytes = after-slice-known.slice-known.given in
-    performed_3 _ start.s.now start.image.now start.len (λ k. omega (arith, bytes k)) then4.if4.taken _ after-insert.insert.ensures
+    let e = after-wide.wide.ensures.0 in
+    performed_3 _ start.s.now start.image.now start.len (λ k. omega (arith, bytes k)) _ e then4.if4.taken _
+    after-read-u16.read-u16.ensures.0 _ after-insert.insert.ensures
   where
     after-insert : tie.After-insert
     after-insert = search
 
+    after-read-u16 : tie.After-read-u16
+    after-read-u16 = search after-insert
+
     then4 : tie.Then4
-    then4 = search after-insert
+    then4 = search after-read-u16
+
+    after-wide : tie.After-wide
+    after-wide = search then4
 
     after-slice-known : tie.After-slice-known
-    after-slice-known = search then4
+    after-slice-known = search after-wide
 
     start-place : tie.Start
     start-place = search after-slice-known
@@ -210,6 +236,12 @@ perform-spec =
     walk-requires-2
     same-length-3
     returns-3
+    read-u16-requires
+    add-end
+    shared-slice-read-insert
+    sub-insert
+    part-insert-start
+    part-insert-end
     insert-requires
     same-length-4
     same-length-5

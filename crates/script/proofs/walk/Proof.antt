@@ -10,9 +10,6 @@ slice-aggregate-walk c = search rules
 slice-aggregate-walk-2 : tie.Need-slice-aggregate-walk-2
 slice-aggregate-walk-2 c = search rules
 
-slice-aggregate-walk-3 : tie.Need-slice-aggregate-walk-3
-slice-aggregate-walk-3 c = search rules
-
 walk-requires : tie.Need-walk-requires
 walk-requires c κs = search rules
 
@@ -40,7 +37,6 @@ walk-spec =
     (tie.spec
     slice-aggregate-walk
     slice-aggregate-walk-2
-    slice-aggregate-walk-3
     walk-requires
     enum-known-r
     enum_told

@@ -1,6 +1,5 @@
-use native.Mathlib.Omega.{arith}
 use Rattle.runs.proofs.Laws.{none_clean, entry_room, entry_front}
-use Rattle.tally.proofs.RunsLaws.{started_broken, started_none, started_other, started_unlisted, started_same}
+use Rattle.tally.proofs.RunsLaws.{started_broken, started_none, started_other, started_same}
 use borrow.Author.Rules.{rules}
 use Rattle.tally.proofs.first_entry.Statement.{statement}
 use Rattle.tally.proofs.first_entry.Tie as tie
@@ -30,68 +29,25 @@ same_length : tie.Need-same-length
 same_length c = search rules
 
 returns : tie.Need-returns
-returns c = (search started_other, search rules)
-
-add-parts-stored : tie.Need-overflow-add-parts-stored
-add-parts-stored c = omega (arith, step.read_entry.ensures.1.0 _ _ _ found.st.given.1)
-  where
-    found : tie.After-st
-    found = search
-
-    step : tie.After-read-entry
-    step = search found
-
-parts-stored-requires : tie.Need-parts-stored-requires
-parts-stored-requires c κs = (
-  omega (arith, step.read_entry.ensures.1.0 _ _ _ found.st.given.1),
-  (step.read_entry.ensures.1.0 _ _ _ found.st.given.1).2,
-)
-  where
-    found : tie.After-st
-    found = search
-
-    step : tie.After-read-entry
-    step = search found
+returns c = (search (started_same, entry_room), search rules)
 
 same-length-2 : tie.Need-same-length-2
 same-length-2 c = search rules
 
 returns-2 : tie.Need-returns-2
-returns-2 c = (search started_unlisted, search rules)
+returns-2 c = (search started_broken, search rules)
 
 same-length-3 : tie.Need-same-length-3
 same-length-3 c = search rules
 
 returns-3 : tie.Need-returns-3
-returns-3 c = (search started_broken, search rules)
+returns-3 c = (search started_none, search rules)
 
 same-length-4 : tie.Need-same-length-4
 same-length-4 c = search rules
 
 returns-4 : tie.Need-returns-4
-returns-4 c = (search started_none, search rules)
-
-same-length-5 : tie.Need-same-length-5
-same-length-5 c = search rules
-
-returns-5 : tie.Need-returns-5
-returns-5 c = (
-  started_same _ _ _ _ _ step.read_entry.ensures.0 _ _ _ found.st.given.1 _ same.is-equal.ensures (search) _ listed.parts_stored.ensures (search)
-      step.read_entry.ensures.1.0 (omega (arith, step.read_entry.ensures.1.0 _ _ _ found.st.given.1, step.read_entry.ensures.1.1.0)),
-  search rules,
-)
-  where
-    listed : tie.After-parts-stored
-    listed = search
-
-    same : tie.After-is-equal
-    same = search listed
-
-    found : tie.After-st
-    found = search same
-
-    step : tie.After-read-entry
-    step = search found
+returns-4 c = (search started_other, search rules)
 
 pub first-entry-spec : {M : Type 1} → statement M
 first-entry-spec =
@@ -106,13 +62,9 @@ first-entry-spec =
     is-equal-requires
     same_length
     returns
-    add-parts-stored
-    parts-stored-requires
     same-length-2
     returns-2
     same-length-3
     returns-3
     same-length-4
-    returns-4
-    same-length-5
-    returns-5)
+    returns-4)

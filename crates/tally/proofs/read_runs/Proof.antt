@@ -5,17 +5,17 @@ use lib.ListN.{length}
 use Rattle.spec.specs.Order.{below_of}
 use Rattle.marks.specs.Marks.{marks}
 use Rattle.tally.specs.Tally.{Carried}
-use Rattle.tally.proofs.RunsLaws.{Walking, Underway, walk_reading, walk_turn, walk_behind, walk_on, walk_high, walk_unlisted, walk_front, number_inside, zero_behind, zero_inside, runs-laws}
+use Rattle.tally.proofs.RunsLaws.{Walking, Underway, walk_reading, walk_turn, walk_behind, walk_on, walk_high, number_inside, zero_behind, zero_inside, runs-laws}
 use borrow.Author.Rules.{rules}
 use Rattle.tally.proofs.read_runs.Statement.{statement}
 use Rattle.tally.proofs.read_runs.Tie as tie
 
 abbrev invariant-loop : tie.invariant-loop
-invariant-loop index elements area d used width order word₀ words blocks at left end b size run start pos₀ len₀ count₀ word pos len count =
+invariant-loop index elements area d used width order word₀ words blocks at left end b size run start behind pos₀ len₀ count₀ word pos len count =
     (b + size ≤ 64 * length used) × Underway width order index area d words blocks at left b size run end word len pos count
 
 abbrev decreases-loop : tie.decreases-loop
-decreases-loop index elements area d used width order word₀ words blocks at left end b size run start pos₀ len₀ count₀ word pos len count =
+decreases-loop index elements area d used width order word₀ words blocks at left end b size run start behind pos₀ len₀ count₀ word pos len count =
     length run - pos
 
 abbrev invariant-walk : tie.invariant-walk
@@ -126,8 +126,8 @@ first-entry-requires c κs = search runs-laws
 enum-known-first : tie.Need-enum-known-first invariant-loop decreases-loop invariant-walk decreases-walk
 enum-known-first c = search runs-laws
 
-enum-known-first-2 : tie.Need-enum-known-first-2 invariant-loop decreases-loop invariant-walk decreases-walk
-enum-known-first-2 c = search runs-laws
+enum-told-2 : tie.Need-enum-told-2 invariant-loop decreases-loop invariant-walk decreases-walk
+enum-told-2 c = search runs-laws
 
 sub-len : tie.Need-overflow-sub-len invariant-loop decreases-loop invariant-walk decreases-walk
 sub-len c = search runs-laws
@@ -163,35 +163,14 @@ slice-aggregate-read-entry c = search runs-laws
 read-entry-requires : tie.Need-read-entry-requires invariant-loop decreases-loop invariant-walk decreases-walk
 read-entry-requires c κs = (search rules, (search rules, search rules, search rules))
 
-enum-told-2 : tie.Need-enum-told-2 invariant-loop decreases-loop invariant-walk decreases-walk
-enum-told-2 c = search runs-laws
-
 enum-told-3 : tie.Need-enum-told-3 invariant-loop decreases-loop invariant-walk decreases-walk
 enum-told-3 c = search runs-laws
 
+enum-told-4 : tie.Need-enum-told-4 invariant-loop decreases-loop invariant-walk decreases-walk
+enum-told-4 c = search runs-laws
+
 enum-known-st : tie.Need-enum-known-st invariant-loop decreases-loop invariant-walk decreases-walk
 enum-known-st c = search runs-laws
-
-add-parts-stored : tie.Need-overflow-add-parts-stored invariant-loop decreases-loop invariant-walk decreases-walk
-add-parts-stored c = omega (arith, step.read_entry.ensures.1.0 _ _ _ found.st.given.1)
-  where
-    found : tie.After-st invariant-loop decreases-loop invariant-walk decreases-walk
-    found = search
-
-    step : tie.After-read-entry invariant-loop decreases-loop invariant-walk decreases-walk
-    step = search found
-
-parts-stored-requires : tie.Need-parts-stored-requires invariant-loop decreases-loop invariant-walk decreases-walk
-parts-stored-requires c κs = (
-  omega (arith, step.read_entry.ensures.1.0 _ _ _ found.st.given.1),
-  (step.read_entry.ensures.1.0 _ _ _ found.st.given.1).2,
-)
-  where
-    found : tie.After-st invariant-loop decreases-loop invariant-walk decreases-walk
-    found = search
-
-    step : tie.After-read-entry invariant-loop decreases-loop invariant-walk decreases-walk
-    step = search found
 
 add-count : tie.Need-overflow-add-count invariant-loop decreases-loop invariant-walk decreases-walk
 add-count c = search runs-laws
@@ -221,13 +200,7 @@ array-share-prefix-word : tie.Need-array-share-prefix-word invariant-loop decrea
 array-share-prefix-word c = search runs-laws
 
 slice-aggregate-ends-below : tie.Need-slice-aggregate-ends-below invariant-loop decreases-loop invariant-walk decreases-walk
-slice-aggregate-ends-below c = walk_front _ _ _ _ _ _ _ _ _ _ _ _ _ _ _ _ _ reading.loop.inv.1 _ step.read_entry.ensures.1.1.0
-  where
-    step : tie.After-read-entry invariant-loop decreases-loop invariant-walk decreases-walk
-    step = search
-
-    reading : tie.At-loop invariant-loop decreases-loop invariant-walk decreases-walk
-    reading = search step
+slice-aggregate-ends-below c = search runs-laws
 
 ends-below-requires : tie.Need-ends-below-requires invariant-loop decreases-loop invariant-walk decreases-walk
 ends-below-requires c κs = (walk_behind _ _ _ _ _ _ _ _ _ _ _ _ _ _ _ _ _ reading.loop.inv.1, (next.end-of2.ensures.0, next.end-of2.ensures.1))
@@ -315,41 +288,6 @@ same-length-5 c = search (walk.walk.inv.1, rules)
 
 returns-5 : tie.Need-returns-5 invariant-loop decreases-loop invariant-walk decreases-walk
 returns-5 c =
-    walk_unlisted _ _ _ _ _ _ _ _ _ _ _ _ _ _ _ _ _ reading.loop.inv.1 _ _ step.read_entry.ensures.0 _ _ _ found.st.given.1 _ listed.parts_stored.ensures
-    _ _ _ walk.walk.inv.2 _ (search)
-  where
-    listed : tie.After-parts-stored invariant-loop decreases-loop invariant-walk decreases-walk
-    listed = search
-
-    found : tie.After-st invariant-loop decreases-loop invariant-walk decreases-walk
-    found = search listed
-
-    step : tie.After-read-entry invariant-loop decreases-loop invariant-walk decreases-walk
-    step = search found
-
-    reading : tie.At-loop invariant-loop decreases-loop invariant-walk decreases-walk
-    reading = search step
-
-    first : tie.After-first-entry invariant-loop decreases-loop invariant-walk decreases-walk
-    first = search reading
-
-    walk : tie.At-walk invariant-loop decreases-loop invariant-walk decreases-walk
-    walk = search first
-
-same-length-6 : tie.Need-same-length-6 invariant-loop decreases-loop invariant-walk decreases-walk
-same-length-6 c = search (walk.walk.inv.1, rules)
-  where
-    reading : tie.At-loop invariant-loop decreases-loop invariant-walk decreases-walk
-    reading = search
-
-    first : tie.After-first-entry invariant-loop decreases-loop invariant-walk decreases-walk
-    first = search reading
-
-    walk : tie.At-walk invariant-loop decreases-loop invariant-walk decreases-walk
-    walk = search first
-
-returns-6 : tie.Need-returns-6 invariant-loop decreases-loop invariant-walk decreases-walk
-returns-6 c =
     walk_high _ _ _ _ _ _ _ _ _ _ _ _ _ _ _ _ _ reading.loop.inv.1 _ _ step.read_entry.ensures.0 (search) step.read_entry.ensures.1.1.1
     _ below.ends_below.ensures _ _ _ walk.walk.inv.2 _ (search)
   where
@@ -396,16 +334,14 @@ read-runs-spec =
     slice-aggregate-first-entry
     first-entry-requires
     enum-known-first
-    enum-known-first-2
+    enum-told-2
     sub-len
     loop-holds
     slice-aggregate-read-entry
     read-entry-requires
-    enum-told-2
     enum-told-3
+    enum-told-4
     enum-known-st
-    add-parts-stored
-    parts-stored-requires
     add-count
     loop-less
     loop-again
@@ -431,6 +367,4 @@ read-runs-spec =
     same-length-4
     returns-4
     same-length-5
-    returns-5
-    same-length-6
-    returns-6)
+    returns-5)

@@ -44,7 +44,7 @@ returns-2 c = (search told_broken, none_bounds _ _ _ _ c.no-run2.ensures)
 
 returns-3 : tie.Need-returns-3
 returns-3 c =
-    let i = after-run-size.run_size.ensures.1 _ after-size.size.given.1 in
+    let i = after-run-size.run-size.ensures.1 _ after-size.size.given.1 in
     (search told_some, (i.2, i.1, search run-laws, search run-laws, search run-laws))
   where
     after-size : tie.After-size

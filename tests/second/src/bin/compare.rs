@@ -1,4 +1,4 @@
-//! Compares the engine's check, look up, walk and part step with the second reader.
+//! Compares the engine's check, look up and walk with the second reader.
 //!
 //! compare [SEED] [IMAGES] [SECONDS] [FIRST]
 //!
@@ -9,50 +9,34 @@
 //! given), or if images were left over.
 
 use second::both::{Both, Differs};
-use second::calls::{self, Answer, Read, Sizes, ABSENT, ROOM};
+use second::calls::{self, Answer, Read, ABSENT};
 use second::cases::{case, Case, Expected};
 use second::damage::DAMAGES;
 use second::drive::{self, add_each, drive, Found, Plan};
 use second::make::{Kind, KINDS};
 use second::pairs::cuts_pair;
-use second::parts::is_turned;
 use second::random::Random;
-use second::reader::{has_parts, read, Entry, FORMATS};
-use second::steps;
+use second::reader::{read, Entry, FORMATS, MOST_HEADWORD, MOST_TEXT};
 use second::words::{bad, lengths_to_try, near};
 
 /// The calls compared; those that change an image are compared by `histories`.
-const CALLS: [&str; 4] = ["check", "look up", "walk", "part step"];
+const CALLS: [&str; 3] = ["check", "look up", "walk"];
 const CHECK: usize = 0;
 const LOOK_UP: usize = 1;
 const WALK: usize = 2;
-const PART_STEP: usize = 3;
 
 /// The answers that each call must be seen to give: 0 done, 100 absent, else the refusal.
 /// 2, 11, 13 and 15 can be given by insert, delete and optimise only.
 const MUST: [&[u32]; CALLS.len()] = [
-    &[0, 1, 3, 4, 5, 6, 7, 8, 16, 9, 10],
-    &[0, ABSENT, 1, 3, 4, 5, 6, 7, 8, 16, 9, 10, 12, 14],
-    &[0, ABSENT, 1, 3, 4, 5, 6, 7, 8, 16, 9, 10, 12, 14],
-    &[0, ABSENT, 16],
+    &[0, 1, 3, 4, 5, 6, 7, 8, 9, 10],
+    &[0, ABSENT, 1, 3, 4, 5, 6, 7, 8, 9, 10, 12, 14],
+    &[0, ABSENT, 1, 3, 4, 5, 6, 7, 8, 9, 10, 12, 14],
 ];
 /// Numbers that no reading call can give.
 const ONLY_CHANGING: [u32; 4] = [2, 11, 13, 15];
 
-/// What answers can be about, each asked of the calls from LOOK_UP to WALK.
-const ABOUT: [&str; 4] = [
-    "a front inside a pair",
-    "a part list",
-    "a list with the pronunciation first",
-    "a parts slice that alone is too short",
-];
-const FRONT: usize = 0;
-const LIST: usize = 1;
-const TURNED: usize = 2;
-const SHORT: usize = 3;
-
-/// Answers have places 0 to 16, and 17 for absent.
-const ANSWERS: usize = 18;
+/// Answers have places 0 to 15, and 16 for absent.
+const ANSWERS: usize = 17;
 
 fn answer_place(number: u32) -> usize {
     match number {
@@ -68,13 +52,11 @@ struct Tally {
     bytes: u64,
     /// By kind, version made in, call and answer.
     seen: Vec<[[[u64; ANSWERS]; CALLS.len()]; FORMATS.len()]>,
-    /// By kind and version made in: images, accepted ones, accepted among those made good, accepted
-    /// with a stored front that ends inside a pair, and accepted with a part list.
-    kinds: Vec<[[u64; 5]; FORMATS.len()]>,
-    /// By version made in and call: answers by what they are about, as ABOUT stands.
-    about: [[[u64; ABOUT.len()]; CALLS.len()]; FORMATS.len()],
-    /// By version made in: entries of accepted images, and those with parts.
-    entries: [[u64; 2]; FORMATS.len()],
+    /// By kind and version made in: images, accepted ones, accepted among those made good, and
+    /// accepted with a stored front that ends inside a pair.
+    kinds: Vec<[[u64; 4]; FORMATS.len()]>,
+    /// By version made in and call: answers 0 about an entry with such a front.
+    in_pairs: [[u64; CALLS.len()]; FORMATS.len()],
     /// By damage and version made in: images that have it alone, and with others.
     damages: Vec<[[u64; 2]; FORMATS.len()]>,
     longest_run: usize,
@@ -88,9 +70,8 @@ impl drive::Tally for Tally {
             calls: 0,
             bytes: 0,
             seen: vec![[[[0; ANSWERS]; CALLS.len()]; FORMATS.len()]; KINDS.len()],
-            kinds: vec![[[0; 5]; FORMATS.len()]; KINDS.len()],
-            about: [[[0; ABOUT.len()]; CALLS.len()]; FORMATS.len()],
-            entries: [[0; 2]; FORMATS.len()],
+            kinds: vec![[[0; 4]; FORMATS.len()]; KINDS.len()],
+            in_pairs: [[0; CALLS.len()]; FORMATS.len()],
             damages: vec![[[0; 2]; FORMATS.len()]; DAMAGES.len()],
             longest_run: 0,
             most_blocks: 0,
@@ -111,12 +92,8 @@ impl drive::Tally for Tally {
             add_each(ours.as_flattened_mut(), theirs.as_flattened());
         }
         add_each(
-            self.about.as_flattened_mut().as_flattened_mut(),
-            other.about.as_flattened().as_flattened(),
-        );
-        add_each(
-            self.entries.as_flattened_mut(),
-            other.entries.as_flattened(),
+            self.in_pairs.as_flattened_mut(),
+            other.in_pairs.as_flattened(),
         );
         for (ours, theirs) in self.damages.iter_mut().zip(&other.damages) {
             add_each(ours.as_flattened_mut(), theirs.as_flattened());
@@ -135,8 +112,8 @@ impl Tally {
     }
 
     /// The images made in a version, as `kinds` counts them.
-    fn of_version(&self, version: usize) -> [u64; 5] {
-        let mut sum = [0; 5];
+    fn of_version(&self, version: usize) -> [u64; 4] {
+        let mut sum = [0; 4];
         for kind in &self.kinds {
             add_each(&mut sum, &kind[version]);
         }
@@ -150,6 +127,8 @@ struct Bench<'a> {
     random: Random,
     kind: usize,
     version: usize,
+    /// A stored front of the image ends inside a pair.
+    cuts_pair: bool,
     tally: &'a mut Tally,
 }
 
@@ -159,25 +138,16 @@ impl Bench<'_> {
         self.tally.seen[self.kind][self.version][call][answer_place(number)] += 1;
     }
 
-    /// Counts what an answer is about; `whole` is that of slices that are long enough.
-    fn count_about(&mut self, call: usize, number: u32, whole: Answer<&Entry>, sizes: Sizes) {
-        let Answer::Done(entry) = whole else {
-            return;
-        };
-        let about = &mut self.tally.about[self.version][call];
-        if number == 0 {
-            about[FRONT] += cuts_pair(entry) as u64;
-            about[LIST] += has_parts(entry.attribute) as u64;
-            about[TURNED] += is_turned(&entry.list) as u64;
+    fn count_pair(&mut self, call: usize, answer: Answer<&Entry>) {
+        if let Answer::Done(entry) = answer {
+            self.tally.in_pairs[self.version][call] += cuts_pair(entry) as u64;
         }
-        let others = entry.text.len() <= sizes.text
-            && (call == LOOK_UP || entry.headword.len() <= sizes.headword);
-        about[SHORT] += (number == 14 && others) as u64;
     }
 
     fn check(&mut self, read: &Read, len: usize) -> Result<(), Differs> {
         let number = self.both.check(read, len)?;
         self.count(CHECK, number);
+        self.tally.in_pairs[self.version][CHECK] += (self.cuts_pair && number == 0) as u64;
         Ok(())
     }
 
@@ -186,11 +156,13 @@ impl Bench<'_> {
         read: &Read,
         len: usize,
         word: &[u8],
-        sizes: Sizes,
+        text_size: usize,
     ) -> Result<(), Differs> {
-        let number = self.both.look_up(read, len, word, sizes)?;
+        let number = self.both.look_up(read, len, word, text_size)?;
         self.count(LOOK_UP, number);
-        self.count_about(LOOK_UP, number, calls::look_up(read, word, ROOM), sizes);
+        if self.cuts_pair {
+            self.count_pair(LOOK_UP, calls::look_up(read, word, text_size));
+        }
         Ok(())
     }
 
@@ -200,33 +172,33 @@ impl Bench<'_> {
         len: usize,
         word: &[u8],
         above: u8,
-        sizes: Sizes,
+        sizes: (usize, usize),
     ) -> Result<(), Differs> {
         let number = self.both.walk(read, len, word, above, sizes)?;
         self.count(WALK, number);
-        self.count_about(
-            WALK,
-            number,
-            calls::walk(read, word, above != 0, ROOM),
-            sizes,
-        );
+        if self.cuts_pair {
+            self.count_pair(WALK, calls::walk(read, word, above != 0, sizes.0, sizes.1));
+        }
         Ok(())
     }
 
-    /// Look up with the output slices long enough, exact, each one byte short, empty.
+    /// Look up with the text slice long enough, exact, one byte short, empty.
     fn look_up_sizes(&mut self, read: &Read, len: usize, word: &[u8]) -> Result<(), Differs> {
-        let Answer::Done(entry) = calls::look_up(read, word, ROOM) else {
-            let sizes = *self.random.pick(&[NOTHING, ENOUGH]);
-            return self.look_up(read, len, word, sizes);
-        };
-        let exact = sizes_of(entry);
-        self.look_up(read, len, word, exact)?;
-        let short = self.one_short(exact);
-        self.look_up(read, len, word, short)?;
-        let other = *self
-            .random
-            .pick(&[NOTHING, ROOM, more(exact, 1), more(ROOM, 70)]);
-        self.look_up(read, len, word, other)
+        match calls::look_up(read, word, usize::MAX) {
+            Answer::Done(entry) => {
+                let size = entry.text.len();
+                self.look_up(read, len, word, size)?;
+                if size > 0 {
+                    self.look_up(read, len, word, size - 1)?;
+                }
+                let more = *self.random.pick(&[0, size + 1, MOST_TEXT, MOST_TEXT + 70]);
+                self.look_up(read, len, word, more)
+            }
+            _ => {
+                let size = *self.random.pick(&[0, 1, 50, MOST_TEXT]);
+                self.look_up(read, len, word, size)
+            }
+        }
     }
 
     /// Walk with the output slices long enough, exact, each one byte short, empty.
@@ -237,76 +209,31 @@ impl Bench<'_> {
         word: &[u8],
         above: u8,
     ) -> Result<(), Differs> {
-        let Answer::Done(entry) = calls::walk(read, word, above != 0, ROOM) else {
+        let Answer::Done(entry) = calls::walk(read, word, above != 0, usize::MAX, usize::MAX)
+        else {
             let sizes = *self
                 .random
-                .pick(&[NOTHING, Sizes { text: 9, ..NOTHING }, ENOUGH]);
+                .pick(&[(0, 0), (0, 9), (MOST_HEADWORD, MOST_TEXT)]);
             return self.walk(read, len, word, above, sizes);
         };
-        let exact = sizes_of(entry);
-        self.walk(read, len, word, above, exact)?;
-        let other = match self.random.below(5) {
-            0 => Sizes {
-                headword: exact.headword - 1,
-                ..exact
-            },
-            1 | 2 => self.one_short(exact),
-            3 => *self.random.pick(&[NOTHING, more(exact, 3)]),
-            _ => ROOM,
-        };
-        self.walk(read, len, word, above, other)
-    }
-
-    /// Sizes of which one or more are a byte short; for a text or list without a byte they stay.
-    fn one_short(&mut self, exact: Sizes) -> Sizes {
-        let mut short = *self.random.pick(&[exact, ROOM]);
-        let which = self.random.below(3);
-        if which != 0 {
-            short.text = exact.text.saturating_sub(1);
+        let (size, text) = (entry.headword.len(), entry.text.len());
+        self.walk(read, len, word, above, (size, text))?;
+        match self.random.below(5) {
+            0 => self.walk(read, len, word, above, (size - 1, text)),
+            1 if text > 0 => self.walk(read, len, word, above, (size, text - 1)),
+            2 => self.walk(read, len, word, above, (size + 3, text + 5)),
+            3 => {
+                let short = *self.random.pick(&[
+                    (0, 0),
+                    (0, MOST_TEXT),
+                    (MOST_HEADWORD, 0),
+                    (size - 1, MOST_TEXT),
+                    (size - 1, text.saturating_sub(1)),
+                ]);
+                self.walk(read, len, word, above, short)
+            }
+            _ => self.walk(read, len, word, above, (MOST_HEADWORD, MOST_TEXT)),
         }
-        if which != 1 {
-            short.parts = exact.parts.saturating_sub(1);
-        }
-        short
-    }
-
-    /// Steps at all offsets of a slice that is no image's.
-    fn part_steps(&mut self, list: &[u8]) -> Result<(), Differs> {
-        let mut both = Both::new(&[], Random::of(self.random.next(), 2));
-        for offset in steps::offsets(&mut self.random, list) {
-            let number = both.part_step(list, offset)?;
-            self.count(PART_STEP, number);
-        }
-        Ok(())
-    }
-}
-
-/// Slices that are long enough for all but the longest lists.
-const ENOUGH: Sizes = Sizes {
-    parts: 2_500,
-    ..ROOM
-};
-
-/// Empty output slices.
-const NOTHING: Sizes = Sizes {
-    headword: 0,
-    text: 0,
-    parts: 0,
-};
-
-fn sizes_of(entry: &Entry) -> Sizes {
-    Sizes {
-        headword: entry.headword.len(),
-        text: entry.text.len(),
-        parts: entry.list.len(),
-    }
-}
-
-fn more(sizes: Sizes, by: usize) -> Sizes {
-    Sizes {
-        headword: sizes.headword + by,
-        text: sizes.text + by,
-        parts: sizes.parts + by,
     }
 }
 
@@ -351,13 +278,10 @@ fn compare_case(case: Case, tally: &mut Tally) -> Result<(), Differs> {
     for damage in &case.damages {
         tally.damages[*damage][version][(case.damages.len() > 1) as usize] += 1;
     }
-    let listed = |entry: &&Entry| has_parts(entry.attribute);
+    let mut has_cut = false;
     if let Ok(image) = &result {
-        let lists = image.entries().filter(listed).count();
-        tally.kinds[kind][version][3] += image.entries().any(cuts_pair) as u64;
-        tally.kinds[kind][version][4] += (lists > 0) as u64;
-        tally.entries[version][0] += image.entries().count() as u64;
-        tally.entries[version][1] += lists as u64;
+        has_cut = image.entries().any(cuts_pair);
+        tally.kinds[kind][version][3] += has_cut as u64;
         let longest = image.runs.iter().map(|run| run.blocks).max().unwrap_or(0);
         tally.longest_run = tally.longest_run.max(longest);
         tally.most_blocks = tally.most_blocks.max(image.data_blocks);
@@ -368,6 +292,7 @@ fn compare_case(case: Case, tally: &mut Tally) -> Result<(), Differs> {
         random: Random::of(random.next(), 0),
         kind,
         version,
+        cuts_pair: has_cut,
         tally,
     };
     let big = slice.len() > 1 << 20;
@@ -390,8 +315,8 @@ fn compare_case(case: Case, tally: &mut Tally) -> Result<(), Differs> {
         if i == asked {
             let word = near(&mut random, &words);
             let above = random.byte() & 1;
-            bench.look_up(at_l, *l, &word, ENOUGH)?;
-            bench.walk(at_l, *l, &word, above, ENOUGH)?;
+            bench.look_up(at_l, *l, &word, MOST_TEXT)?;
+            bench.walk(at_l, *l, &word, above, (MOST_HEADWORD, MOST_TEXT))?;
         }
     }
 
@@ -405,20 +330,11 @@ fn compare_case(case: Case, tally: &mut Tally) -> Result<(), Differs> {
             words.first().cloned().unwrap_or_default(),
         ] {
             let above = *random.pick(&aboves);
-            let sizes = *random.pick(&[ENOUGH, NOTHING, more(NOTHING, 5)]);
-            bench.look_up(&result, len, &word, sizes)?;
+            let sizes = *random.pick(&[(MOST_HEADWORD, MOST_TEXT), (0, 0), (5, 5)]);
+            bench.look_up(&result, len, &word, sizes.1)?;
             bench.walk(&result, len, &word, above, sizes)?;
         }
         return Ok(());
-    }
-    // Steps: a list of the image, or a slice by chance.
-    if !big && random.chance(1, 2) {
-        let stored = result.iter().flat_map(|image| image.entries());
-        let list = match stored.filter(listed).nth(random.below(3)) {
-            Some(entry) if random.chance(1, 4) => entry.list.clone(),
-            _ => steps::slice(&mut random),
-        };
-        bench.part_steps(&list)?;
     }
     for word in words.iter().take(3) {
         let above = *random.pick(&aboves);
@@ -446,8 +362,8 @@ fn compare_case(case: Case, tally: &mut Tally) -> Result<(), Differs> {
     if !big && random.chance(1, 16) {
         let mut word = Vec::new();
         for _ in 0..200 {
-            bench.walk(&result, len, &word, 1, ENOUGH)?;
-            match calls::walk(&result, &word, true, ROOM) {
+            bench.walk(&result, len, &word, 1, (MOST_HEADWORD, MOST_TEXT))?;
+            match calls::walk(&result, &word, true, MOST_HEADWORD, MOST_TEXT) {
                 Answer::Done(entry) => word = entry.headword.clone(),
                 _ => break,
             }
@@ -485,20 +401,16 @@ fn main() {
         total.bytes >> 20
     );
     for (version, format) in FORMATS.iter().enumerate() {
-        let [images, accepted, _, cut, parts] = total.of_version(version);
+        let [images, accepted, _, cut] = total.of_version(version);
         println!(
-            "version {}: {} images, {} accepted, of these {} with a front inside a pair, {} with parts",
-            format.version, images, accepted, cut, parts
+            "version {}: {} images, {} accepted, {} of these with a stored front inside a pair",
+            format.version, images, accepted, cut
         );
-        let [entries, listed] = total.entries[version];
-        println!("  {} entries, {} with parts", entries, listed);
-        for (about, name) in ABOUT.iter().enumerate() {
-            let [_, look_up, walk, _] = total.about[version].map(|call| call[about]);
-            println!(
-                "  answers about {}: look up {}, walk {}",
-                name, look_up, walk
-            );
-        }
+        let [check, look_up, walk] = total.in_pairs[version];
+        println!(
+            "  answers about such fronts: check {}, look up {}, walk {}",
+            check, look_up, walk
+        );
     }
     println!(
         "longest accepted run {} blocks, most data blocks {}",
@@ -551,7 +463,7 @@ fn missing_in(total: &Tally, version: usize) -> Vec<String> {
     }
     for ((kind, name), counts) in KINDS.iter().zip(&total.kinds) {
         // About 7 in 20 images of a kind are made good.
-        let [made, accepted, good, cut, parts] = counts[version];
+        let [made, accepted, good, cut] = counts[version];
         if good == 0 || accepted * 10 < made {
             missing.push(format!("TOO FEW ACCEPTED: {}", name));
         }
@@ -559,21 +471,11 @@ fn missing_in(total: &Tally, version: usize) -> Vec<String> {
         if !matches!(kind, Kind::Empty | Kind::Giant) && cut * 20 < accepted {
             missing.push(format!("TOO FEW WITH A FRONT INSIDE A PAIR: {}", name));
         }
-        if !matches!(kind, Kind::Empty | Kind::Giant) && parts * 2 < accepted {
-            missing.push(format!("TOO FEW WITH PARTS: {}", name));
-        }
     }
-    for call in LOOK_UP..=WALK {
-        for (about, count) in ABOUT.iter().zip(&total.about[version][call]) {
-            if *count == 0 {
-                missing.push(format!("NOT SEEN: {} about {}", CALLS[call], about));
-            }
+    for (call, count) in CALLS.iter().zip(&total.in_pairs[version]) {
+        if *count == 0 {
+            missing.push(format!("NOT SEEN: {} about a front inside a pair", call));
         }
-    }
-    // About half of the entries have parts.
-    let [entries, listed] = total.entries[version];
-    if listed * 10 < entries * 3 {
-        missing.push("TOO FEW: entries with parts".to_string());
     }
     // Half of them are of each version.
     if total.of_version(version)[0] * 5 < total.images * 2 {
@@ -634,11 +536,9 @@ fn print_answers(total: &Tally) {
 
 fn print_kinds(total: &Tally) {
     println!("By kind of image: images of version 4 and 5, accepted ones, accepted ones with a");
-    println!("stored front inside a pair, those with parts, then calls by answer:");
+    println!("stored front inside a pair, then calls by answer:");
     print!("{:>51}", "");
-    for head in [
-        "4", "5", "acc. 4", "acc. 5", "pair 4", "pair 5", "part 4", "part 5",
-    ] {
+    for head in ["4", "5", "acc. 4", "acc. 5", "pair 4", "pair 5"] {
         print!("{:>7}", head);
     }
     for place in 0..ANSWERS - 1 {
@@ -650,7 +550,7 @@ fn print_kinds(total: &Tally) {
     for (kind, (_, name)) in KINDS.iter().enumerate() {
         let [four, five] = total.kinds[kind];
         print!("{:>51}", name);
-        for column in [0, 1, 3, 4] {
+        for column in [0, 1, 3] {
             print!("{:>7}{:>7}", four[column], five[column]);
         }
         for place in 0..ANSWERS {

@@ -1,3 +1,0 @@
-pub mod StoredLaws
-pub mod GivenLaws
-pub mod PutLaws

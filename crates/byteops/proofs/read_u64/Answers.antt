@@ -1,0 +1,6 @@
+use Rattle.byteops.proofs.Stores.{eight_read}
+use borrow.Author.Rules.{rules}
+use Rattle.byteops.proofs.read_u64.Goals as goal
+
+pub returns : goal.returns
+returns c = search eight_read
