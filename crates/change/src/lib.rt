@@ -28,7 +28,7 @@ const NUMBERS: usize = 32768;
 
 // What a change comes to: what is known of the old image, the run concerned, whether a new entry enters and whether the run has an
 // entry with the headword, by how many blocks the index grows, and the index elements and blocks in runs of the new image.
-#[derive(Drop)]
+#[derive(Clone, Copy)]
 pub struct Draft {
     pub old: Overview,
     pub target: Target,
@@ -40,7 +40,7 @@ pub struct Draft {
 }
 
 // A change as it is written: the same, with the end of the blocks before the new runs are placed, and the entries of the new image.
-#[derive(Drop)]
+#[derive(Clone, Copy)]
 pub struct Outline {
     pub old: Overview,
     pub target: Target,
@@ -53,7 +53,7 @@ pub struct Outline {
 }
 
 // What a change came to: there is no room, row 15; or the new length.
-#[derive(Drop)]
+#[derive(Clone, Copy)]
 pub enum Ending {
     Full,
     Done(usize),

@@ -58,7 +58,7 @@ pub const MOST_BLOCKS: usize = 65536;
 const RUN_LIMIT: usize = 1024;
 
 // The offsets of the fields that version 5 moves.
-#[derive(Drop)]
+#[derive(Clone, Copy)]
 struct Moved {
     os: usize,
     index_blkbit: usize,
@@ -70,7 +70,7 @@ struct Moved {
 
 // What a file fixes by its header for all that stands behind: the bytes of the extended header, the bytes of a block number in the
 // index, the order of headwords, and the bytes that a part may take when a list is cut.
-#[derive(Drop)]
+#[derive(Clone, Copy)]
 pub struct Form {
     pub extended: usize,
     pub width: usize,
@@ -79,7 +79,7 @@ pub struct Form {
 }
 
 // The form of an image, and how many blocks its index and its data area have; or the first of rows 3 to 5 that it breaks.
-#[derive(Drop)]
+#[derive(Clone, Copy)]
 pub enum Framed {
     Blocks {
         form: Form,

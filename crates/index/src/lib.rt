@@ -8,14 +8,14 @@ ghost use Rattle.index.specs.Elements.{element_end, elements_end, ended, Inside,
 use byteops::LONGEST_HEADWORD;
 
 // An element of the index: where it starts, and how many elements there are from it on.
-#[derive(Drop)]
+#[derive(Clone, Copy)]
 pub struct Place {
     pub at: usize,
     pub left: usize,
 }
 
 // Where the elements of an index end, or that they break a rule.
-#[derive(Drop)]
+#[derive(Clone, Copy)]
 pub enum Ended {
     Broken,
     At(usize),

@@ -19,7 +19,7 @@ pub const MARK_WORDS: usize = 1024;
 
 // What testing an image tells of it: its form, its index blocks and data blocks, its entries, and where the elements end in its
 // index.
-#[derive(Drop)]
+#[derive(Clone, Copy)]
 pub struct Overview {
     pub form: Form,
     pub n: usize,
@@ -29,7 +29,7 @@ pub struct Overview {
 }
 
 // An image that keeps rows 3 to 10, or the first of them that it breaks.
-#[derive(Drop)]
+#[derive(Clone, Copy)]
 pub enum Inspected {
     Sound(Overview),
     Refused(u32),

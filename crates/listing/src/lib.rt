@@ -16,14 +16,14 @@ use inspect::{Inspected, MARK_WORDS, Overview};
 use runs::{Size, Step, WORD};
 
 // Where the lines stored so far end, and the ordinal of the next entry.
-#[derive(Drop)]
+#[derive(Clone, Copy)]
 struct Printed {
     at: usize,
     next: usize,
 }
 
 // The numbers of an entry's line: its ordinal, its run's block and number of blocks, its attribute, and its text's length.
-#[derive(Drop)]
+#[derive(Clone, Copy)]
 struct Fields {
     ordinal: usize,
     block: usize,

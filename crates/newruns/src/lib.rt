@@ -14,14 +14,14 @@ use parts::{Edit, PART};
 use runs::WORD;
 
 // Where new runs go: among the blocks g to end - 1, or from `end` on.
-#[derive(Drop)]
+#[derive(Clone, Copy)]
 pub struct Room {
     pub g: usize,
     pub end: usize,
 }
 
 // Where new runs are written: behind an index of so many blocks, by which their places are counted, and their index elements from `at` on.
-#[derive(Drop)]
+#[derive(Clone, Copy)]
 pub struct Site {
     pub index: usize,
     pub at: usize,

@@ -22,7 +22,7 @@ use scans::Comparison;
 pub const PART: usize = 3328;
 
 // An edit of a run: what the file fixes, and whether a new entry enters.
-#[derive(Drop)]
+#[derive(Clone, Copy)]
 pub struct Edit {
     pub form: Form,
     pub fresh: bool,
@@ -31,7 +31,7 @@ pub struct Edit {
 // Where the merging stands: the next of the run's own entries, read already, and whether the new entry is still to come. The
 // entry's headword is the first `length` bytes of a buffer, `zero` is where its zero byte is, and its body stands from there
 // up to `next`. A length of 0: none is left.
-#[derive(Drop)]
+#[derive(Clone, Copy)]
 pub struct Cursor {
     pub length: usize,
     pub zero: usize,
@@ -40,7 +40,7 @@ pub struct Cursor {
 }
 
 // What comes next: nothing, an old entry that the change drops, an old entry that it keeps, or the new entry.
-#[derive(Drop)]
+#[derive(Clone, Copy)]
 enum Turn {
     Done,
     Skip,
@@ -49,7 +49,7 @@ enum Turn {
 }
 
 // What came of one entry more in a part: no room, or the bytes used then.
-#[derive(Drop)]
+#[derive(Clone, Copy)]
 enum Fit {
     Full,
     Used(usize),
@@ -57,7 +57,7 @@ enum Fit {
 
 // An encoded part: how many bytes its entries take, whether an old entry was dropped on the way, and where the merging stands
 // behind it.
-#[derive(Drop)]
+#[derive(Clone, Copy)]
 pub struct Part {
     pub used: usize,
     pub found: bool,
@@ -66,7 +66,7 @@ pub struct Part {
 
 // The parts of a changed run: how many, the bytes of their index elements, and their blocks; and whether the run has an entry
 // with the headword of the change.
-#[derive(Drop)]
+#[derive(Clone, Copy)]
 pub struct Sizes {
     pub parts: usize,
     pub bytes: usize,

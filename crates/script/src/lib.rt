@@ -12,14 +12,14 @@ use spec::{DeleteAnswer, LengthAnswer, LookUpAnswer, WalkAnswer};
 const ABSENT: u32 = 100;
 
 // What comes of a call: its code, and the length that stands then.
-#[derive(Drop)]
+#[derive(Clone, Copy)]
 struct After {
     code: u32,
     len: usize,
 }
 
 // What stands at the front of a script: a call of so many bytes, or none, where the script ends.
-#[derive(Drop)]
+#[derive(Clone, Copy)]
 enum Front {
     End,
     Call(usize),

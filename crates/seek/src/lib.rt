@@ -20,7 +20,7 @@ use runs::{Size, Step};
 
 // An entry in the data area: its headword is the first `length` bytes of a buffer, `zero` is where its zero byte is, and its
 // body stands from there up to `next`.
-#[derive(Drop)]
+#[derive(Clone, Copy)]
 pub enum Spot {
     Absent,
     At {

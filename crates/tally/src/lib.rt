@@ -13,14 +13,14 @@ use index::element_end;
 use runs::{Size, Step, WORD};
 
 // The entries and the blocks of all runs, or the first of rows 7 and 8 that a run breaks.
-#[derive(Drop)]
+#[derive(Clone, Copy)]
 pub enum Runs {
     Read { words: usize, blocks: usize },
     Refused(u32),
 }
 
 // Where the first entry of a run ends, or that it breaks row 8.
-#[derive(Drop)]
+#[derive(Clone, Copy)]
 enum First {
     Broken,
     Ends(usize),

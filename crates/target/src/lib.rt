@@ -15,7 +15,7 @@ use runs::Size;
 
 // The run concerned: its element stands in the index from `at` up to `end`, with so many elements before and after it; its
 // first block, and its number of blocks. With no run all are 0.
-#[derive(Drop)]
+#[derive(Clone, Copy)]
 pub struct Target {
     pub at: usize,
     pub end: usize,
