@@ -1,0 +1,11 @@
+-- `displace` meets its contract.
+use native.Mathlib.Omega.{arith}
+use borrow.Author.Rules.{rules}
+use Rattle.change.proofs.CodeLaws.{displaced}
+use Rattle.change.proofs.displace.Goals as goal
+
+pub returns : goal.returns
+returns c = let a = c.note_starts.ensures in let b = c.note_starts-2.ensures in let f = c.Free-moved.ensures in let m = c.place_moved.ensures in record {
+  displaced = displaced c.args.old _ _ _ c.args.t _ _ _ _ _ _ _ _ _ a.0 b.0 f.0 c.larger.ensures m.0 m.1.0;
+  numbers_len_unchanged = (omega arith, omega arith);
+}

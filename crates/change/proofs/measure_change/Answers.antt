@@ -1,0 +1,90 @@
+-- `measure_change` meets its contract.
+use mathlib.Core.Path.{refl}
+use native.Mathlib.Omega.{arith}
+use Rattle.inspect.proofs.Accepted.{accepted_index, accepted_blocks, accepted_area, accepted_inside}
+use Rattle.change.proofs.Laws.{run_short}
+use Rattle.change.proofs.FinishLaws.{index_short, element_short, blocks_short, drafted}
+use borrow.Author.Rules.{rules}
+use Rattle.change.proofs.measure_change.Goals as goal
+
+pub overflow_add-front : goal.overflow_add-front
+overflow_add-front c = omega (arith, accepted_index _ _ c.requires.accepted_image)
+
+pub position-start-requires : goal.position-start-requires
+position-start-requires c = omega (arith, accepted_index _ _ c.requires.accepted_image)
+
+pub slice_bounds-index-end : goal.slice_bounds-index-end
+slice_bounds-index-end c = omega (arith, accepted_index _ _ c.requires.accepted_image, c.position-start.ensures)
+
+pub slice_bounds-area-count : goal.slice_bounds-area-count
+slice_bounds-area-count c = omega (arith, accepted_index _ _ c.requires.accepted_image, c.position-start.ensures)
+
+pub slice_bounds-area-start : goal.slice_bounds-area-start
+slice_bounds-area-start c = omega (arith, accepted_index _ _ c.requires.accepted_image, c.position-start.ensures)
+
+pub nindex2-elements-requires : goal.nindex2-elements-requires
+nindex2-elements-requires c = omega (arith, accepted_index _ _ c.requires.accepted_image)
+
+pub find_run-t-requires : goal.find_run-t-requires
+find_run-t-requires c = let a = c.requires.accepted_image in record {
+  width = (a.good.0, accepted_inside _ _ a _ c.position-start.ensures _ c.nindex2-elements.ensures.value);
+  d_in_bounds = (omega (arith, accepted_area _ _ a _ c.position-start.ensures c.requires.image_len.0), omega (arith, accepted_blocks _ _ a));
+}
+
+pub entries_start-from-requires : goal.entries_start-from-requires
+entries_start-from-requires c = omega (arith, c.find_run-t.ensures.size_bound.0, accepted_blocks _ _ c.requires.accepted_image)
+
+pub overflow_add-t : goal.overflow_add-t
+overflow_add-t c = omega (arith, c.find_run-t.ensures.size_bound.0, accepted_blocks _ _ c.requires.accepted_image)
+
+pub overflow_mul-t : goal.overflow_mul-t
+overflow_mul-t c = omega (arith, c.find_run-t.ensures.size_bound.0, accepted_blocks _ _ c.requires.accepted_image)
+
+pub slice_bounds-measure-end : goal.slice_bounds-measure-end
+slice_bounds-measure-end c = omega (arith, c.find_run-t.ensures.size_bound.0, accepted_area _ _ c.requires.accepted_image _ c.position-start.ensures c.requires.image_len.0)
+
+pub measure-m-requires : goal.measure-m-requires
+measure-m-requires c = let good = c.requires.accepted_image.good in record {
+  h_value = (c.requires.image_len.1, c.requires.image_len.2, run_short _ _ _ _ c.entries_start-from.ensures.value c.find_run-t.ensures.size_bound.1);
+  width = (good.0, omega (arith, good.1));
+}
+
+pub overflow_add-count-2 : goal.overflow_add-count-2
+overflow_add-count-2 c =
+    let m = c.measure-m.ensures.parts_bound in
+    omega (arith, m.0, c.find_run-t.ensures.size_bound.4, c.nindex2-elements.ensures.upper_bound)
+
+pub overflow_sub-bytes-2 : goal.overflow_sub-bytes-2
+overflow_sub-bytes-2 c = element_short _ _ c.requires.accepted_image _ c.position-start.ensures _ c.nindex2-elements.ensures.value _ _ c.find_run-t.ensures.target_told
+
+pub overflow_add-bytes : goal.overflow_add-bytes
+overflow_add-bytes c =
+    let m = c.measure-m.ensures.parts_bound in
+    let i = index_short _ _ c.requires.accepted_image in
+    omega (arith, m.1, i)
+
+pub growth-g-requires : goal.growth-g-requires
+growth-g-requires c =
+    let m = c.measure-m.ensures.parts_bound in
+    let i = index_short _ _ c.requires.accepted_image in
+    omega (arith, m.1, i)
+
+pub nblock2-requires : goal.nblock2-requires
+nblock2-requires c = omega (arith, accepted_index _ _ c.requires.accepted_image)
+
+pub overflow_sub-blocks : goal.overflow_sub-blocks
+overflow_sub-blocks c = blocks_short _ _ c.requires.accepted_image _ c.position-start.ensures _ c.nindex2-elements.ensures.value _ _ c.find_run-t.ensures.target_told _ c.nblock2.ensures.value
+
+pub overflow_add-blocks : goal.overflow_add-blocks
+overflow_add-blocks c = omega (arith, c.nblock2.ensures.upper_bound, c.measure-m.ensures.parts_bound.2)
+
+pub returns : goal.returns
+returns c =
+    let a = c.args in
+    let m = c.measure-m.ensures in (
+      refl,
+      refl,
+      drafted a.image.now a.old c.requires.accepted_image _ c.position-start.ensures _ c.nindex2-elements.ensures.value a.h.now c.find_run-t.result c.find_run-t.ensures.target_told
+          a.body.now a.fresh _ _ _ _ _ _ _ c.find_run-t.ensures.size_bound.0 c.entries_start-from.ensures.value m.0 c.nblock2.ensures.value
+          c.growth-g.ensures m.1.0.1 m.1.1,
+    )

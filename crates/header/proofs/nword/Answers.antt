@@ -1,0 +1,7 @@
+-- `nword` meets its contract.
+use Rattle.std.proofs.Common.{arith, rules}
+use Rattle.header.proofs.Laws.{read_nword}
+use Rattle.header.proofs.nword.Goals as goal
+
+pub returns-clause-value : goal.returns-clause-value
+returns-clause-value c = search read_nword

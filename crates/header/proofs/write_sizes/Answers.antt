@@ -1,0 +1,7 @@
+-- `write_sizes` meets its contract.
+use Rattle.std.proofs.Common.{arith, rules}
+use Rattle.header.proofs.Laws.{sizes_stored}
+use Rattle.header.proofs.write_sizes.Goals as goal
+
+pub returns-clause-s_after : goal.returns-clause-s_after
+returns-clause-s_after c = search sizes_stored

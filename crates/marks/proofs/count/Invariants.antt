@@ -1,0 +1,16 @@
+-- `count` meets its contract.
+use Prim.Native.Nat.{◌+◌, ◌*◌, ◌-◌, ◌≤◌}
+use mathlib.Core.Path.{◌≡◌}
+use native.Mathlib.Omega.{arith}
+use borrow.Author.Rules.{rules}
+use lib.ListN.{length, drop}
+use Rattle.spec.specs.Blocks.{count_marks}
+use Rattle.marks.specs.Marks.{marks}
+use Rattle.marks.proofs.Laws.{count_next, count_end}
+use Rattle.marks.proofs.count.Given as goal
+
+abbrev pub invariant-loop-i : goal.invariant-loop-i
+invariant-loop-i l = (l.i ≤ length l.ws) × (l.n ≤ 64 * l.i) × (l.n + count_marks (marks (drop l.i l.ws)) ≡ count_marks (marks l.ws))
+
+abbrev pub decreases-loop-i : goal.decreases-loop-i
+decreases-loop-i l = length l.ws - l.i

@@ -1,0 +1,15 @@
+-- `set_range` meets its contract.
+use Prim.Native.Nat.{◌+◌, ◌*◌, ◌≤◌, ◌<◌}
+use mathlib.Core.Path.{◌≡◌, refl}
+use native.Mathlib.Omega.{arith}
+use borrow.Author.Rules.{rules}
+use lib.ListN.{length, length-set}
+use Rattle.marks.specs.Marks.{marks, with_range}
+use Rattle.marks.proofs.Laws.{range_start, range_turn, range_end}
+use Rattle.marks.proofs.set_range.Given as goal
+
+abbrev pub invariant-loop-left : goal.invariant-loop-left
+invariant-loop-left l = (l.i < 64) × (length l.ws ≡ length l.initial.ws) × (64 * l.q + l.i + l.left ≤ 64 * length l.ws) × (with_range (64 * l.q + l.i) l.left l.v (marks l.ws) ≡ with_range l.from l.n l.v (marks l.initial.ws))
+
+abbrev pub decreases-loop-left : goal.decreases-loop-left
+decreases-loop-left l = l.left

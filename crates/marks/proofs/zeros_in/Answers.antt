@@ -1,0 +1,8 @@
+-- `zeros_in` meets its contract.
+use native.Mathlib.Omega.{arith}
+use lib.Count.{trailing_le}
+use borrow.Author.Rules.{rules}
+use Rattle.marks.proofs.zeros_in.Goals as goal
+
+pub overflow_cast-result : goal.overflow_cast-result
+overflow_cast-result c = omega (arith, trailing_le 64 c.args.w)

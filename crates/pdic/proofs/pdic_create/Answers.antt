@@ -1,0 +1,10 @@
+-- `pdic_create` meets its contract.
+use Rattle.pdic.proofs.Laws.{create_refused, create_done}
+use borrow.Author.Rules.{rules}
+use Rattle.pdic.proofs.pdic_create.Goals as goal
+
+pub returns-in-Refused : goal.returns-in-Refused
+returns-in-Refused c = search create_refused
+
+pub returns-in-Done : goal.returns-in-Done
+returns-in-Done c = search create_done

@@ -1,0 +1,13 @@
+-- `pdic_walk` meets its contract.
+use Rattle.pdic.proofs.Laws.{walk_refused, walk_absent, walk_found}
+use borrow.Author.Rules.{rules}
+use Rattle.pdic.proofs.pdic_walk.Goals as goal
+
+pub returns-in-Refused : goal.returns-in-Refused
+returns-in-Refused c = search walk_refused
+
+pub returns-in-Absent : goal.returns-in-Absent
+returns-in-Absent c = search walk_absent
+
+pub returns-in-Found : goal.returns-in-Found
+returns-in-Found c = search walk_found

@@ -1,0 +1,9 @@
+use Rattle.reader.proofs.Found.{text_short, text_given}
+use borrow.Author.Rules.{rules}
+use Rattle.reader.proofs.give_text.Goals as goal
+
+pub returns-then-text-long : goal.returns-then-text-long
+returns-then-text-long c = search text_short
+
+pub returns : goal.returns
+returns c = search text_given

@@ -1,0 +1,6 @@
+use Rattle.scans.proofs.Scans.{zero_two}
+use borrow.Author.Rules.{rules}
+use Rattle.scans.proofs.zero_16.Goals as goal
+
+pub returns : goal.returns
+returns c = search zero_two

@@ -1,0 +1,18 @@
+-- `play` meets its contract.
+use Prim.Native.Nat.{◌-◌, ◌≤◌}
+use mathlib.Core.Path.{◌≡◌, refl}
+use native.Mathlib.Omega.{arith}
+use lib.ListN.{length, drop}
+use borrow.Author.Rules.{rules}
+use Rattle.script.specs.Script.{calls_of, played_from, played}
+use Rattle.script.proofs.Turns.{size_told, size_inside, played_start, played_end, played_turn}
+use Rattle.script.proofs.Claim.{script_claimed}
+use Rattle.script.proofs.play.Given as goal
+
+abbrev pub invariant-loop-size : goal.invariant-loop-size
+invariant-loop-size l =
+    (l.at ≤ length l.script) × (l.n ≤ l.at) × (length l.image ≡ length l.initial.image) × (length l.work ≡ length l.initial.work) × (length l.codes ≡ length l.initial.codes)
+    × (played_from l.n (calls_of (length l.initial.work) (drop l.at l.script)) l.image l.l l.work l.codes ≡ played (calls_of (length l.initial.work) l.script) l.initial.image l.len l.initial.work l.initial.codes)
+
+abbrev pub decreases-loop-size : goal.decreases-loop-size
+decreases-loop-size l = length l.script - l.at
