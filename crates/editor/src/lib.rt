@@ -182,9 +182,8 @@ fn delete_tested(image: &mut [u8], len: usize, work: &mut [u8], headword: &[u8])
 
 // Delete: the entry with that headword goes.
 pub fn delete(image: &mut [u8], len: usize, work: &mut [u8], headword: &[u8]) -> DeleteAnswer
-    ensures* { λ r. ⌜
-        record { answer = delete_answer r; image = image.exit.now; work = work.new }
-        ≡ delete image.entry.now len work.old headword.now ⌝ }
+    ensures { record { answer = delete_answer result; image = image.new; work = work.new }
+        ≡ delete image.old len work.old headword.now }
 {
     if !header::slice_ok(image, len) {
         return DeleteAnswer::Refused(1);

@@ -150,7 +150,7 @@ fn append(
 ) -> Fit
     requires in_bounds { (1 ≤ length headword.now) × (length headword.now ≤ longest_headword) × (length body.now ≤ longest_body) }
     requires held_le_longest_headword { (held ≤ longest_headword) × (longest_headword ≤ length last.old) × (part_room ≤ length part.old) × (used ≤ longest_entry) × (limit ≤ largest_limit) }
-    ensures appended { Appended limit used (take held last.old) (record { headword = headword.entry.now; body = body.now })
+    ensures appended { Appended limit used (take held last.old) (record { headword = headword.now; body = body.now })
         part.old part.new last.new result }
     ensures part_len_unchanged { (length part.new ≡ length part.old) × (length last.new ≡ length last.old) }
 {

@@ -124,7 +124,7 @@ fn give_entry(
     ensures { record { answer = walk_answer result; headword = out.new; text = text.new }
         ≡ walk_result out.old text.old
         (entry_fitted out.old text.old
-        (some (record { headword = headword.entry.now; body = bytes_at (zero + 1) (next - (zero + 1)) area.now }))) }
+        (some (record { headword = headword.now; body = bytes_at (zero + 1) (next - (zero + 1)) area.now }))) }
 {
     let start = zero + 2;
     let long = next - start;

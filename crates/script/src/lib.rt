@@ -192,13 +192,13 @@ fn put_code(codes: &mut [u8], n: usize, code: u32)
 // the working slice `work`; their codes go to `codes`, one byte a call, as far as there is room. Answers the length at the end.
 pub fn play(script: &[u8], image: &mut [u8], len: usize, work: &mut [u8], codes: &mut [u8]) -> usize
     ensures codes_after { record {
-      image = image.exit.now;
+      image = image.new;
       length_after = result;
       work = work.new;
       codes = codes.new;
     }
         ≡ played (calls_of (length work.old) script.now)
-        image.entry.now len work.old codes.old }
+        image.old len work.old codes.old }
     ensures claimed { Claimed (calls_of (length work.old) script.now) image.old len image.new result }
 {
     let mut l = len;

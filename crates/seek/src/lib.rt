@@ -32,7 +32,7 @@ pub enum Spot {
 
 // Whether a walk from `h` may answer an entry with that headword.
 fn takes(order: usize, above: bool, h: &[u8], headword: &[u8]) -> bool
-    ensures { (body : List ℕ) → result ≡ walk_takes (below_of order) above h.now (record { headword = headword.entry.now; body = body }) }
+    ensures { (body : List ℕ) → result ≡ walk_takes (below_of order) above h.now (record { headword = headword.now; body = body }) }
 {
     if h.len() == 0 {
         return true;

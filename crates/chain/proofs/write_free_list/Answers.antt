@@ -53,7 +53,7 @@ loop-b-preserved c =
       search rules,
       search rules,
       search (gap_next, rules),
-      chain_turn _ _ _ l.image _ _ _ _ _ l.b n.result _ _ l.inv.5 l.inv.4 n.ensures.0 c.position-at.ensures c.link.ensures
+      chain_turn _ _ _ l.image _ _ _ _ _ l.b n.result _ _ l.invariant.5 l.invariant.4 n.ensures.0 c.position-at.ensures c.link.ensures
           c.write_u16.ensures.dst_after c.write_u32.ensures.dst_after
           (omega arith) (omega arith) (omega arith) (omega arith) (omega arith),
     )

@@ -13,25 +13,6 @@ use Rattle.change.proofs.FinishLaws.{marks_long, change_index, begins, still_rea
 use borrow.Author.Rules.{rules}
 use Rattle.change.proofs.change.Goals as goal
 
--- the change can begin then
-begun : (c : goal.After-mark_range)
-    → Begun (take (old_length c.args.p.old) c.args.image.now) c.args.p (marks c.mark_range.new.ws) c.args.h.now c.args.body.now
-    c.args.words
-begun c =
-    let a = c.args in
-    let p = c.requires in
-    begins a.image.now a.h.now a.body.now a.words a.p (marks a.free.now) (marks c.mark_range.new.ws)
-    p.1.0.0 p.0 p.1.1.0 p.1.1.1.1 c.mark_range.ensures
-    (omega (arith, accepted_blocks _ _ p.0.accepted, length_marks a.free.now, p.1.0.2)) c.if-old-p-gt-MOST_INDEX_BLOCKS.false p.1.1.1.0.0 p.1.1.1.0.1
-
--- the marks are still as many
-long : (c : goal.After-mark_range) → length (marks c.mark_range.new.ws) ≡ 163_840
-long c =
-    let a = c.args in
-    let p = c.requires in
-    let m = marks_long a.free.now p.1.0.2 in
-    ap length c.mark_range.ensures ∙ length_range _ _ true (marks a.free.now) (omega (arith, m, p.0.inside, accepted_blocks _ _ p.0.accepted)) ∙ m
-
 pub overflow_add-old : goal.overflow_add-old
 overflow_add-old c =
     let k = c.requires.drafted in
@@ -49,13 +30,34 @@ mark_range-requires c =
     omega (arith, p.0.inside, accepted_blocks _ _ p.0.accepted, p.1.0.2)
 
 pub grow-requires : goal.grow-requires
-grow-requires c = let p = c.requires in record {
-  begun = begun (goal.at.grow-requires c).After-mark_range;
+grow-requires c =
+    let begun : Begun (take (old_length c.args.p.old) c.args.image.now) c.args.p (marks c.mark_range.new.ws) c.args.h.now c.args.body.now
+    c.args.words =
+      let a = c.args in
+    let p = c.requires in
+    begins a.image.now a.h.now a.body.now a.words a.p (marks a.free.now) (marks c.mark_range.new.ws)
+    p.1.0.0 p.0 p.1.1.0 p.1.1.1.1 c.mark_range.ensures
+    (omega (arith, accepted_blocks _ _ p.0.accepted, length_marks a.free.now, p.1.0.2)) c.if-old-p-gt-MOST_INDEX_BLOCKS.false p.1.1.1.0.0 p.1.1.1.0.1 in
+    let p = c.requires in record {
+  begun = begun;
   le_g = (c.if-p-gt0.true, p.1.0.0, p.1.0.1, search rules);
 }
 
 pub keep-requires : goal.keep-requires
-keep-requires c = let p = c.requires in record {
-  ready = still_ready _ c.args.p _ _ _ _ (begun (goal.at.keep-requires c).After-mark_range) (long (goal.at.keep-requires c).After-mark_range) [] (omega (arith, c.if-p-gt0.false));
+keep-requires c =
+    let begun : Begun (take (old_length c.args.p.old) c.args.image.now) c.args.p (marks c.mark_range.new.ws) c.args.h.now c.args.body.now
+    c.args.words =
+      let a = c.args in
+    let p = c.requires in
+    begins a.image.now a.h.now a.body.now a.words a.p (marks a.free.now) (marks c.mark_range.new.ws)
+    p.1.0.0 p.0 p.1.1.0 p.1.1.1.1 c.mark_range.ensures
+    (omega (arith, accepted_blocks _ _ p.0.accepted, length_marks a.free.now, p.1.0.2)) c.if-old-p-gt-MOST_INDEX_BLOCKS.false p.1.1.1.0.0 p.1.1.1.0.1 in
+    let long : length (marks c.mark_range.new.ws) ≡ 163_840 =
+      let a = c.args in
+    let p = c.requires in
+    let m = marks_long a.free.now p.1.0.2 in
+    ap length c.mark_range.ensures ∙ length_range _ _ true (marks a.free.now) (omega (arith, m, p.0.inside, accepted_blocks _ _ p.0.accepted)) ∙ m in
+    let p = c.requires in record {
+  ready = still_ready _ c.args.p _ _ _ _ begun long [] (omega (arith, c.if-p-gt0.false));
   g_value = (refl, p.1.0.0, p.1.0.1, search rules);
 }

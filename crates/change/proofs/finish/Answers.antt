@@ -17,11 +17,6 @@ use Rattle.change.proofs.FinishLaws.{front_planned, front_long, marks_long, end_
 use borrow.Author.Rules.{rules}
 use Rattle.change.proofs.finish.Goals as goal
 
--- the end of the blocks in the old image
-planned : (c : goal.After-plan_end-last) → PlannedEnd (take (old_length c.args.v.old) c.args.image.now) c.args.v
-    (marks c.args.free.now) c.args.h.now c.args.body.now c.plan_end-last.result
-planned c = front_planned c.args.image.now c.args.v _ _ _ _ c.position-len.ensures _ c.plan_end-last.ensures.planned_end
-
 -- what is known when the old image is copied
 module _ (c : tie.After-copy) where
   abbrev roomy : tie.Else2
@@ -100,7 +95,11 @@ pub overflow_add-v : goal.overflow_add-v
 overflow_add-v c = omega (arith, c.requires.ready.few_index)
 
 pub returns-then-v-last-clause-changed : goal.returns-then-v-last-clause-changed
-returns-then-v-last-clause-changed c = finish_blocks c.args.image.now (old_length c.args.v.old) c.args.v _ _ _ _ c.requires.ready _ (planned (goal.at.returns-then-v-last c).After-plan_end-last)
+returns-then-v-last-clause-changed c =
+    let planned : PlannedEnd (take (old_length c.args.v.old) c.args.image.now) c.args.v
+    (marks c.args.free.now) c.args.h.now c.args.body.now c.plan_end-last.result =
+      front_planned c.args.image.now c.args.v _ _ _ _ c.position-len.ensures _ c.plan_end-last.ensures.planned_end in
+    finish_blocks c.args.image.now (old_length c.args.v.old) c.args.v _ _ _ _ c.requires.ready _ planned
     (marks_long _ c.requires.v_in_bounds.2) c.if-v-last.true
 
 pub returns-then-v-last-clause-image_len_unchanged : goal.returns-then-v-last-clause-image_len_unchanged
@@ -110,7 +109,11 @@ pub position-size-requires : goal.position-size-requires
 position-size-requires c = omega (arith, c.plan_end-last.ensures.upper_bound, c.requires.ready.few_index, ready_form _ _ _ _ _ _ c.requires.ready)
 
 pub returns-then-image-size-clause-changed : goal.returns-then-image-size-clause-changed
-returns-then-image-size-clause-changed c = finish_length c.args.image.now (old_length c.args.v.old) c.args.v _ _ _ _ c.requires.ready _ (planned (goal.at.returns-then-image-size c).After-plan_end-last)
+returns-then-image-size-clause-changed c =
+    let planned : PlannedEnd (take (old_length c.args.v.old) c.args.image.now) c.args.v
+    (marks c.args.free.now) c.args.h.now c.args.body.now c.plan_end-last.result =
+      front_planned c.args.image.now c.args.v _ _ _ _ c.position-len.ensures _ c.plan_end-last.ensures.planned_end in
+    finish_length c.args.image.now (old_length c.args.v.old) c.args.v _ _ _ _ c.requires.ready _ planned
     (marks_long _ c.requires.v_in_bounds.2) c.if-v-last.false (omega (arith, c.if-image-size.true, c.position-size.ensures))
 
 pub returns-then-image-size-clause-image_len_unchanged : goal.returns-then-image-size-clause-image_len_unchanged
@@ -137,7 +140,11 @@ write_rest-requires c =
     rest_asks _ (v (goal.at.write_rest-requires c).After-copy) _ _ _ _ (ready (goal.at.write_rest-requires c).After-copy) _ (room (goal.at.write_rest-requires c).After-copy) _ _ e.1.1.0 (last_is (goal.at.write_rest-requires c).After-copy) _ e.1.1.1
 
 pub returns : goal.returns
-returns c = let p = (begun (goal.at.returns c).After-copy).pre in let e = c.write_areas.ensures in let f = c.write_rest.ensures in let w = all_written _ (v (goal.at.returns c).After-copy) _ _ _ _ (ready (goal.at.returns c).After-copy) _ (room (goal.at.returns c).After-copy) _ _ _ _ e.0 e.1.0 (last_is (goal.at.returns c).After-copy) f.0 in record {
+returns c =
+    let planned : PlannedEnd (take (old_length c.args.v.old) c.args.image.now) c.args.v
+    (marks c.args.free.now) c.args.h.now c.args.body.now c.plan_end-last.result =
+      front_planned c.args.image.now c.args.v _ _ _ _ c.position-len.ensures _ c.plan_end-last.ensures.planned_end in
+    let p = (begun (goal.at.returns c).After-copy).pre in let e = c.write_areas.ensures in let f = c.write_rest.ensures in let w = all_written _ (v (goal.at.returns c).After-copy) _ _ _ _ (ready (goal.at.returns c).After-copy) _ (room (goal.at.returns c).After-copy) _ _ _ _ e.0 e.1.0 (last_is (goal.at.returns c).After-copy) f.0 in record {
   changed = finish_done (image (goal.at.returns c).After-copy) _ (v (goal.at.returns c).After-copy) _ _ _ _ p.0 _ (planned (ended (goal.at.returns c).After-copy)) (marks_long _ p.1.2) (few (goal.at.returns c).After-copy).if1.left (fits (goal.at.returns c).After-copy)
       p.1.0 _ (copied (goal.at.returns c).After-copy) _ w _ (sized (goal.at.returns c).After-copy).position2.ensures;
   image_len_unchanged = (f.1 ∙ e.1.1.0, c.copy.ensures.dst_len_unchanged);

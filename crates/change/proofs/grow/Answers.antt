@@ -9,21 +9,29 @@ use Rattle.change.proofs.FinishLaws.{marks_long, front_ready, begun_front, good_
 use borrow.Author.Rules.{rules}
 use Rattle.change.proofs.grow.Goals as goal
 
--- the old image as code cuts it out
-before-long : (c : goal.After-position-len) → length (take c.position-len.result c.args.image.now) ≡ c.position-len.result
-before-long c = length-take-le _ _ (omega (arith, c.position-len.ensures, c.requires.le_g.1))
-
 pub slice_bounds-before-end-2 : goal.slice_bounds-before-end-2
-slice_bounds-before-end-2 c = sym (before-long (goal.at.slice_bounds-before-end-2 c).After-position-len)
+slice_bounds-before-end-2 c =
+    let before-long : length (take c.position-len.result c.args.image.now) ≡ c.position-len.result =
+      length-take-le _ _ (omega (arith, c.position-len.ensures, c.requires.le_g.1)) in
+    sym before-long
 
 pub slice_bounds-displace-end : goal.slice_bounds-displace-end
-slice_bounds-displace-end c = omega (arith, c.position-len.ensures, c.position-start.ensures, before-long (goal.at.slice_bounds-displace-end c).After-position-len)
+slice_bounds-displace-end c =
+    let before-long : length (take c.position-len.result c.args.image.now) ≡ c.position-len.result =
+      length-take-le _ _ (omega (arith, c.position-len.ensures, c.requires.le_g.1)) in
+    omega (arith, c.position-len.ensures, c.position-start.ensures, before-long)
 
 pub slice_bounds-displace-count-2 : goal.slice_bounds-displace-count-2
-slice_bounds-displace-count-2 c = omega (arith, c.position-len.ensures, c.position-start.ensures, before-long (goal.at.slice_bounds-displace-count-2 c).After-position-len)
+slice_bounds-displace-count-2 c =
+    let before-long : length (take c.position-len.result c.args.image.now) ≡ c.position-len.result =
+      length-take-le _ _ (omega (arith, c.position-len.ensures, c.requires.le_g.1)) in
+    omega (arith, c.position-len.ensures, c.position-start.ensures, before-long)
 
 pub slice_bounds-displace-start-2 : goal.slice_bounds-displace-start-2
-slice_bounds-displace-start-2 c = omega (arith, c.position-len.ensures, c.position-start.ensures, before-long (goal.at.slice_bounds-displace-start-2 c).After-position-len)
+slice_bounds-displace-start-2 c =
+    let before-long : length (take c.position-len.result c.args.image.now) ≡ c.position-len.result =
+      length-take-le _ _ (omega (arith, c.position-len.ensures, c.requires.le_g.1)) in
+    omega (arith, c.position-len.ensures, c.position-start.ensures, before-long)
 
 pub displace-end-requires : goal.displace-end-requires
 displace-end-requires c = let p = c.requires in let b = begun_front _ _ _ _ _ _ _ c.position-len.ensures p.0 in let k = marks_long _ p.1.3 in let here = c.position-start.ensures in let i = cut_inside _ _ _ _ _ _ b k _ here in let l = length-replicate {A = ℕ} 32768 0 in record {

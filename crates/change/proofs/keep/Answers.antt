@@ -13,11 +13,6 @@ use Rattle.change.proofs.KeptLaws.{kept_ready}
 use borrow.Author.Rules.{rules}
 use Rattle.change.proofs.keep.Goals as goal
 
--- the end of the blocks in the old image
-planned : (c : goal.After-plan_end-last) → PlannedEnd (take (old_length c.args.v.old) c.args.image.now) c.args.v
-    (marks c.args.free.now) c.args.h.now c.args.body.now c.plan_end-last.result
-planned c = front_planned c.args.image.now c.args.v _ _ _ _ c.position-len.ensures _ c.plan_end-last.ensures.planned_end
-
 pub position-len-requires : goal.position-len-requires
 position-len-requires c = omega (arith, ready_few _ _ _ _ _ _ c.requires.ready, c.requires.ready.few_index, (ready_form _ _ _ _ _ _ c.requires.ready).2)
 
@@ -39,8 +34,12 @@ pub overflow_add-v : goal.overflow_add-v
 overflow_add-v c = omega (arith, c.requires.ready.few_index)
 
 pub returns-then-v-last-clause-changed : goal.returns-then-v-last-clause-changed
-returns-then-v-last-clause-changed c = finish_blocks c.args.image.now (old_length c.args.v.old) c.args.v _ _ _ _ c.requires.ready
-    _ (planned (goal.at.returns-then-v-last c).After-plan_end-last) (marks_long _ c.requires.g_value.3) c.if-v-last.true
+returns-then-v-last-clause-changed c =
+    let planned : PlannedEnd (take (old_length c.args.v.old) c.args.image.now) c.args.v
+    (marks c.args.free.now) c.args.h.now c.args.body.now c.plan_end-last.result =
+      front_planned c.args.image.now c.args.v _ _ _ _ c.position-len.ensures _ c.plan_end-last.ensures.planned_end in
+    finish_blocks c.args.image.now (old_length c.args.v.old) c.args.v _ _ _ _ c.requires.ready
+    _ planned (marks_long _ c.requires.g_value.3) c.if-v-last.true
 
 pub returns-then-v-last-clause-image_len_unchanged : goal.returns-then-v-last-clause-image_len_unchanged
 returns-then-v-last-clause-image_len_unchanged c = (refl, refl)
@@ -49,15 +48,23 @@ pub position-new_len-requires : goal.position-new_len-requires
 position-new_len-requires c = omega (arith, c.plan_end-last.ensures.upper_bound, c.requires.ready.few_index, (ready_form _ _ _ _ _ _ c.requires.ready).2)
 
 pub returns-then-image-new_len-clause-changed : goal.returns-then-image-new_len-clause-changed
-returns-then-image-new_len-clause-changed c = finish_length c.args.image.now (old_length c.args.v.old) c.args.v _ _ _ _ c.requires.ready
-    _ (planned (goal.at.returns-then-image-new_len c).After-plan_end-last) (marks_long _ c.requires.g_value.3) c.if-v-last.false (omega (arith, c.if-image-new_len.true, c.position-new_len.ensures))
+returns-then-image-new_len-clause-changed c =
+    let planned : PlannedEnd (take (old_length c.args.v.old) c.args.image.now) c.args.v
+    (marks c.args.free.now) c.args.h.now c.args.body.now c.plan_end-last.result =
+      front_planned c.args.image.now c.args.v _ _ _ _ c.position-len.ensures _ c.plan_end-last.ensures.planned_end in
+    finish_length c.args.image.now (old_length c.args.v.old) c.args.v _ _ _ _ c.requires.ready
+    _ planned (marks_long _ c.requires.g_value.3) c.if-v-last.false (omega (arith, c.if-image-new_len.true, c.position-new_len.ensures))
 
 pub returns-then-image-new_len-clause-image_len_unchanged : goal.returns-then-image-new_len-clause-image_len_unchanged
 returns-then-image-new_len-clause-image_len_unchanged c = (refl, refl)
 
 pub write_kept-requires : goal.write_kept-requires
-write_kept-requires c = let k = kept_ready c.args.image.now _ _ _ _ _ c.requires.ready
-    _ (planned (goal.at.write_kept-requires c).After-plan_end-last) c.requires.g_value.3 c.if-v-last.false (omega (arith, c.if-image-new_len.false, c.position-new_len.ensures)) c.requires.g_value.1 in record {
+write_kept-requires c =
+    let planned : PlannedEnd (take (old_length c.args.v.old) c.args.image.now) c.args.v
+    (marks c.args.free.now) c.args.h.now c.args.body.now c.plan_end-last.result =
+      front_planned c.args.image.now c.args.v _ _ _ _ c.position-len.ensures _ c.plan_end-last.ensures.planned_end in
+    let k = kept_ready c.args.image.now _ _ _ _ _ c.requires.ready
+    _ planned c.requires.g_value.3 c.if-v-last.false (omega (arith, c.if-image-new_len.false, c.position-new_len.ensures)) c.requires.g_value.1 in record {
       ready = c.requires.ready;
       roomy = k.0;
       g_value = (c.requires.g_value.0, c.requires.g_value.2);
@@ -65,15 +72,22 @@ write_kept-requires c = let k = kept_ready c.args.image.now _ _ _ _ _ c.requires
 
 pub write_rest-requires : goal.write_rest-requires
 write_rest-requires c =
+    let planned : PlannedEnd (take (old_length c.args.v.old) c.args.image.now) c.args.v
+    (marks c.args.free.now) c.args.h.now c.args.body.now c.plan_end-last.result =
+      front_planned c.args.image.now c.args.v _ _ _ _ c.position-len.ensures _ c.plan_end-last.ensures.planned_end in
     let k = kept_ready c.args.image.now _ _ _ _ _ c.requires.ready
-    _ (planned (goal.at.write_rest-requires c).After-plan_end-last) c.requires.g_value.3 c.if-v-last.false (omega (arith, c.if-image-new_len.false, c.position-new_len.ensures)) c.requires.g_value.1 in
+    _ planned c.requires.g_value.3 c.if-v-last.false (omega (arith, c.if-image-new_len.false, c.position-new_len.ensures)) c.requires.g_value.1 in
     rest_asks _ c.args.v _ _ _ _ c.requires.ready _ k.0 _ _ c.write-Kept.ensures.1.1.0 k.1 _ c.write-Kept.ensures.1.1.2
 
 pub returns : goal.returns
-returns c = let k = kept_ready c.args.image.now _ _ _ _ _ c.requires.ready
-    _ (planned (goal.at.returns c).After-plan_end-last) c.requires.g_value.3 c.if-v-last.false (omega (arith, c.if-image-new_len.false, c.position-new_len.ensures)) c.requires.g_value.1 in let w = all_written _ c.args.v _ _ _ _ c.requires.ready _ k.0 _ _ _ _ c.write-Kept.ensures.0
+returns c =
+    let planned : PlannedEnd (take (old_length c.args.v.old) c.args.image.now) c.args.v
+    (marks c.args.free.now) c.args.h.now c.args.body.now c.plan_end-last.result =
+      front_planned c.args.image.now c.args.v _ _ _ _ c.position-len.ensures _ c.plan_end-last.ensures.planned_end in
+    let k = kept_ready c.args.image.now _ _ _ _ _ c.requires.ready
+    _ planned c.requires.g_value.3 c.if-v-last.false (omega (arith, c.if-image-new_len.false, c.position-new_len.ensures)) c.requires.g_value.1 in let w = all_written _ c.args.v _ _ _ _ c.requires.ready _ k.0 _ _ _ _ c.write-Kept.ensures.0
     c.write-Kept.ensures.1.0 k.1 c.write_rest.ensures.sealed in record {
-      changed = finish_done c.args.image.now _ _ _ _ _ _ c.requires.ready _ (planned (goal.at.returns c).After-plan_end-last)
+      changed = finish_done c.args.image.now _ _ _ _ _ _ c.requires.ready _ planned
           (marks_long _ c.requires.g_value.3)
           c.if-v-last.false (omega (arith, c.if-image-new_len.false, c.position-new_len.ensures)) c.requires.g_value.1 _ refl _ w _ c.position-new_len.ensures;
       image_len_unchanged = (omega (arith, c.write_rest.ensures.image_len_unchanged, c.write-Kept.ensures.1.1.0), c.write-Kept.ensures.1.1.1);

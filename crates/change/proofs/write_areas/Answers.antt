@@ -20,19 +20,6 @@ use Rattle.change.proofs.AreasLaws.{
 }
 use Rattle.change.proofs.write_areas.Goals as goal
 
--- the image keeps its length from call to call
-moved-kept : (c : goal.After-copy_moved) → length c.copy_moved.new.image ≡ length c.args.image.now
-moved-kept c = c.copy_moved.ensures.image_len_unchanged
-
-before-kept : (c : goal.After-copy_elements-a) → length c.copy_elements-a.new.dst ≡ length c.args.image.now
-before-kept c = c.copy_elements-a.ensures.dst_len_unchanged ∙ moved-kept (goal.at.After-copy_elements-a c).After-copy_moved
-
-parts-kept : (c : goal.After-write_parts-b) → length c.write_parts-b.new.image ≡ length c.args.image.now
-parts-kept c = c.write_parts-b.ensures.image_len_unchanged.0 ∙ before-kept (goal.at.After-write_parts-b c).After-copy_elements-a
-
-after_kept : (c : goal.After-copy_elements-c) → length c.copy_elements-c.new.dst ≡ length c.args.image.now
-after_kept c = c.copy_elements-c.ensures.dst_len_unchanged ∙ parts-kept (goal.at.After-copy_elements-c c).After-write_parts-b
-
 pub overflow_add-front : goal.overflow_add-front
 overflow_add-front c = omega (arith, c.requires.ready.accepted.good.2)
 
@@ -120,14 +107,29 @@ slice_bounds-run-end c =
     )
 
 pub copy_elements-a-requires : goal.copy_elements-a-requires
-copy_elements-a-requires c = let whole = before_asks _ _ _ _ _ _ c.requires.ready _ c.requires.roomy _ c.position-start.ensures _ (moved-kept (goal.at.copy_elements-a-requires c).After-copy_moved) in record { width = whole.0; g_in_bounds = whole.1.0; left_in_bounds = whole.1.1 }
+copy_elements-a-requires c =
+    let moved-kept : length c.copy_moved.new.image ≡ length c.args.image.now =
+      c.copy_moved.ensures.image_len_unchanged in
+    let whole = before_asks _ _ _ _ _ _ c.requires.ready _ c.requires.roomy _ c.position-start.ensures _ moved-kept in record { width = whole.0; g_in_bounds = whole.1.0; left_in_bounds = whole.1.1 }
 
 pub write_parts-b-requires : goal.write_parts-b-requires
-write_parts-b-requires c = let whole = parts_asks _ _ _ _ _ _ c.requires.ready _ c.requires.roomy _ c.position-start.ensures _ _ _ (before-kept (goal.at.write_parts-b-requires c).After-copy_elements-a) c.entries_start-from.ensures.value
+write_parts-b-requires c =
+    let moved-kept : length c.copy_moved.new.image ≡ length c.args.image.now =
+      c.copy_moved.ensures.image_len_unchanged in
+    let before-kept : length c.copy_elements-a.new.dst ≡ length c.args.image.now =
+      c.copy_elements-a.ensures.dst_len_unchanged ∙ moved-kept in
+    let whole = parts_asks _ _ _ _ _ _ c.requires.ready _ c.requires.roomy _ c.position-start.ensures _ _ _ before-kept c.entries_start-from.ensures.value
     c.copy_elements-a.ensures.value in record { h_value = whole.0; width = whole.1.0; parts_fit = whole.1.1 }
 
 pub copy_elements-c-requires : goal.copy_elements-c-requires
-copy_elements-c-requires c = let whole = after_asks _ _ _ _ _ _ c.requires.ready _ c.requires.roomy _ c.position-start.ensures _ _ _ (parts-kept (goal.at.copy_elements-c-requires c).After-write_parts-b) c.copy_elements-a.ensures.value
+copy_elements-c-requires c =
+    let moved-kept : length c.copy_moved.new.image ≡ length c.args.image.now =
+      c.copy_moved.ensures.image_len_unchanged in
+    let before-kept : length c.copy_elements-a.new.dst ≡ length c.args.image.now =
+      c.copy_elements-a.ensures.dst_len_unchanged ∙ moved-kept in
+    let parts-kept : length c.write_parts-b.new.image ≡ length c.args.image.now =
+      c.write_parts-b.ensures.image_len_unchanged.0 ∙ before-kept in
+    let whole = after_asks _ _ _ _ _ _ c.requires.ready _ c.requires.roomy _ c.position-start.ensures _ _ _ parts-kept c.copy_elements-a.ensures.value
     (parts_bytes _ _ _ _ _ _ c.requires.ready _ c.requires.roomy _ c.position-start.ensures _ c.entries_start-from.ensures.value _ _
     c.write_parts-b.ensures.parts_put.1) in record { width = whole.0; g_in_bounds = whole.1.0; left_in_bounds = whole.1.1 }
 
@@ -143,17 +145,34 @@ overflow_sub-end c =
 
 pub fill_zero-requires : goal.fill_zero-requires
 fill_zero-requires c =
+    let moved-kept : length c.copy_moved.new.image ≡ length c.args.image.now =
+      c.copy_moved.ensures.image_len_unchanged in
+    let before-kept : length c.copy_elements-a.new.dst ≡ length c.args.image.now =
+      c.copy_elements-a.ensures.dst_len_unchanged ∙ moved-kept in
+    let parts-kept : length c.write_parts-b.new.image ≡ length c.args.image.now =
+      c.write_parts-b.ensures.image_len_unchanged.0 ∙ before-kept in
+    let after_kept : length c.copy_elements-c.new.dst ≡ length c.args.image.now =
+      c.copy_elements-c.ensures.dst_len_unchanged ∙ parts-kept in
     omega (
       arith,
       index_end _ _ _ _ _ _ c.requires.ready _ c.requires.roomy _ c.position-start.ensures _ _ _ c.copy_elements-a.ensures.value
           (parts_bytes _ _ _ _ _ _ c.requires.ready _ c.requires.roomy _ c.position-start.ensures _ c.entries_start-from.ensures.value _ _
           c.write_parts-b.ensures.parts_put.1) c.copy_elements-c.ensures.value,
-      after_kept (goal.at.fill_zero-requires c).After-copy_elements-c,
+      after_kept,
       c.position-end.ensures,
     )
 
 pub shape_of-image : goal.shape_of-image
-shape_of-image c = c.fill_zero.ensures.dst_len_unchanged ∙ after_kept (goal.at.shape_of-image c).After-copy_elements-c
+shape_of-image c =
+    let moved-kept : length c.copy_moved.new.image ≡ length c.args.image.now =
+      c.copy_moved.ensures.image_len_unchanged in
+    let before-kept : length c.copy_elements-a.new.dst ≡ length c.args.image.now =
+      c.copy_elements-a.ensures.dst_len_unchanged ∙ moved-kept in
+    let parts-kept : length c.write_parts-b.new.image ≡ length c.args.image.now =
+      c.write_parts-b.ensures.image_len_unchanged.0 ∙ before-kept in
+    let after_kept : length c.copy_elements-c.new.dst ≡ length c.args.image.now =
+      c.copy_elements-c.ensures.dst_len_unchanged ∙ parts-kept in
+    c.fill_zero.ensures.dst_len_unchanged ∙ after_kept
 
 pub returns-clause-areas : goal.returns-clause-areas
 returns-clause-areas c = areas_written _ _ _ _ _ _ c.requires.ready _ c.requires.roomy _ c.position-start.ensures _ _ _ _ _ _ _ _ _ c.copy_moved.ensures.image_after
@@ -168,4 +187,13 @@ returns-clause-free_after c = parts_marks _ _ _ _ _ _ c.requires.ready _
     c.requires.roomy _ c.position-start.ensures _ c.entries_start-from.ensures.value _ c.write_parts-b.ensures.parts_put.2
 
 pub returns-clause-image_len_unchanged : goal.returns-clause-image_len_unchanged
-returns-clause-image_len_unchanged c = (c.fill_zero.ensures.dst_len_unchanged ∙ after_kept (goal.at.returns c).After-copy_elements-c, search rules)
+returns-clause-image_len_unchanged c =
+    let moved-kept : length c.copy_moved.new.image ≡ length c.args.image.now =
+      c.copy_moved.ensures.image_len_unchanged in
+    let before-kept : length c.copy_elements-a.new.dst ≡ length c.args.image.now =
+      c.copy_elements-a.ensures.dst_len_unchanged ∙ moved-kept in
+    let parts-kept : length c.write_parts-b.new.image ≡ length c.args.image.now =
+      c.write_parts-b.ensures.image_len_unchanged.0 ∙ before-kept in
+    let after_kept : length c.copy_elements-c.new.dst ≡ length c.args.image.now =
+      c.copy_elements-c.ensures.dst_len_unchanged ∙ parts-kept in
+    (c.fill_zero.ensures.dst_len_unchanged ∙ after_kept, search rules)

@@ -9,10 +9,6 @@ use Rattle.editor.proofs.Changes.{head_good, draft_front, draft_measured, draft_
 use borrow.Author.Rules.{rules}
 use Rattle.editor.proofs.delete_in.Goals as goal
 
--- it is a headword
-good : (c : goal.Else-not-headword_ok) → headword_ok c.args.headword.now ≡ true
-good c = head_good c.args.headword.now _ c.headword_ok.ensures c.if-not-headword_ok.false-raw
-
 pub returns-then-not-writable : goal.returns-then-not-writable
 returns-then-not-writable c = let r = delete_eleven c.args.image.now c.args.work.now c.args.v c.requires.accepted_image.0 c.requires.v_in_bounds.0
     c.requires.v_in_bounds.1 _ c.writable.ensures
@@ -35,11 +31,14 @@ pub slice_bounds-measure_change-end-2 : goal.slice_bounds-measure_change-end-2
 slice_bounds-measure_change-end-2 c = first_bytes _ _ (omega (arith, c.requires.v_in_bounds.0, c.position-len.ensures))
 
 pub measure_change-p-requires : goal.measure_change-p-requires
-measure_change-p-requires c = let p = c.requires in let there = c.position-len.ensures in record {
+measure_change-p-requires c =
+    let good : headword_ok c.args.headword.now ≡ true =
+      head_good c.args.headword.now _ c.headword_ok.ensures c.if-not-headword_ok.false-raw in
+    let p = c.requires in let there = c.position-len.ensures in record {
   accepted_image = front_accepted _ _ _ there p.0.0;
   image_len = (
     front_blocks c.args.image.now c.position-len.result (omega (arith, there, p.1.0)) (omega (arith, there, whole_blocks _ _ p.0.0)),
-    good (goal.at.measure_change-p-requires c).Else-not-headword_ok,
+    good,
     search rules,
   );
 }
@@ -59,11 +58,14 @@ overflow_sub-words c =
     delete_some _ c.args.v p.0.0 _ _ _ (draft_front _ c.args.v _ _ _ _ _ c.position-len.ensures c.measure_change-p.ensures) c.if-not-p.false
 
 pub change-r-requires : goal.change-r-requires
-change-r-requires c = let v = c.args.v in let p = c.requires in let k = draft_front _ c.args.v _ _ _ _ _ c.position-len.ensures c.measure_change-p.ensures in record {
+change-r-requires c =
+    let good : headword_ok c.args.headword.now ≡ true =
+      head_good c.args.headword.now _ c.headword_ok.ensures c.if-not-headword_ok.false-raw in
+    let v = c.args.v in let p = c.requires in let k = draft_front _ c.args.v _ _ _ _ _ c.position-len.ensures c.measure_change-p.ensures in record {
   drafted = draft_measured _ v _ _ _ _ k;
   p_in_bounds = (draft_inside _ v _ _ _ _ k p.1.0, p.1.1, p.1.2);
   free_marked = draft_marked _ v _ _ _ _ k _ p.0.1;
-  h_value = (good (goal.at.change-r-requires c).Else-not-headword_ok, search rules);
+  h_value = (good, search rules);
   plan_counted = delete_ready _ v p.0.0 _ _ _ k c.if-not-p.false _ refl;
 }
 

@@ -11,15 +11,6 @@ use Rattle.editor.proofs.Rows.{front_blocks, front_whole, delete_refused}
 use borrow.Author.Rules.{rules}
 use Rattle.editor.proofs.delete_tested.Goals as goal
 
--- the image is accepted
-accepted : (c : goal.In-Sound)
-    → AcceptedImage (take c.args.len c.args.image.now) c.in-Sound.v
-accepted c = search is_accepted
-
--- what is told of it is as long as it
-whole : (c : goal.In-Sound) → old_length c.in-Sound.v ≡ c.args.len
-whole c = let p = c.requires in front_whole _ _ p.2 p.1 _ (accepted c)
-
 pub slice_bounds-inspect-end-2 : goal.slice_bounds-inspect-end-2
 slice_bounds-inspect-end-2 c = search first_bytes
 
@@ -30,15 +21,30 @@ pub inspect-r-requires-clause-free_value : goal.inspect-r-requires-clause-free_v
 inspect-r-requires-clause-free_value c = marks_zero 2560
 
 pub delete_in-requires : goal.delete_in-requires
-delete_in-requires c = let e = whole (goal.at.delete_in-requires c).In-Sound in record {
-  accepted_image = (rw e (accepted (goal.at.delete_in-requires c).In-Sound), rw e (search is_marked));
+delete_in-requires c =
+    let accepted : AcceptedImage (take c.args.len c.args.image.now) c.in-Sound.v =
+      search is_accepted in
+    let whole : old_length c.in-Sound.v ≡ c.args.len =
+      let p = c.requires in front_whole _ _ p.2 p.1 _ accepted in
+    let e = whole in record {
+  accepted_image = (rw e accepted, rw e (search is_marked));
   v_in_bounds = (rw e c.requires.2, c.requires.3, search rules);
 }
 
 pub returns-in-Refused : goal.returns-in-Refused
-returns-in-Refused c = let p = c.requires in let r = delete_refused c.args.image.now c.args.len c.args.work.now p.0 p.1 p.2 p.3
+returns-in-Refused c =
+    let accepted : AcceptedImage (take c.args.len c.args.image.now) c.in-Sound.v =
+      search is_accepted in
+    let whole : old_length c.in-Sound.v ≡ c.args.len =
+      let p = c.requires in front_whole _ _ p.2 p.1 _ accepted in
+    let p = c.requires in let r = delete_refused c.args.image.now c.args.len c.args.work.now p.0 p.1 p.2 p.3
     c.in let whole = -Refused.k (search is_refused) c.args.headword.now in
     (r.0, (r.1, refl)) in record { result_value = whole.0; image_after = whole.1.0; work_len_unchanged = whole.1.1 }
 
 pub returns-in-Sound : goal.returns-in-Sound
-returns-in-Sound c = let whole = rw (← whole (goal.at.returns-in-Sound c).In-Sound) (search rules) in record { result_value = whole.0; image_after = whole.1.0; work_len_unchanged = whole.1.1 }
+returns-in-Sound c =
+    let accepted : AcceptedImage (take c.args.len c.args.image.now) c.in-Sound.v =
+      search is_accepted in
+    let whole : old_length c.in-Sound.v ≡ c.args.len =
+      let p = c.requires in front_whole _ _ p.2 p.1 _ accepted in
+    let whole = rw (← whole) (search rules) in record { result_value = whole.0; image_after = whole.1.0; work_len_unchanged = whole.1.1 }

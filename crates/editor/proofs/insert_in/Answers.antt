@@ -29,25 +29,6 @@ use Rattle.editor.proofs.Changes.{
 use borrow.Author.Rules.{rules}
 use Rattle.editor.proofs.insert_in.Goals as goal
 
--- the text is short
-text-few : (c : goal.After-body-4-1) → length c.args.text.now ≤ 3000
-text-few c =
-    let q = c.text_ok.ensures in
-    text_short c.args.text.now _ q c.if-not-text_ok.false
-
--- the body is the attribute and the text
-made : (c : goal.After-body-4-1) → take (1 + length c.args.text.now) c.copy.new.dst ≡ c.args.attribute ∷ c.args.text.now
-made c =
-    body_made c.args.attribute c.args.text.now _ _ _ (omega (arith, text-few c)) c.write_u8.ensures.dst_after
-    c.copy.ensures.dst_after
-
--- what measuring asks of the entry, and the change too
-entry_good : (c : goal.After-body-4-1) → (headword_ok c.args.headword.now ≡ true)
-    × (length (take (1 + length c.args.text.now) c.copy.new.dst) ≤ longest_body)
-entry_good c =
-    let q = c.headword_ok.ensures in
-    (head_good c.args.headword.now _ q c.if-not-headword_ok.false, body_few _ _ _ (made c) (text-few c))
-
 pub returns-then-not-writable : goal.returns-then-not-writable
 returns-then-not-writable c = let r = insert_eleven c.args.image.now c.args.work.now c.args.v c.requires.accepted_image.0 c.requires.v_in_bounds.0
     c.requires.v_in_bounds.1 _ c.writable.ensures
@@ -90,13 +71,25 @@ pub copy-requires : goal.copy-requires
 copy-requires c = (omega (arith, text_short c.args.text.now _ c.text_ok.ensures c.if-not-text_ok.false), omega arith)
 
 pub overflow_add-body : goal.overflow_add-body
-overflow_add-body c = omega (arith, text-few c)
+overflow_add-body c =
+    let text-few : length c.args.text.now ≤ 3000 =
+      let q = c.text_ok.ensures in
+    text_short c.args.text.now _ q c.if-not-text_ok.false in
+    omega (arith, text-few)
 
 pub slice_bounds-body-end : goal.slice_bounds-body-end
-slice_bounds-body-end c = omega (arith, text-few c)
+slice_bounds-body-end c =
+    let text-few : length c.args.text.now ≤ 3000 =
+      let q = c.text_ok.ensures in
+    text_short c.args.text.now _ q c.if-not-text_ok.false in
+    omega (arith, text-few)
 
 pub slice_bounds-new-end : goal.slice_bounds-new-end
-slice_bounds-new-end c = first_bytes _ _ (omega (arith, text-few c.before))
+slice_bounds-new-end c =
+    let text-few : length c.args.text.now ≤ 3000 =
+      let q = c.text_ok.ensures in
+    text_short c.args.text.now _ q c.if-not-text_ok.false in
+    first_bytes _ _ (omega (arith, text-few))
 
 pub slice_bounds-measure_change-end : goal.slice_bounds-measure_change-end
 slice_bounds-measure_change-end c = omega (arith, c.requires.v_in_bounds.0, c.position-len.ensures)
@@ -105,12 +98,23 @@ pub slice_bounds-measure_change-end-2 : goal.slice_bounds-measure_change-end-2
 slice_bounds-measure_change-end-2 c = first_bytes _ _ (omega (arith, c.requires.v_in_bounds.0, c.position-len.ensures))
 
 pub measure_change-p-requires : goal.measure_change-p-requires
-measure_change-p-requires c = let p = c.requires in let there = c.position-len.ensures in record {
+measure_change-p-requires c =
+    let text-few : length c.args.text.now ≤ 3000 =
+      let q = c.text_ok.ensures in
+    text_short c.args.text.now _ q c.if-not-text_ok.false in
+    let made : take (1 + length c.args.text.now) c.copy.new.dst ≡ c.args.attribute ∷ c.args.text.now =
+      body_made c.args.attribute c.args.text.now _ _ _ (omega (arith, text-few)) c.write_u8.ensures.dst_after
+    c.copy.ensures.dst_after in
+    let entry_good : (headword_ok c.args.headword.now ≡ true)
+    × (length (take (1 + length c.args.text.now) c.copy.new.dst) ≤ longest_body) =
+      let q = c.headword_ok.ensures in
+    (head_good c.args.headword.now _ q c.if-not-headword_ok.false, body_few _ _ _ made text-few) in
+    let p = c.requires in let there = c.position-len.ensures in record {
   accepted_image = front_accepted _ _ _ there p.0.0;
   image_len = (
         front_blocks c.args.image.now c.position-len.result (omega (arith, there, p.1.0)) (omega (arith, there, whole_blocks _ _ p.0.0)),
-        (entry_good (goal.at.measure_change-p-requires c).After-body-4-1).0,
-        (entry_good (goal.at.measure_change-p-requires c).After-body-4-1).1,
+        entry_good.0,
+        entry_good.1,
       );
 }
 
@@ -118,31 +122,56 @@ pub words_after-words-requires : goal.words_after-words-requires
 words_after-words-requires c = c.requires.v_in_bounds.3
 
 pub change-r-requires : goal.change-r-requires
-change-r-requires c = let a = c.args in let p = c.requires in let m = draft_front _ c.args.v _ _ _ _ _ c.position-len.ensures c.measure_change-p.ensures in let h = c.headword_ok.ensures in let t = c.text_ok.ensures in let w = c.words_after-words.ensures in let ready = insert_ready _ a.v p.0.0 a.headword.now _ h c.if-not-headword_ok.false
+change-r-requires c =
+    let text-few : length c.args.text.now ≤ 3000 =
+      let q = c.text_ok.ensures in
+    text_short c.args.text.now _ q c.if-not-text_ok.false in
+    let made : take (1 + length c.args.text.now) c.copy.new.dst ≡ c.args.attribute ∷ c.args.text.now =
+      body_made c.args.attribute c.args.text.now _ _ _ (omega (arith, text-few)) c.write_u8.ensures.dst_after
+    c.copy.ensures.dst_after in
+    let entry_good : (headword_ok c.args.headword.now ≡ true)
+    × (length (take (1 + length c.args.text.now) c.copy.new.dst) ≤ longest_body) =
+      let q = c.headword_ok.ensures in
+    (head_good c.args.headword.now _ q c.if-not-headword_ok.false, body_few _ _ _ made text-few) in
+    let a = c.args in let p = c.requires in let m = draft_front _ c.args.v _ _ _ _ _ c.position-len.ensures c.measure_change-p.ensures in let h = c.headword_ok.ensures in let t = c.text_ok.ensures in let w = c.words_after-words.ensures in let ready = insert_ready _ a.v p.0.0 a.headword.now _ h c.if-not-headword_ok.false
     a.text.now _ t c.if-not-text_ok.false
     a.attribute _ c.attribute_ok.ensures c.if-not-attribute_ok.false
-    _ (made (goal.at.change-r-requires c).After-body-4-1) _ m _ w in record {
+    _ made _ m _ w in record {
   drafted = draft_measured _ a.v _ _ _ _ m;
   p_in_bounds = (draft_inside _ a.v _ _ _ _ m p.1.0, p.1.1, p.1.2);
   free_marked = draft_marked _ a.v _ _ _ _ m _ p.0.1;
-  h_value = entry_good (goal.at.change-r-requires c).After-body-4-1;
+  h_value = entry_good;
   plan_counted = ready;
 }
 
 pub returns-in-Full : goal.returns-in-Full
-returns-in-Full c = let p = c.requires in let v = c.writable.ensures in let h = c.headword_ok.ensures in let t = c.text_ok.ensures in let m = draft_front _ c.args.v _ _ _ _ _ c.position-len.ensures c.measure_change-p.ensures in let q = c.change-r.ensures in let r = insert_fifteen c.args.image.now c.args.work.now c.args.v p.0.0 p.1.0 p.1.1 _ v
+returns-in-Full c =
+    let text-few : length c.args.text.now ≤ 3000 =
+      let q = c.text_ok.ensures in
+    text_short c.args.text.now _ q c.if-not-text_ok.false in
+    let made : take (1 + length c.args.text.now) c.copy.new.dst ≡ c.args.attribute ∷ c.args.text.now =
+      body_made c.args.attribute c.args.text.now _ _ _ (omega (arith, text-few)) c.write_u8.ensures.dst_after
+    c.copy.ensures.dst_after in
+    let p = c.requires in let v = c.writable.ensures in let h = c.headword_ok.ensures in let t = c.text_ok.ensures in let m = draft_front _ c.args.v _ _ _ _ _ c.position-len.ensures c.measure_change-p.ensures in let q = c.change-r.ensures in let r = insert_fifteen c.args.image.now c.args.work.now c.args.v p.0.0 p.1.0 p.1.1 _ v
     c.args.headword.now c.if-not-writable.false
     _ h c.if-not-headword_ok.false
     c.args.attribute c.args.text.now _ t c.if-not-text_ok.false
-    _ c.attribute_ok.ensures c.if-not-attribute_ok.false _ (made (goal.at.returns-in-Full c).After-body-4-1) _ m
+    _ c.attribute_ok.ensures c.if-not-attribute_ok.false _ made _ m
     c.change-r.result c.change-r.new.image q.0 (search rules) in
     (r.0, (r.1, q.1.1)) let whole =  in record { result_value = whole.0; image_after = whole.1.0; work_len_unchanged = whole.1.1 }
 
 pub returns-in-Done : goal.returns-in-Done
-returns-in-Done c = let p = c.requires in let v = c.writable.ensures in let h = c.headword_ok.ensures in let t = c.text_ok.ensures in let m = draft_front _ c.args.v _ _ _ _ _ c.position-len.ensures c.measure_change-p.ensures in let q = c.change-r.ensures in let r = insert_done c.args.image.now c.args.work.now c.args.v p.0.0 p.1.0 p.1.1 _ v
+returns-in-Done c =
+    let text-few : length c.args.text.now ≤ 3000 =
+      let q = c.text_ok.ensures in
+    text_short c.args.text.now _ q c.if-not-text_ok.false in
+    let made : take (1 + length c.args.text.now) c.copy.new.dst ≡ c.args.attribute ∷ c.args.text.now =
+      body_made c.args.attribute c.args.text.now _ _ _ (omega (arith, text-few)) c.write_u8.ensures.dst_after
+    c.copy.ensures.dst_after in
+    let p = c.requires in let v = c.writable.ensures in let h = c.headword_ok.ensures in let t = c.text_ok.ensures in let m = draft_front _ c.args.v _ _ _ _ _ c.position-len.ensures c.measure_change-p.ensures in let q = c.change-r.ensures in let r = insert_done c.args.image.now c.args.work.now c.args.v p.0.0 p.1.0 p.1.1 _ v
     c.args.headword.now c.if-not-writable.false
     _ h c.if-not-headword_ok.false
     c.args.attribute c.args.text.now _ t c.if-not-text_ok.false
-    _ c.attribute_ok.ensures c.if-not-attribute_ok.false _ (made (goal.at.returns-in-Done c).After-body-4-1) _ m
+    _ c.attribute_ok.ensures c.if-not-attribute_ok.false _ made _ m
     c.change-r.result c.change-r.new.image q.0 c.in-Done.l (search rules) in
     (r.0, (r.1, q.1.1)) let whole =  in record { result_value = whole.0; image_after = whole.1.0; work_len_unchanged = whole.1.1 }

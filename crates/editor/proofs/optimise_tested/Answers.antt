@@ -18,10 +18,6 @@ abbrev lent : goal.In-Sound → List ℕ
 lent c =
     take c.args.len c.args.image.now
 
--- it is accepted
-accepted : (c : goal.In-Sound) → AcceptedImage (lent c) c.in-Sound.v
-accepted c = search is_accepted
-
 pub slice_bounds-inspect-end-2 : goal.slice_bounds-inspect-end-2
 slice_bounds-inspect-end-2 c = search first_bytes
 
@@ -32,7 +28,10 @@ pub inspect-r-requires-clause-free_value : goal.inspect-r-requires-clause-free_v
 inspect-r-requires-clause-free_value c = marks_zero 1024
 
 pub returns-then-not-writable : goal.returns-then-not-writable
-returns-then-not-writable c = let r = optimise_eleven _ _ _ c.requires.0 c.requires.1 c.requires.2 c.requires.3 _ (accepted (goal.at.returns-then-not-writable c).In-Sound) _
+returns-then-not-writable c =
+    let accepted : AcceptedImage (lent c) c.in-Sound.v =
+      search is_accepted in
+    let r = optimise_eleven _ _ _ c.requires.0 c.requires.1 c.requires.2 c.requires.3 _ accepted _
     c.writable.ensures c.if-not-writable.true-raw in record {
       result_value = r.0;
       image_after = r.1;
@@ -43,8 +42,11 @@ pub slice_bounds-pack-end-in-Sound : goal.slice_bounds-pack-end-in-Sound
 slice_bounds-pack-end-in-Sound c = first_bytes c.copy.new.dst c.args.len (omega arith)
 
 pub pack-requires : goal.pack-requires
-pack-requires c = let copied = c.copy.ensures.dst_after in let p = c.requires in record {
-  accepted_image = copy_accepted _ _ p.2 _ _ copied _ (accepted (goal.at.pack-requires c).In-Sound);
+pack-requires c =
+    let accepted : AcceptedImage (lent c) c.in-Sound.v =
+      search is_accepted in
+    let copied = c.copy.ensures.dst_after in let p = c.requires in record {
+  accepted_image = copy_accepted _ _ p.2 _ _ copied _ accepted;
   len = (copy_blocks _ _ p.2 _ _ copied p.1, copy_inside _ _ p.2 _ _ copied, copy_front _ _ p.2 _ _ copied);
 }
 
@@ -54,8 +56,11 @@ returns-in-Refused c = let p = c.requires in let r = optimise_refused c.args.ima
     (r.0, (r.1, refl)) in record { result_value = whole.0; image_after = whole.1.0; work_len_unchanged = whole.1.1 }
 
 pub returns-else-not-writable : goal.returns-else-not-writable
-returns-else-not-writable c = let r = optimise_done c.args.image.now c.args.len c.args.work.now c.requires.0 c.requires.1 c.requires.2 c.requires.3
-    _ (accepted (goal.at.returns-else-not-writable c).In-Sound) _ c.writable.ensures c.if-not-writable.false
+returns-else-not-writable c =
+    let accepted : AcceptedImage (lent c) c.in-Sound.v =
+      search is_accepted in
+    let r = optimise_done c.args.image.now c.args.len c.args.work.now c.requires.0 c.requires.1 c.requires.2 c.requires.3
+    _ accepted _ c.writable.ensures c.if-not-writable.false
     _ _ (copy_is _ _ c.requires.2 _ _ c.copy.ensures.dst_after) _ c.pack.ensures.value c.pack.ensures.image_after in record {
       result_value = r.0;
       image_after = r.1;

@@ -8,26 +8,40 @@ use Rattle.encoder.proofs.Laws.{entry_measured, entry_stored}
 use borrow.Author.Rules.{rules}
 use Rattle.encoder.proofs.put_entry.Goals as goal
 
--- how many bytes the entry takes, by the front that was found
-size : (c : goal.After-shared_front-front)
-    → length (entry_bytes c.args.prev.now (record { headword = c.args.headword.now; body = c.args.body.now }))
-    ≡ 4 + (length c.args.headword.now - c.shared_front-front.result) + length c.args.body.now
-size c = sym (search entry_measured)
-
 pub write_u16-requires : goal.write_u16-requires
-write_u16-requires c = omega (arith, size c.before)
+write_u16-requires c =
+    let size : length (entry_bytes c.args.prev.now (record { headword = c.args.headword.now; body = c.args.body.now }))
+    ≡ 4 + (length c.args.headword.now - c.shared_front-front.result) + length c.args.body.now =
+      sym (search entry_measured) in
+    omega (arith, size)
 
 pub write_u8-requires : goal.write_u8-requires
-write_u8-requires c = omega (arith, size (goal.at.write_u8-requires c).After-shared_front-front)
+write_u8-requires c =
+    let size : length (entry_bytes c.args.prev.now (record { headword = c.args.headword.now; body = c.args.body.now }))
+    ≡ 4 + (length c.args.headword.now - c.shared_front-front.result) + length c.args.body.now =
+      sym (search entry_measured) in
+    omega (arith, size)
 
 pub copy-requires : goal.copy-requires
-copy-requires c = (omega (arith, size (goal.at.copy-requires c).After-shared_front-front), omega arith)
+copy-requires c =
+    let size : length (entry_bytes c.args.prev.now (record { headword = c.args.headword.now; body = c.args.body.now }))
+    ≡ 4 + (length c.args.headword.now - c.shared_front-front.result) + length c.args.body.now =
+      sym (search entry_measured) in
+    (omega (arith, size), omega arith)
 
 pub write_u8-requires-2 : goal.write_u8-requires-2
-write_u8-requires-2 c = omega (arith, size (goal.at.write_u8-requires-2 c).After-shared_front-front)
+write_u8-requires-2 c =
+    let size : length (entry_bytes c.args.prev.now (record { headword = c.args.headword.now; body = c.args.body.now }))
+    ≡ 4 + (length c.args.headword.now - c.shared_front-front.result) + length c.args.body.now =
+      sym (search entry_measured) in
+    omega (arith, size)
 
 pub copy-requires-2 : goal.copy-requires-2
-copy-requires-2 c = (omega (arith, size (goal.at.copy-requires-2 c).After-shared_front-front), omega arith)
+copy-requires-2 c =
+    let size : length (entry_bytes c.args.prev.now (record { headword = c.args.headword.now; body = c.args.body.now }))
+    ≡ 4 + (length c.args.headword.now - c.shared_front-front.result) + length c.args.body.now =
+      sym (search entry_measured) in
+    (omega (arith, size), omega arith)
 
 pub returns-clause-dst_after : goal.returns-clause-dst_after
 returns-clause-dst_after c = entry_stored _ _ _ _ _ _ _ _ _ _ _

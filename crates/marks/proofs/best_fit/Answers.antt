@@ -10,6 +10,7 @@ use Rattle.spec.specs.Blocks.{best_fit}
 use Rattle.marks.specs.Marks.{marks}
 use Rattle.marks.proofs.Fit.{found, fit_start, fit_take, fit_short, fit_long, fit_end, fit_exact, fit_less}
 use Rattle.marks.proofs.best_fit.Goals as goal
+use Rattle.marks.proofs.best_fit.Goals.{else-n-size-via-then-n-size+else-size-limit, else-n-size-via-else-n-size}
 
 pub loop-from-init : goal.loop-from-init
 loop-from-init c = (omega arith, omega arith, search (fit_start, rules))
@@ -24,7 +25,11 @@ pub loop-from-smaller : goal.loop-from-smaller
 loop-from-smaller c = search (fit_less, rules)
 
 pub loop-from-preserved : goal.loop-from-preserved
-loop-from-preserved c = (omega arith, omega arith, ⊎_elim (λ w. search (fit_short, fit_long, rules)) (λ w. search (fit_short, fit_long, rules)) c.else-n-size.branch)
+loop-from-preserved c = (omega arith, omega arith,
+    elim c.else-n-size.branch [
+      | else-n-size-via-then-n-size+else-size-limit w ↦ search (fit_long, rules)
+      | else-n-size-via-else-n-size w ↦ search (fit_short, rules)
+    ])
 
 pub returns-else-n-limit : goal.returns-else-n-limit
 returns-else-n-limit c = (search (fit_exact, leb-false, rules), omega arith)

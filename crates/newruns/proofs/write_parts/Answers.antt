@@ -19,46 +19,6 @@ use Rattle.newruns.specs.Laid.{laid, elements_long}
 use Rattle.newruns.proofs.Laws.{Writing, planning_under, planning_more, writing_start, writing_more, written_image, written_size, written_free, length_lent, run_room, element_fits, element_past, head_stands, part_stored}
 use Rattle.newruns.proofs.write_parts.Goals as goal
 
--- the part fits its slice
-part_filled : (c : goal.After-encode_part-p) → c.encode_part-p.result.used ≤ length c.encode_part-p.new.part
-part_filled c = omega (arith, c.encode_part-p.ensures.used_le_longest_entry.0, c.encode_part-p.ensures.used_le_longest_entry.1, c.loop-form.invariant.1)
-
--- its run fits the image
-run_fits : (c : goal.After-larger-last)
-    → block_position c.args.edit.form.extended c.args.to.index c.place-b.result
-    + 256 * c.run_blocks-size.result ≤ length c.loop-form.image
-run_fits c =
-    omega (
-      arith,
-      c.loop-form.invariant.3,
-      c.loop-form.invariant.6,
-      c.loop-form.invariant.7,
-      planning_under _ _ _ _ _ _ _ _ (planning_more _ _ _
-          c.encode_part-p.ensures.used_value c.if-p-eq0.false _ c.encode_part-p.ensures.cursor_after _ _ _ _ _ _ _
-          c.run_blocks-size.ensures.value c.place-b.ensures.value refl refl _ _ _ c.loop-form.invariant.9.planning),
-    )
-
--- from its first block's position on
-run-there : (c : goal.After-position-start)
-    → c.position-start.result + 256 * c.run_blocks-size.result ≤ length c.loop-form.image
-run-there c = omega (arith, run_fits (goal.at.After-position-start c).After-larger-last, c.position-start.ensures)
-
--- the image after it is as long
-run-kept : (c : goal.After-write_run) → length (put_mid c.position-start.result
-    (length c.loop-form.image - c.position-start.result) c.loop-form.image c.write_run.new.dst)
-    ≡ length c.loop-form.image
-run-kept c = length_lent _ _ c.loop-form.image c.write_run.new.dst refl (omega (arith, run-there (goal.at.After-write_run c).After-position-start)) c.write_run.ensures.dst_len_unchanged
-
--- the element's headword is that of the part
-part-head : (c : goal.After-head_length-end)
-    → take (3 + c.head_length-end.result - 3) (drop 3 c.encode_part-p.new.part)
-    ≡ first_headword (part_of c.args.edit.form.limit 0 []
-    (todo c.args.edit.form.order c.args.run.now c.loop-form.word
-    c.args.h.now c.args.body.now c.loop-form.cur))
-part-head c =
-    head_stands _ _ _ _ _ c.encode_part-p.ensures.used_value c.encode_part-p.ensures.part_after c.if-p-eq0.false
-    (todo_short _ _ _ _ _ _ c.loop-form.invariant.2 c.requires.h_value.0 c.requires.h_value.1) _ c.head_length-end.ensures.value (3 + c.head_length-end.result - 3) (omega arith)
-
 pub advance-cur-requires-clause-longest_headword_in_bounds : goal.advance-cur-requires-clause-longest_headword_in_bounds
 advance-cur-requires-clause-longest_headword_in_bounds c = (omega arith, omega arith, none_zero)
 
@@ -98,32 +58,108 @@ pub overflow_add-b : goal.overflow_add-b
 overflow_add-b c = omega (arith, planning_under _ _ _ _ _ _ _ _ c.loop-form.invariant.9.planning, c.loop-form.invariant.7, c.good.1.0)
 
 pub position-start-requires : goal.position-start-requires
-position-start-requires c = omega (arith, run_fits (goal.at.position-start-requires c).After-larger-last, c.good.1.0)
+position-start-requires c =
+    let run_fits : block_position c.args.edit.form.extended c.args.to.index c.place-b.result
+    + 256 * c.run_blocks-size.result ≤ length c.loop-form.image =
+      omega (
+      arith,
+      c.loop-form.invariant.3,
+      c.loop-form.invariant.6,
+      c.loop-form.invariant.7,
+      planning_under _ _ _ _ _ _ _ _ (planning_more _ _ _
+          c.encode_part-p.ensures.used_value c.if-p-eq0.false _ c.encode_part-p.ensures.cursor_after _ _ _ _ _ _ _
+          c.run_blocks-size.ensures.value c.place-b.ensures.value refl refl _ _ _ c.loop-form.invariant.9.planning),
+    ) in
+    omega (arith, run_fits, c.good.1.0)
 
 pub slice_bounds-write_run-count : goal.slice_bounds-write_run-count
-slice_bounds-write_run-count c = omega (arith, run-there (goal.at.slice_bounds-write_run-count c).After-position-start)
+slice_bounds-write_run-count c =
+    let run_fits : block_position c.args.edit.form.extended c.args.to.index c.place-b.result
+    + 256 * c.run_blocks-size.result ≤ length c.loop-form.image =
+      omega (
+      arith,
+      c.loop-form.invariant.3,
+      c.loop-form.invariant.6,
+      c.loop-form.invariant.7,
+      planning_under _ _ _ _ _ _ _ _ (planning_more _ _ _
+          c.encode_part-p.ensures.used_value c.if-p-eq0.false _ c.encode_part-p.ensures.cursor_after _ _ _ _ _ _ _
+          c.run_blocks-size.ensures.value c.place-b.ensures.value refl refl _ _ _ c.loop-form.invariant.9.planning),
+    ) in
+    let run-there : c.position-start.result + 256 * c.run_blocks-size.result ≤ length c.loop-form.image =
+      omega (arith, run_fits, c.position-start.ensures) in
+    omega (arith, run-there)
 
 pub slice_bounds-write_run-start : goal.slice_bounds-write_run-start
-slice_bounds-write_run-start c = omega (arith, run-there (goal.at.slice_bounds-write_run-start c).After-position-start)
+slice_bounds-write_run-start c =
+    let run_fits : block_position c.args.edit.form.extended c.args.to.index c.place-b.result
+    + 256 * c.run_blocks-size.result ≤ length c.loop-form.image =
+      omega (
+      arith,
+      c.loop-form.invariant.3,
+      c.loop-form.invariant.6,
+      c.loop-form.invariant.7,
+      planning_under _ _ _ _ _ _ _ _ (planning_more _ _ _
+          c.encode_part-p.ensures.used_value c.if-p-eq0.false _ c.encode_part-p.ensures.cursor_after _ _ _ _ _ _ _
+          c.run_blocks-size.ensures.value c.place-b.ensures.value refl refl _ _ _ c.loop-form.invariant.9.planning),
+    ) in
+    let run-there : c.position-start.result + 256 * c.run_blocks-size.result ≤ length c.loop-form.image =
+      omega (arith, run_fits, c.position-start.ensures) in
+    omega (arith, run-there)
 
 pub slice_bounds-write_run-end : goal.slice_bounds-write_run-end
-slice_bounds-write_run-end c = omega (arith, run-there (goal.at.slice_bounds-write_run-end c).After-position-start)
+slice_bounds-write_run-end c =
+    let run_fits : block_position c.args.edit.form.extended c.args.to.index c.place-b.result
+    + 256 * c.run_blocks-size.result ≤ length c.loop-form.image =
+      omega (
+      arith,
+      c.loop-form.invariant.3,
+      c.loop-form.invariant.6,
+      c.loop-form.invariant.7,
+      planning_under _ _ _ _ _ _ _ _ (planning_more _ _ _
+          c.encode_part-p.ensures.used_value c.if-p-eq0.false _ c.encode_part-p.ensures.cursor_after _ _ _ _ _ _ _
+          c.run_blocks-size.ensures.value c.place-b.ensures.value refl refl _ _ _ c.loop-form.invariant.9.planning),
+    ) in
+    let run-there : c.position-start.result + 256 * c.run_blocks-size.result ≤ length c.loop-form.image =
+      omega (arith, run_fits, c.position-start.ensures) in
+    omega (arith, run-there)
 
 pub slice_bounds-part-end : goal.slice_bounds-part-end
 slice_bounds-part-end c = omega (arith, c.encode_part-p.ensures.used_le_longest_entry.0)
 
 pub slice_bounds-write_run-end-in-loop-form : goal.slice_bounds-write_run-end-in-loop-form
-slice_bounds-write_run-end-in-loop-form c = first_bytes _ _ (part_filled (goal.at.slice_bounds-write_run-end-in-loop-form c).After-encode_part-p)
+slice_bounds-write_run-end-in-loop-form c =
+    let part_filled : c.encode_part-p.result.used ≤ length c.encode_part-p.new.part =
+      omega (arith, c.encode_part-p.ensures.used_le_longest_entry.0, c.encode_part-p.ensures.used_le_longest_entry.1, c.loop-form.invariant.1) in
+    first_bytes _ _ part_filled
 
 pub write_run-requires : goal.write_run-requires
-write_run-requires c = let n = c.run_blocks-size.ensures.value in let whole = run_room _ _ _ _ _ c.loop-form.image c.encode_part-p.ensures.used_le_longest_entry.0 (part_filled (goal.at.write_run-requires c).After-encode_part-p) n refl
-    (run-there (goal.at.write_run-requires c).After-position-start) in record { entries_len_bound = whole.0; entries_in_bounds = whole.1 }
+write_run-requires c =
+    let part_filled : c.encode_part-p.result.used ≤ length c.encode_part-p.new.part =
+      omega (arith, c.encode_part-p.ensures.used_le_longest_entry.0, c.encode_part-p.ensures.used_le_longest_entry.1, c.loop-form.invariant.1) in
+    let run_fits : block_position c.args.edit.form.extended c.args.to.index c.place-b.result
+    + 256 * c.run_blocks-size.result ≤ length c.loop-form.image =
+      omega (
+      arith,
+      c.loop-form.invariant.3,
+      c.loop-form.invariant.6,
+      c.loop-form.invariant.7,
+      planning_under _ _ _ _ _ _ _ _ (planning_more _ _ _
+          c.encode_part-p.ensures.used_value c.if-p-eq0.false _ c.encode_part-p.ensures.cursor_after _ _ _ _ _ _ _
+          c.run_blocks-size.ensures.value c.place-b.ensures.value refl refl _ _ _ c.loop-form.invariant.9.planning),
+    ) in
+    let run-there : c.position-start.result + 256 * c.run_blocks-size.result ≤ length c.loop-form.image =
+      omega (arith, run_fits, c.position-start.ensures) in
+    let n = c.run_blocks-size.ensures.value in let whole = run_room _ _ _ _ _ c.loop-form.image c.encode_part-p.ensures.used_le_longest_entry.0 part_filled n refl
+    run-there in record { entries_len_bound = whole.0; entries_in_bounds = whole.1 }
 
 pub slice_bounds-head_length-end : goal.slice_bounds-head_length-end
 slice_bounds-head_length-end c = sym (c.encode_part-p.ensures.used_le_longest_entry.1 ∙ c.loop-form.invariant.1)
 
 pub head_length-end-requires : goal.head_length-end-requires
-head_length-end-requires c = (omega (arith, used_some _ _ _ c.encode_part-p.ensures.used_value c.if-p-eq0.false), part_filled (goal.at.head_length-end-requires c).After-encode_part-p)
+head_length-end-requires c =
+    let part_filled : c.encode_part-p.result.used ≤ length c.encode_part-p.new.part =
+      omega (arith, c.encode_part-p.ensures.used_le_longest_entry.0, c.encode_part-p.ensures.used_le_longest_entry.1, c.loop-form.invariant.1) in
+    (omega (arith, used_some _ _ _ c.encode_part-p.ensures.used_value c.if-p-eq0.false), part_filled)
 
 pub overflow_sub-b : goal.overflow_sub-b
 overflow_sub-b c = omega (arith, c.place-b.ensures.lower_bound.0)
@@ -132,22 +168,70 @@ pub slice_bounds-put_element-end : goal.slice_bounds-put_element-end
 slice_bounds-put_element-end c = omega (arith, c.head_length-end.ensures.result_bound)
 
 pub put_element-out-requires : goal.put_element-out-requires
-put_element-out-requires c = (
+put_element-out-requires c =
+    let run_fits : block_position c.args.edit.form.extended c.args.to.index c.place-b.result
+    + 256 * c.run_blocks-size.result ≤ length c.loop-form.image =
+      omega (
+      arith,
+      c.loop-form.invariant.3,
+      c.loop-form.invariant.6,
+      c.loop-form.invariant.7,
+      planning_under _ _ _ _ _ _ _ _ (planning_more _ _ _
+          c.encode_part-p.ensures.used_value c.if-p-eq0.false _ c.encode_part-p.ensures.cursor_after _ _ _ _ _ _ _
+          c.run_blocks-size.ensures.value c.place-b.ensures.value refl refl _ _ _ c.loop-form.invariant.9.planning),
+    ) in
+    let run-there : c.position-start.result + 256 * c.run_blocks-size.result ≤ length c.loop-form.image =
+      omega (arith, run_fits, c.position-start.ensures) in
+    let run-kept : length (put_mid c.position-start.result
+    (length c.loop-form.image - c.position-start.result) c.loop-form.image c.write_run.new.dst)
+    ≡ length c.loop-form.image =
+      length_lent _ _ c.loop-form.image c.write_run.new.dst refl (omega (arith, run-there)) c.write_run.ensures.dst_len_unchanged in
+    let part-head : take (3 + c.head_length-end.result - 3) (drop 3 c.encode_part-p.new.part)
+    ≡ first_headword (part_of c.args.edit.form.limit 0 []
+    (todo c.args.edit.form.order c.args.run.now c.loop-form.word
+    c.args.h.now c.args.body.now c.loop-form.cur)) =
+      head_stands _ _ _ _ _ c.encode_part-p.ensures.used_value c.encode_part-p.ensures.part_after c.if-p-eq0.false
+    (todo_short _ _ _ _ _ _ c.loop-form.invariant.2 c.requires.h_value.0 c.requires.h_value.1) _ c.head_length-end.ensures.value (3 + c.head_length-end.result - 3) (omega arith) in
+    (
   c.requires.width.0,
   element_fits _ _ _ c.encode_part-p.ensures.used_value c.if-p-eq0.false _ c.encode_part-p.ensures.cursor_after _ _ _ _ _ _ _
-      c.run_blocks-size.ensures.value c.place-b.ensures.value refl refl _ _ _ _ _ _ _ _ _ _ _ _ (part-head (goal.at.put_element-out-requires c).After-head_length-end)
-      c.loop-form.invariant.9 c.loop-form.invariant.8 c.loop-form.invariant.3 (run-kept (goal.at.put_element-out-requires c).After-write_run),
+      c.run_blocks-size.ensures.value c.place-b.ensures.value refl refl _ _ _ _ _ _ _ _ _ _ _ _ part-head
+      c.loop-form.invariant.9 c.loop-form.invariant.8 c.loop-form.invariant.3 run-kept,
 )
 
 pub loop-form-smaller : goal.loop-form-smaller
 loop-form-smaller c = fewer_left _ _ _ c.encode_part-p.ensures.used_value c.if-p-eq0.false _ c.encode_part-p.ensures.cursor_after
 
 pub loop-form-preserved : goal.loop-form-preserved
-loop-form-preserved c = (
+loop-form-preserved c =
+    let run_fits : block_position c.args.edit.form.extended c.args.to.index c.place-b.result
+    + 256 * c.run_blocks-size.result ≤ length c.loop-form.image =
+      omega (
+      arith,
+      c.loop-form.invariant.3,
+      c.loop-form.invariant.6,
+      c.loop-form.invariant.7,
+      planning_under _ _ _ _ _ _ _ _ (planning_more _ _ _
+          c.encode_part-p.ensures.used_value c.if-p-eq0.false _ c.encode_part-p.ensures.cursor_after _ _ _ _ _ _ _
+          c.run_blocks-size.ensures.value c.place-b.ensures.value refl refl _ _ _ c.loop-form.invariant.9.planning),
+    ) in
+    let run-there : c.position-start.result + 256 * c.run_blocks-size.result ≤ length c.loop-form.image =
+      omega (arith, run_fits, c.position-start.ensures) in
+    let run-kept : length (put_mid c.position-start.result
+    (length c.loop-form.image - c.position-start.result) c.loop-form.image c.write_run.new.dst)
+    ≡ length c.loop-form.image =
+      length_lent _ _ c.loop-form.image c.write_run.new.dst refl (omega (arith, run-there)) c.write_run.ensures.dst_len_unchanged in
+    let part-head : take (3 + c.head_length-end.result - 3) (drop 3 c.encode_part-p.new.part)
+    ≡ first_headword (part_of c.args.edit.form.limit 0 []
+    (todo c.args.edit.form.order c.args.run.now c.loop-form.word
+    c.args.h.now c.args.body.now c.loop-form.cur)) =
+      head_stands _ _ _ _ _ c.encode_part-p.ensures.used_value c.encode_part-p.ensures.part_after c.if-p-eq0.false
+    (todo_short _ _ _ _ _ _ c.loop-form.invariant.2 c.requires.h_value.0 c.requires.h_value.1) _ c.head_length-end.ensures.value (3 + c.head_length-end.result - 3) (omega arith) in
+    (
   c.encode_part-p.ensures.used_le_longest_entry.2 ∙ c.loop-form.invariant.0,
   c.encode_part-p.ensures.used_le_longest_entry.1 ∙ c.loop-form.invariant.1,
   c.encode_part-p.ensures.cursor_ok_2,
-  c.put_element-out.ensures.dst_len_unchanged ∙ run-kept (goal.at.loop-form-preserved c).After-write_run ∙ c.loop-form.invariant.3,
+  c.put_element-out.ensures.dst_len_unchanged ∙ run-kept ∙ c.loop-form.invariant.3,
   c.place-b.ensures.free_len_unchanged ∙ c.loop-form.invariant.4,
   omega (arith, c.larger-last.ensures, c.loop-form.invariant.5),
   c.loop-form.invariant.6,
@@ -157,8 +241,8 @@ loop-form-preserved c = (
       c.run_blocks-size.ensures.value c.place-b.ensures.value c.larger-last.ensures c.place-b.ensures.free_after _ _ _ _
       _ _ _ _ _ _ _ _ _ c.position-start.ensures
       (part_stored _ _ _ _ _ c.encode_part-p.ensures.used_value c.encode_part-p.ensures.part_after _ _ _ _ _ _ _ _ _ _
-      c.run_blocks-size.ensures.value refl (run-there (goal.at.loop-form-preserved c).After-position-start) c.write_run.ensures.dst_after (part-head (goal.at.loop-form-preserved c).After-head_length-end)
+      c.run_blocks-size.ensures.value refl run-there c.write_run.ensures.dst_after part-head
       c.put_element-out.ensures.dst_after)
-      (element_past _ _ _ _ _ _ (part-head (goal.at.loop-form-preserved c).After-head_length-end) c.put_element-out.ensures.value)
+      (element_past _ _ _ _ _ _ part-head c.put_element-out.ensures.value)
       c.loop-form.invariant.9,
 )

@@ -18,20 +18,6 @@ use Rattle.pack.proofs.pack.Goals as goal
 bytes : (c : goal.After-shared_slice_known-1) (k : ℕ) → get_or c.args.old.now k 0 < 256
 bytes c k = omega (arith, c.type_inv.old k)
 
--- the new index is no longer than the old one
-fewer : (c : goal.After-need-m) → c.need-m.result ≤ c.args.v.n
-fewer c =
-    index_fewer _ _ c.requires.accepted_image c.requires.len.0 _ c.position-start.ensures _ c.nindex2-elements.ensures.value _ c.need-m.ensures
-    (bytes (goal.at.After-need-m c).After-shared_slice_known-1)
-
--- nor has it more data blocks
-few : (c : goal.After-nblock2-blocks) → c.nblock2-blocks.result ≤ c.args.v.d
-few c = blocks_fewer _ _ c.requires.accepted_image c.requires.len.0 (bytes (goal.at.After-nblock2-blocks c).After-shared_slice_known-1) _ c.nblock2-blocks.ensures.value
-
--- the old image's bytes behind its header are those of its blocks
-long : (c : goal.Start) → block_position c.args.v.form.extended c.args.v.n c.args.v.d ≡ length c.args.old.now
-long c = old_whole _ _ c.requires.accepted_image c.requires.len.0
-
 -- the form of the old image, and its elements
 abbrev old-form : goal.After-need-m → Form
 old-form c = c.args.v.form
@@ -39,70 +25,139 @@ old-form c = c.args.v.form
 abbrev old_elements : goal.After-need-m → List Element
 old_elements c = elements_at (old-form c).width (index_cut (old-form c) c.args.old.now c.position-start.result) 0 c.nindex2-elements.result
 
--- its elements fit in the new one
-holds : (c : goal.After-need-m)
-    → index_start (old-form c) + length (elements_bytes (old-form c).width (old_elements c)) ≤ area_start (old-form c) c.need-m.result
-holds c =
-    index_holds _ _ c.requires.accepted_image c.requires.len.0 _ c.position-start.ensures _ c.nindex2-elements.ensures.value _ c.need-m.ensures
-
--- the old image's length can be counted
-countable : (c : goal.After-nindex2-elements) → length c.args.old.now ≤ 18_446_744_073_709_551_615
-countable c = omega arith
-
--- the slice still has room for the old image
-room : (c : goal.After-write_counts) → length c.args.old.now ≤ length c.write_counts.new.s
-room c =
-    let kept = c.write_counts.ensures.s_len_unchanged ∙ c.fill_zero.ensures.dst_len_unchanged ∙ c.write_runs-out.ensures.image_len_unchanged in
-    omega (arith, kept, c.requires.len.1)
-
 pub position-start-requires : goal.position-start-requires
-position-start-requires c = omega (arith, long (goal.at.position-start-requires c).Start)
+position-start-requires c =
+    let long : block_position c.args.v.form.extended c.args.v.n c.args.v.d ≡ length c.args.old.now =
+      old_whole _ _ c.requires.accepted_image c.requires.len.0 in
+    omega (arith, long)
 
 pub slice_bounds-index-end : goal.slice_bounds-index-end
-slice_bounds-index-end c = omega (arith, long (goal.at.slice_bounds-index-end c).Start)
+slice_bounds-index-end c =
+    let long : block_position c.args.v.form.extended c.args.v.n c.args.v.d ≡ length c.args.old.now =
+      old_whole _ _ c.requires.accepted_image c.requires.len.0 in
+    omega (arith, long)
 
 pub nindex2-elements-requires : goal.nindex2-elements-requires
-nindex2-elements-requires c = omega (arith, long (goal.at.nindex2-elements-requires c).Start)
+nindex2-elements-requires c =
+    let long : block_position c.args.v.form.extended c.args.v.n c.args.v.d ≡ length c.args.old.now =
+      old_whole _ _ c.requires.accepted_image c.requires.len.0 in
+    omega (arith, long)
 
 pub nblock2-blocks-requires : goal.nblock2-blocks-requires
-nblock2-blocks-requires c = omega (arith, long (goal.at.nblock2-blocks-requires c).Start)
+nblock2-blocks-requires c =
+    let long : block_position c.args.v.form.extended c.args.v.n c.args.v.d ≡ length c.args.old.now =
+      old_whole _ _ c.requires.accepted_image c.requires.len.0 in
+    omega (arith, long)
 
 pub need-m-requires : goal.need-m-requires
 need-m-requires c = end_short _ _ c.requires.accepted_image c.requires.len.0
 
 pub position-data-requires : goal.position-data-requires
-position-data-requires c = omega (arith, fewer (goal.at.position-data-requires c).After-need-m, long (goal.at.position-data-requires c).Start)
+position-data-requires c =
+    let fewer : c.need-m.result ≤ c.args.v.n =
+      index_fewer _ _ c.requires.accepted_image c.requires.len.0 _ c.position-start.ensures _ c.nindex2-elements.ensures.value _ c.need-m.ensures
+    (bytes (goal.at.After-need-m c).After-shared_slice_known-1) in
+    let long : block_position c.args.v.form.extended c.args.v.n c.args.v.d ≡ length c.args.old.now =
+      old_whole _ _ c.requires.accepted_image c.requires.len.0 in
+    omega (arith, fewer, long)
 
 pub slice_bounds-write_runs-count : goal.slice_bounds-write_runs-count
-slice_bounds-write_runs-count c = omega (arith, long (goal.at.slice_bounds-write_runs-count c).Start)
+slice_bounds-write_runs-count c =
+    let long : block_position c.args.v.form.extended c.args.v.n c.args.v.d ≡ length c.args.old.now =
+      old_whole _ _ c.requires.accepted_image c.requires.len.0 in
+    omega (arith, long)
 
 pub slice_bounds-write_runs-start : goal.slice_bounds-write_runs-start
-slice_bounds-write_runs-start c = omega (arith, long (goal.at.slice_bounds-write_runs-start c).Start)
+slice_bounds-write_runs-start c =
+    let long : block_position c.args.v.form.extended c.args.v.n c.args.v.d ≡ length c.args.old.now =
+      old_whole _ _ c.requires.accepted_image c.requires.len.0 in
+    omega (arith, long)
 
 pub write_runs-out-requires : goal.write_runs-out-requires
-write_runs-out-requires c = let a = c.requires.accepted_image in let in_blocks = c.requires.len.0 in let here = c.position-start.ensures in let number = c.nindex2-elements.ensures.value in let g = blocks_counted _ _ a in_blocks _ c.nblock2-blocks.ensures.value in let less = fewer (goal.at.write_runs-out-requires c).After-need-m in record {
+write_runs-out-requires c =
+    let fewer : c.need-m.result ≤ c.args.v.n =
+      index_fewer _ _ c.requires.accepted_image c.requires.len.0 _ c.position-start.ensures _ c.nindex2-elements.ensures.value _ c.need-m.ensures
+    (bytes (goal.at.After-need-m c).After-shared_slice_known-1) in
+    let few : c.nblock2-blocks.result ≤ c.args.v.d =
+      blocks_fewer _ _ c.requires.accepted_image c.requires.len.0 (bytes (goal.at.After-nblock2-blocks c).After-shared_slice_known-1) _ c.nblock2-blocks.ensures.value in
+    let long : block_position c.args.v.form.extended c.args.v.n c.args.v.d ≡ length c.args.old.now =
+      old_whole _ _ c.requires.accepted_image c.requires.len.0 in
+    let holds : index_start (old-form c) + length (elements_bytes (old-form c).width (old_elements c)) ≤ area_start (old-form c) c.need-m.result =
+      index_holds _ _ c.requires.accepted_image c.requires.len.0 _ c.position-start.ensures _ c.nindex2-elements.ensures.value _ c.need-m.ensures in
+    let a = c.requires.accepted_image in let in_blocks = c.requires.len.0 in let here = c.position-start.ensures in let number = c.nindex2-elements.ensures.value in let g = blocks_counted _ _ a in_blocks _ c.nblock2-blocks.ensures.value in let less = fewer in record {
   width = (accepted_width _ _ a, accepted_inside _ _ a _ here _ number);
   d_value = (accepted_area _ _ a _ here in_blocks, omega (arith, accepted_blocks _ _ a));
-  runs_fit = runs_fit _ _ a in_blocks _ here _ number _ _ (omega (arith, holds (goal.at.write_runs-out-requires c).After-need-m, less)) (omega (arith, g, few (goal.at.write_runs-out-requires c).After-nblock2-blocks, less, long (goal.at.write_runs-out-requires c).Start));
+  runs_fit = runs_fit _ _ a in_blocks _ here _ number _ _ (omega (arith, holds, less)) (omega (arith, g, few, less, long));
 }
 
 pub overflow_sub-data : goal.overflow_sub-data
-overflow_sub-data c = omega (arith, holds (goal.at.overflow_sub-data c).After-need-m, fewer (goal.at.overflow_sub-data c).After-need-m, long (goal.at.overflow_sub-data c).Start)
+overflow_sub-data c =
+    let fewer : c.need-m.result ≤ c.args.v.n =
+      index_fewer _ _ c.requires.accepted_image c.requires.len.0 _ c.position-start.ensures _ c.nindex2-elements.ensures.value _ c.need-m.ensures
+    (bytes (goal.at.After-need-m c).After-shared_slice_known-1) in
+    let long : block_position c.args.v.form.extended c.args.v.n c.args.v.d ≡ length c.args.old.now =
+      old_whole _ _ c.requires.accepted_image c.requires.len.0 in
+    let holds : index_start (old-form c) + length (elements_bytes (old-form c).width (old_elements c)) ≤ area_start (old-form c) c.need-m.result =
+      index_holds _ _ c.requires.accepted_image c.requires.len.0 _ c.position-start.ensures _ c.nindex2-elements.ensures.value _ c.need-m.ensures in
+    omega (arith, holds, fewer, long)
 
 pub fill_zero-requires : goal.fill_zero-requires
-fill_zero-requires c = omega (arith, holds (goal.at.fill_zero-requires c).After-need-m, fewer (goal.at.fill_zero-requires c).After-need-m, long (goal.at.fill_zero-requires c).Start)
+fill_zero-requires c =
+    let fewer : c.need-m.result ≤ c.args.v.n =
+      index_fewer _ _ c.requires.accepted_image c.requires.len.0 _ c.position-start.ensures _ c.nindex2-elements.ensures.value _ c.need-m.ensures
+    (bytes (goal.at.After-need-m c).After-shared_slice_known-1) in
+    let long : block_position c.args.v.form.extended c.args.v.n c.args.v.d ≡ length c.args.old.now =
+      old_whole _ _ c.requires.accepted_image c.requires.len.0 in
+    let holds : index_start (old-form c) + length (elements_bytes (old-form c).width (old_elements c)) ≤ area_start (old-form c) c.need-m.result =
+      index_holds _ _ c.requires.accepted_image c.requires.len.0 _ c.position-start.ensures _ c.nindex2-elements.ensures.value _ c.need-m.ensures in
+    omega (arith, holds, fewer, long)
 
 pub write_counts-requires : goal.write_counts-requires
-write_counts-requires c = omega (arith, long (goal.at.write_counts-requires c).Start)
+write_counts-requires c =
+    let long : block_position c.args.v.form.extended c.args.v.n c.args.v.d ≡ length c.args.old.now =
+      old_whole _ _ c.requires.accepted_image c.requires.len.0 in
+    omega (arith, long)
 
 pub position-len-requires : goal.position-len-requires
-position-len-requires c = omega (arith, few (goal.at.position-len-requires c).After-nblock2-blocks, fewer (goal.at.position-len-requires c).After-need-m, long (goal.at.position-len-requires c).Start, countable (goal.at.position-len-requires c).After-nindex2-elements)
+position-len-requires c =
+    let fewer : c.need-m.result ≤ c.args.v.n =
+      index_fewer _ _ c.requires.accepted_image c.requires.len.0 _ c.position-start.ensures _ c.nindex2-elements.ensures.value _ c.need-m.ensures
+    (bytes (goal.at.After-need-m c).After-shared_slice_known-1) in
+    let few : c.nblock2-blocks.result ≤ c.args.v.d =
+      blocks_fewer _ _ c.requires.accepted_image c.requires.len.0 (bytes (goal.at.After-nblock2-blocks c).After-shared_slice_known-1) _ c.nblock2-blocks.ensures.value in
+    let long : block_position c.args.v.form.extended c.args.v.n c.args.v.d ≡ length c.args.old.now =
+      old_whole _ _ c.requires.accepted_image c.requires.len.0 in
+    let countable : length c.args.old.now ≤ 18_446_744_073_709_551_615 =
+      omega arith in
+    omega (arith, few, fewer, long, countable)
 
 pub overflow_sub-old : goal.overflow_sub-old
-overflow_sub-old c = omega (arith, few (goal.at.overflow_sub-old c).After-nblock2-blocks, fewer (goal.at.overflow_sub-old c).After-need-m, long (goal.at.overflow_sub-old c).Start, room (goal.at.overflow_sub-old c).After-write_counts)
+overflow_sub-old c =
+    let fewer : c.need-m.result ≤ c.args.v.n =
+      index_fewer _ _ c.requires.accepted_image c.requires.len.0 _ c.position-start.ensures _ c.nindex2-elements.ensures.value _ c.need-m.ensures
+    (bytes (goal.at.After-need-m c).After-shared_slice_known-1) in
+    let few : c.nblock2-blocks.result ≤ c.args.v.d =
+      blocks_fewer _ _ c.requires.accepted_image c.requires.len.0 (bytes (goal.at.After-nblock2-blocks c).After-shared_slice_known-1) _ c.nblock2-blocks.ensures.value in
+    let long : block_position c.args.v.form.extended c.args.v.n c.args.v.d ≡ length c.args.old.now =
+      old_whole _ _ c.requires.accepted_image c.requires.len.0 in
+    let room : length c.args.old.now ≤ length c.write_counts.new.s =
+      let kept = c.write_counts.ensures.s_len_unchanged ∙ c.fill_zero.ensures.dst_len_unchanged ∙ c.write_runs-out.ensures.image_len_unchanged in
+    omega (arith, kept, c.requires.len.1) in
+    omega (arith, few, fewer, long, room)
 
 pub fill_zero-requires-2 : goal.fill_zero-requires-2
-fill_zero-requires-2 c = omega (arith, few (goal.at.fill_zero-requires-2 c).After-nblock2-blocks, fewer (goal.at.fill_zero-requires-2 c).After-need-m, long (goal.at.fill_zero-requires-2 c).Start, room (goal.at.fill_zero-requires-2 c).After-write_counts)
+fill_zero-requires-2 c =
+    let fewer : c.need-m.result ≤ c.args.v.n =
+      index_fewer _ _ c.requires.accepted_image c.requires.len.0 _ c.position-start.ensures _ c.nindex2-elements.ensures.value _ c.need-m.ensures
+    (bytes (goal.at.After-need-m c).After-shared_slice_known-1) in
+    let few : c.nblock2-blocks.result ≤ c.args.v.d =
+      blocks_fewer _ _ c.requires.accepted_image c.requires.len.0 (bytes (goal.at.After-nblock2-blocks c).After-shared_slice_known-1) _ c.nblock2-blocks.ensures.value in
+    let long : block_position c.args.v.form.extended c.args.v.n c.args.v.d ≡ length c.args.old.now =
+      old_whole _ _ c.requires.accepted_image c.requires.len.0 in
+    let room : length c.args.old.now ≤ length c.write_counts.new.s =
+      let kept = c.write_counts.ensures.s_len_unchanged ∙ c.fill_zero.ensures.dst_len_unchanged ∙ c.write_runs-out.ensures.image_len_unchanged in
+    omega (arith, kept, c.requires.len.1) in
+    omega (arith, few, fewer, long, room)
 
 pub returns : goal.returns
 returns c = let a = c.requires.accepted_image in let in_blocks = c.requires.len.0 in let here = c.position-start.ensures in let number = c.nindex2-elements.ensures.value in let counted = c.nblock2-blocks.ensures.value in let needed = c.need-m.ensures in let written = c.write_runs-out.ensures in let zeroed = c.fill_zero.ensures in let headed = c.write_counts.ensures in let last = c.fill_zero-2.ensures in let ends = c.position-len.ensures in let small = bytes (goal.at.returns c).After-shared_slice_known-1 in record {

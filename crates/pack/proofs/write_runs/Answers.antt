@@ -12,24 +12,6 @@ use Rattle.index.proofs.Laws.{here_next}
 use native.Mathlib.Omega.{arith}
 use Rattle.pack.proofs.write_runs.Goals as goal
 
--- the run here lies in the old area
-inside-here : (c : goal.In-Blocks-2) → c.read_number-from.result + c.in-Blocks.blocks ≤ c.args.d
-inside-here c =
-    run_inside _ _ _ _ _ _ _ _ _ _ _ _ _ _ _ (c.loop-left.invariant.4 _ c.requires.runs_fit) c.loop-left-test.true c.loop-left.invariant.3 c.requires.d_value.0 _
-    c.element_end-end.ensures.value _ c.read_number-from.ensures.value _ c.run_size-size.ensures.value _ c.in-Blocks.is
-
--- and fits where it goes
-fits-here : (c : goal.In-Blocks-2)
-    → block_position c.args.form.extended c.args.m c.loop-left.b + 256 * c.in-Blocks.blocks
-    ≤ length c.loop-left.image
-fits-here c =
-    run_fits _ _ _ _ _ _ _ _ _ _ _ _ _ _ _ (c.loop-left.invariant.4 _ c.requires.runs_fit) c.loop-left-test.true c.loop-left.invariant.3 c.requires.d_value.0 _
-    c.element_end-end.ensures.value _ c.read_number-from.ensures.value _ c.run_size-size.ensures.value _ c.in-Blocks.is
-
--- so the block behind it can be counted
-counted-here : (c : goal.In-Blocks-2) → c.loop-left.b + c.in-Blocks.blocks ≤ 18_446_744_073_709_551_615
-counted-here c = omega (arith, fits-here c)
-
 pub overflow_add-front : goal.overflow_add-front
 overflow_add-front c = search write-laws
 
@@ -61,10 +43,23 @@ pub overflow_mul-from : goal.overflow_mul-from
 overflow_mul-from c = search write-laws
 
 pub overflow_mul-blocks : goal.overflow_mul-blocks
-overflow_mul-blocks c = omega (arith, fits-here (goal.at.overflow_mul-blocks c).In-Blocks-2)
+overflow_mul-blocks c =
+    let fits-here : block_position c.args.form.extended c.args.m c.loop-left.b + 256 * c.in-Blocks.blocks
+    ≤ length c.loop-left.image =
+      run_fits _ _ _ _ _ _ _ _ _ _ _ _ _ _ _ (c.loop-left.invariant.4 _ c.requires.runs_fit) c.loop-left-test.true c.loop-left.invariant.3 c.requires.d_value.0 _
+    c.element_end-end.ensures.value _ c.read_number-from.ensures.value _ c.run_size-size.ensures.value _ c.in-Blocks.is in
+    omega (arith, fits-here)
 
 pub copy-requires : goal.copy-requires
-copy-requires c = (omega (arith, fits-here (goal.at.copy-requires c).In-Blocks-2, c.position-to.ensures), omega (arith, inside-here (goal.at.copy-requires c).In-Blocks-2))
+copy-requires c =
+    let inside-here : c.read_number-from.result + c.in-Blocks.blocks ≤ c.args.d =
+      run_inside _ _ _ _ _ _ _ _ _ _ _ _ _ _ _ (c.loop-left.invariant.4 _ c.requires.runs_fit) c.loop-left-test.true c.loop-left.invariant.3 c.requires.d_value.0 _
+    c.element_end-end.ensures.value _ c.read_number-from.ensures.value _ c.run_size-size.ensures.value _ c.in-Blocks.is in
+    let fits-here : block_position c.args.form.extended c.args.m c.loop-left.b + 256 * c.in-Blocks.blocks
+    ≤ length c.loop-left.image =
+      run_fits _ _ _ _ _ _ _ _ _ _ _ _ _ _ _ (c.loop-left.invariant.4 _ c.requires.runs_fit) c.loop-left-test.true c.loop-left.invariant.3 c.requires.d_value.0 _
+    c.element_end-end.ensures.value _ c.read_number-from.ensures.value _ c.run_size-size.ensures.value _ c.in-Blocks.is in
+    (omega (arith, fits-here, c.position-to.ensures), omega (arith, inside-here))
 
 pub overflow_add-at : goal.overflow_add-at
 overflow_add-at c = search write-laws
@@ -89,7 +84,14 @@ put_element-out-requires c = (
 )
 
 pub overflow_add-b : goal.overflow_add-b
-overflow_add-b c = omega (arith, counted-here (goal.at.overflow_add-b c).In-Blocks-2)
+overflow_add-b c =
+    let fits-here : block_position c.args.form.extended c.args.m c.loop-left.b + 256 * c.in-Blocks.blocks
+    ≤ length c.loop-left.image =
+      run_fits _ _ _ _ _ _ _ _ _ _ _ _ _ _ _ (c.loop-left.invariant.4 _ c.requires.runs_fit) c.loop-left-test.true c.loop-left.invariant.3 c.requires.d_value.0 _
+    c.element_end-end.ensures.value _ c.read_number-from.ensures.value _ c.run_size-size.ensures.value _ c.in-Blocks.is in
+    let counted-here : c.loop-left.b + c.in-Blocks.blocks ≤ 18_446_744_073_709_551_615 =
+      omega (arith, fits-here) in
+    omega (arith, counted-here)
 
 pub overflow_sub-left : goal.overflow_sub-left
 overflow_sub-left c = search write-laws
@@ -98,10 +100,15 @@ pub loop-left-smaller : goal.loop-left-smaller
 loop-left-smaller c = search write-laws
 
 pub loop-left-preserved : goal.loop-left-preserved
-loop-left-preserved c = (
+loop-left-preserved c =
+    let fits-here : block_position c.args.form.extended c.args.m c.loop-left.b + 256 * c.in-Blocks.blocks
+    ≤ length c.loop-left.image =
+      run_fits _ _ _ _ _ _ _ _ _ _ _ _ _ _ _ (c.loop-left.invariant.4 _ c.requires.runs_fit) c.loop-left-test.true c.loop-left.invariant.3 c.requires.d_value.0 _
+    c.element_end-end.ensures.value _ c.read_number-from.ensures.value _ c.run_size-size.ensures.value _ c.in-Blocks.is in
+    (
   search write-laws,
   search write-laws,
-  omega (arith, fits-here (goal.at.loop-left-preserved c).In-Blocks-2),
+  omega (arith, fits-here),
   here_next _ _ _ _ _ c.loop-left.invariant.3 c.element_end-end.ensures.value c.loop-left-test.true,
   λ order fit.
       underway_turn _ _ _ _ _ _ _ _ _ _ _ _ _ _ _ (c.loop-left.invariant.4 order fit) c.loop-left-test.true c.loop-left.invariant.3 c.requires.d_value.0 _

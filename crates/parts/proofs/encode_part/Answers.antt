@@ -28,13 +28,6 @@ use Rattle.parts.proofs.MetLaws.{met_start, met_skip, met_old, met_new, met_done
 use borrow.Author.Rules.{rules}
 use Rattle.parts.proofs.encode_part.Goals as goal
 
--- an old entry has a headword and a body
-old_some : (c : goal.In-Old) → 1 ≤ c.loop-found.cur.length
-old_some c = old_length _ _ _ _ _ _ c.next_turn-t.ensures c.in-Old.is
-
-old-body : (c : goal.In-Old) → c.loop-found.cur.zero + 2 ≤ c.loop-found.cur.next
-old-body c = c.loop-found.invariant.5.body (old_some c)
-
 pub loop-found-init : goal.loop-found-init
 loop-found-init c = (omega arith, omega arith, refl, refl, refl, c.requires.cursor_ok, filling_start _ _ _, met_start _ _)
 
@@ -77,20 +70,38 @@ pub slice_bounds-append-end-in-Old-2 : goal.slice_bounds-append-end-in-Old-2
 slice_bounds-append-end-in-Old-2 c = first_bytes _ _ (omega arith)
 
 pub overflow_add-zero : goal.overflow_add-zero
-overflow_add-zero c = omega (arith, old-body (goal.at.overflow_add-zero c).In-Old)
+overflow_add-zero c =
+    let old_some : 1 ≤ c.loop-found.cur.length =
+      old_length _ _ _ _ _ _ c.next_turn-t.ensures c.in-Old.is in
+    let old-body : c.loop-found.cur.zero + 2 ≤ c.loop-found.cur.next =
+      c.loop-found.invariant.5.body old_some in
+    omega (arith, old-body)
 
 pub slice_bounds-append-count : goal.slice_bounds-append-count
-slice_bounds-append-count c = omega (arith, old-body (goal.at.slice_bounds-append-count c).In-Old)
+slice_bounds-append-count c =
+    let old_some : 1 ≤ c.loop-found.cur.length =
+      old_length _ _ _ _ _ _ c.next_turn-t.ensures c.in-Old.is in
+    let old-body : c.loop-found.cur.zero + 2 ≤ c.loop-found.cur.next =
+      c.loop-found.invariant.5.body old_some in
+    omega (arith, old-body)
 
 pub slice_bounds-append-start : goal.slice_bounds-append-start
-slice_bounds-append-start c = omega (arith, old-body (goal.at.slice_bounds-append-start c).In-Old)
+slice_bounds-append-start c =
+    let old_some : 1 ≤ c.loop-found.cur.length =
+      old_length _ _ _ _ _ _ c.next_turn-t.ensures c.in-Old.is in
+    let old-body : c.loop-found.cur.zero + 2 ≤ c.loop-found.cur.next =
+      c.loop-found.invariant.5.body old_some in
+    omega (arith, old-body)
 
 -- TODO
 part-append-end : tie.Need-slice-bounds-append-end invariant-loop decreases-loop
 part-append-end c = search rules
 
 pub append-fit-requires : goal.append-fit-requires
-append-fit-requires c = let w = word_few _ _ c.loop-found.invariant.5.room (old_some (goal.at.append-fit-requires c).In-Old) c.loop-found.invariant.5.short in record {
+append-fit-requires c =
+    let old_some : 1 ≤ c.loop-found.cur.length =
+      old_length _ _ _ _ _ _ c.next_turn-t.ensures c.in-Old.is in
+    let w = word_few _ _ c.loop-found.invariant.5.room old_some c.loop-found.invariant.5.short in record {
   in_bounds = (w.0, w.1, body_few _ _ _ c.loop-found.invariant.5.body_short);
   held_le_longest_headword = (c.loop-found.invariant.0, omega arith, omega arith, c.loop-found.invariant.1, c.requires.h_value.3);
 }
