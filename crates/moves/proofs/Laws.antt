@@ -181,19 +181,25 @@ spread_append_places g d ms (n ∷ ns) ks =
 pub spread_append_end : (g d : ℕ) (ms : List Bool) (ns ks : List ℕ) → (spread g d ms (ns ++ ks)).end ≡ (spread g (spread g d ms ns).end (spread g d ms ns).free ks).end
 unfolding spread placed_first
 spread_append_end g d ms [] ks = refl
-spread_append_end g d ms (n ∷ ns) ks = spread_append_end g _ _ ns ks
+spread_append_end g d ms (n ∷ ns) ks =
+    let p : ℕ = best_fit g d (take (d - g) (drop g ms)) n in
+    spread_append_end g (max d (p + n)) (with_range p n false ms) ns ks
 
 -- the marks then
 pub spread_append_free : (g d : ℕ) (ms : List Bool) (ns ks : List ℕ) → (spread g d ms (ns ++ ks)).free ≡ (spread g (spread g d ms ns).end (spread g d ms ns).free ks).free
 unfolding spread placed_first
 spread_append_free g d ms [] ks = refl
-spread_append_free g d ms (n ∷ ns) ks = spread_append_free g _ _ ns ks
+spread_append_free g d ms (n ∷ ns) ks =
+    let p : ℕ = best_fit g d (take (d - g) (drop g ms)) n in
+    spread_append_free g (max d (p + n)) (with_range p n false ms) ns ks
 
 -- each has a place
 pub length_places : (g d : ℕ) (ms : List Bool) (ns : List ℕ) → length (spread g d ms ns).places ≡ length ns
 unfolding spread placed_first
 length_places g d ms [] = refl
-length_places g d ms (n ∷ ns) = ap suc (length_places g _ _ ns)
+length_places g d ms (n ∷ ns) =
+    let p : ℕ = best_fit g d (take (d - g) (drop g ms)) n in
+    ap suc (length_places g (max d (p + n)) (with_range p n false ms) ns)
 
 -- places tabled after others
 pub tabled_append : (bs cs ps qs T : List ℕ) → length ps ≡ length bs → tabled (bs ++ cs) (ps ++ qs) T ≡ tabled cs qs (tabled bs ps T)

@@ -3,10 +3,10 @@ use Rattle.std.specs.Prelude.{ℕ, ◌+◌, ◌-◌, ◌*◌, ◌≤◌, ◌≡�
 use Rattle.spec.specs.Order.{below_of}
 use Rattle.spec.specs.Outcome.{ok}
 use Rattle.spec.specs.Run.{Run, entries_from}
-use Rattle.spec.specs.Index.{elements-bytes}
+use Rattle.spec.specs.Index.{elements_bytes}
 use Rattle.spec.specs.Place as Place
-use Rattle.spec.specs.Place.{target_run, element-of}
-use Rattle.index.specs.Elements.{elements-at, elements-end, Inside}
+use Rattle.spec.specs.Place.{target_run, element_of}
+use Rattle.index.specs.Elements.{elements_at, elements_end, Inside}
 use Rattle.target.specs.declared.Target.{Target}
 
 -- where the entries of a run start in the data area: behind its count
@@ -42,15 +42,15 @@ pub record OneRun (order : ℕ) (area : List ℕ) (rs : List Run) (c : Place.Tar
 
 -- the run concerned of the headword h among the runs of so many elements, by the width of block numbers and the order of headwords
 pub record TargetTold (width order : ℕ) (index area : List ℕ) (elements : ℕ) (h : List ℕ) (rs : List Run) (t : Target) : Type 0 where
-  pub before : elements-at width index 0 t.before ≡ map element-of (target_run (below_of order) h rs).before
-  pub after : elements-at width index t.end t.after ≡ map element-of (target_run (below_of order) h rs).after
+  pub before : elements_at width index 0 t.before ≡ map element_of (target_run (below_of order) h rs).before
+  pub after : elements_at width index t.end t.after ≡ map element_of (target_run (below_of order) h rs).after
   pub before_inside : Inside width index 0 t.before
   pub after_inside : Inside width index t.end t.after
-  pub at_is : t.at ≡ length (elements-bytes width (elements-at width index 0 t.before))
-  pub end_is : elements-end width index 0 elements ≡ t.end + length (elements-bytes width (elements-at width index t.end t.after))
+  pub at_is : t.at ≡ length (elements_bytes width (elements_at width index 0 t.before))
+  pub end_is : elements_end width index 0 elements ≡ t.end + length (elements_bytes width (elements_at width index t.end t.after))
   pub run : NoRun area rs (target_run (below_of order) h rs) t ⊎ OneRun order area rs (target_run (below_of order) h rs) t
-  pub bytes : elements-end width index 0 elements
-      ≡ length (elements-bytes width (elements-at width index 0 t.before)) + (t.end - t.at) + length (elements-bytes width (elements-at width index t.end t.after))
+  pub bytes : elements_end width index 0 elements
+      ≡ length (elements_bytes width (elements_at width index 0 t.before)) + (t.end - t.at) + length (elements_bytes width (elements_at width index t.end t.after))
 
 -- names all definitions of this module: who unfolds it unfolds them
 unfoldable pub open_told : Unit {0}

@@ -3,9 +3,9 @@ ghost use Rattle.std.specs.Prelude.{◌≡◌, List, ◌+◌, ◌*◌, ◌≤◌
 ghost use Rattle.spec.specs.Order.{below_of};
 ghost use Rattle.spec.specs.Outcome.{ok};
 ghost use Rattle.spec.specs.Run.{Run};
-ghost use Rattle.spec.specs.Check.{runs-from};
+ghost use Rattle.spec.specs.Check.{runs_from};
 ghost use Rattle.byteops.specs.Width.{Width};
-ghost use Rattle.index.specs.Elements.{elements-at, Inside};
+ghost use Rattle.index.specs.Elements.{elements_at, Inside};
 ghost use Rattle.target.specs.Told.{entries_start, no_target, TargetTold};
 
 use byteops::read_number;
@@ -50,7 +50,7 @@ pub fn find_run(
 ) -> Target
     requires width { Width form.width × Inside form.width index.now 0 elements }
     requires d_in_bounds { (256 * d ≤ length area.now) × (d ≤ 16777215) }
-    ensures target_told { (rs : List Run) → runs-from (below_of form.order) d area.now (elements-at form.width index.now 0 elements) ≡ ok rs
+    ensures target_told { (rs : List Run) → runs_from (below_of form.order) d area.now (elements_at form.width index.now 0 elements) ≡ ok rs
         → TargetTold form.width form.order index.now area.now elements h.now rs result }
     ensures size_bound { (result.block + result.size ≤ d) × (result.size ≤ 32767) × (result.at ≤ result.end) × (result.end ≤ length index.now) × (result.before + result.after ≤ elements) }
 {

@@ -30,7 +30,7 @@ inspect-r-requires-clause-free_value c = marks_zero 1024
 pub returns-then-not-writable : goal.returns-then-not-writable
 returns-then-not-writable c =
     let accepted : AcceptedImage (lent c) c.in-Sound.v =
-      search is_accepted in
+    search is_accepted in
     let r = optimise_eleven _ _ _ c.requires.0 c.requires.1 c.requires.2 c.requires.3 _ accepted _
     c.writable.ensures c.if-not-writable.true-raw in record {
       result_value = r.0;
@@ -44,21 +44,24 @@ slice_bounds-pack-end-in-Sound c = first_bytes c.copy.new.dst c.args.len (omega 
 pub pack-requires : goal.pack-requires
 pack-requires c =
     let accepted : AcceptedImage (lent c) c.in-Sound.v =
-      search is_accepted in
+    search is_accepted in
     let copied = c.copy.ensures.dst_after in let p = c.requires in record {
-  accepted_image = copy_accepted _ _ p.2 _ _ copied _ accepted;
-  len = (copy_blocks _ _ p.2 _ _ copied p.1, copy_inside _ _ p.2 _ _ copied, copy_front _ _ p.2 _ _ copied);
-}
+      accepted_image = copy_accepted _ _ p.2 _ _ copied _ accepted;
+      len = (copy_blocks _ _ p.2 _ _ copied p.1, copy_inside _ _ p.2 _ _ copied, copy_front _ _ p.2 _ _ copied);
+    }
 
 pub returns-in-Refused : goal.returns-in-Refused
 returns-in-Refused c = let p = c.requires in let r = optimise_refused c.args.image.now c.args.len c.args.work.now p.0 p.1 p.2 p.3
-    c.in let whole = -Refused.k (search is_refused) in
-    (r.0, (r.1, refl)) in record { result_value = whole.0; image_after = whole.1.0; work_len_unchanged = whole.1.1 }
+    c.in-Refused.k (search is_refused) in record {
+      result_value = r.0;
+      image_after = r.1;
+      work_len_unchanged = refl;
+    }
 
 pub returns-else-not-writable : goal.returns-else-not-writable
 returns-else-not-writable c =
     let accepted : AcceptedImage (lent c) c.in-Sound.v =
-      search is_accepted in
+    search is_accepted in
     let r = optimise_done c.args.image.now c.args.len c.args.work.now c.requires.0 c.requires.1 c.requires.2 c.requires.3
     _ accepted _ c.writable.ensures c.if-not-writable.false
     _ _ (copy_is _ _ c.requires.2 _ _ c.copy.ensures.dst_after) _ c.pack.ensures.value c.pack.ensures.image_after in record {

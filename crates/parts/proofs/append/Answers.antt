@@ -24,21 +24,21 @@ put_entry-requires-clause-headword_len_bound c = (omega arith, omega arith)
 pub put_entry-requires-clause-body_in_bounds : goal.put_entry-requires-clause-body_in_bounds
 put_entry-requires-clause-body_in_bounds c =
     let room : (c.args.used ≡ 0) ⊎ (c.args.used + c.entry_size-size.result + 4 ≤ c.args.limit) =
-      ⊎_elim (λ w. inr (omega arith)) (λ w. inl (omega arith)) c.if-used-gt0.branch in
+    ⊎_elim (λ w. inr (omega arith)) (λ w. inl (omega arith)) c.if-used-gt0.branch in
     let short : c.args.used + c.entry_size-size.result ≤ longest_entry =
-      ⊎_elim (λ w. omega arith) (λ w. omega arith) room in
+    ⊎_elim (λ w. omega arith) (λ w. omega arith) room in
     omega (arith, short)
 
 pub returns : goal.returns
 returns c =
     let room : (c.args.used ≡ 0) ⊎ (c.args.used + c.entry_size-size.result + 4 ≤ c.args.limit) =
-      ⊎_elim (λ w. inr (omega arith)) (λ w. inl (omega arith)) c.if-used-gt0.branch in
+    ⊎_elim (λ w. inr (omega arith)) (λ w. inl (omega arith)) c.if-used-gt0.branch in
     let short : c.args.used + c.entry_size-size.result ≤ longest_entry =
-      ⊎_elim (λ w. omega arith) (λ w. omega arith) room in
+    ⊎_elim (λ w. omega arith) (λ w. omega arith) room in
     let renewed : take (length c.args.headword.now) c.copy.new.dst
     ≡ c.args.headword.now =
-      search last_renewed in
+    search last_renewed in
     let r = room in let k = renewed in let l = short in record {
-  appended = search append_done;
-  part_len_unchanged = (omega arith, omega arith);
-}
+      appended = search append_done;
+      part_len_unchanged = (omega arith, omega arith);
+    }

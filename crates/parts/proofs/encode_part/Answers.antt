@@ -32,14 +32,15 @@ pub loop-found-init : goal.loop-found-init
 loop-found-init c = (omega arith, omega arith, refl, refl, refl, c.requires.cursor_ok, filling_start _ _ _, met_start _ _)
 
 pub returns-in-Done : goal.returns-in-Done
-returns-in-Done c = let f = part_done _ _ _ _ _ _ _ _ _ _ _ _ _ c.next_turn-t.ensures c.loop-found.invariant.6 c.in let whole = -Done.is in
-    let l = c.loop-found.invariant in (
-      f.whole,
-      (
-        f.size,
-        (f.behind, (l.5, ((l.1, l.4, l.3), (l.7, λ z. met_done _ _ _ _ _ _ c.next_turn-t.ensures c.in-Done.is)))),
-      ),
-    ) in record { part_after = whole.0; used_value = whole.1.0; cursor_after = whole.1.1.0; cursor_ok_2 = whole.1.1.1.0; used_le_longest_entry = whole.1.1.1.1.0; met = whole.1.1.1.1.1.0; cursor_after_2 = whole.1.1.1.1.1.1 }
+returns-in-Done c = let f = part_done _ _ _ _ _ _ _ _ _ _ _ _ _ c.next_turn-t.ensures c.loop-found.invariant.6 c.in-Done.is in let l = c.loop-found.invariant in record {
+  part_after = f.whole;
+  used_value = f.size;
+  cursor_after = f.behind;
+  cursor_ok_2 = l.5;
+  used_le_longest_entry = (l.1, l.4, l.3);
+  met = l.7;
+  cursor_after_2 = λ z. met_done _ _ _ _ _ _ c.next_turn-t.ensures c.in-Done.is;
+}
 
 pub advance-cur-requires-clause-at_in_bounds : goal.advance-cur-requires-clause-at_in_bounds
 advance-cur-requires-clause-at_in_bounds c = c.loop-found.invariant.5.inside
@@ -72,25 +73,25 @@ slice_bounds-append-end-in-Old-2 c = first_bytes _ _ (omega arith)
 pub overflow_add-zero : goal.overflow_add-zero
 overflow_add-zero c =
     let old_some : 1 ≤ c.loop-found.cur.length =
-      old_length _ _ _ _ _ _ c.next_turn-t.ensures c.in-Old.is in
+    old_length _ _ _ _ _ _ c.next_turn-t.ensures c.in-Old.is in
     let old-body : c.loop-found.cur.zero + 2 ≤ c.loop-found.cur.next =
-      c.loop-found.invariant.5.body old_some in
+    c.loop-found.invariant.5.body old_some in
     omega (arith, old-body)
 
 pub slice_bounds-append-count : goal.slice_bounds-append-count
 slice_bounds-append-count c =
     let old_some : 1 ≤ c.loop-found.cur.length =
-      old_length _ _ _ _ _ _ c.next_turn-t.ensures c.in-Old.is in
+    old_length _ _ _ _ _ _ c.next_turn-t.ensures c.in-Old.is in
     let old-body : c.loop-found.cur.zero + 2 ≤ c.loop-found.cur.next =
-      c.loop-found.invariant.5.body old_some in
+    c.loop-found.invariant.5.body old_some in
     omega (arith, old-body)
 
 pub slice_bounds-append-start : goal.slice_bounds-append-start
 slice_bounds-append-start c =
     let old_some : 1 ≤ c.loop-found.cur.length =
-      old_length _ _ _ _ _ _ c.next_turn-t.ensures c.in-Old.is in
+    old_length _ _ _ _ _ _ c.next_turn-t.ensures c.in-Old.is in
     let old-body : c.loop-found.cur.zero + 2 ≤ c.loop-found.cur.next =
-      c.loop-found.invariant.5.body old_some in
+    c.loop-found.invariant.5.body old_some in
     omega (arith, old-body)
 
 -- TODO
@@ -100,18 +101,23 @@ part-append-end c = search rules
 pub append-fit-requires : goal.append-fit-requires
 append-fit-requires c =
     let old_some : 1 ≤ c.loop-found.cur.length =
-      old_length _ _ _ _ _ _ c.next_turn-t.ensures c.in-Old.is in
+    old_length _ _ _ _ _ _ c.next_turn-t.ensures c.in-Old.is in
     let w = word_few _ _ c.loop-found.invariant.5.room old_some c.loop-found.invariant.5.short in record {
-  in_bounds = (w.0, w.1, body_few _ _ _ c.loop-found.invariant.5.body_short);
-  held_le_longest_headword = (c.loop-found.invariant.0, omega arith, omega arith, c.loop-found.invariant.1, c.requires.h_value.3);
-}
+      in_bounds = (w.0, w.1, body_few _ _ _ c.loop-found.invariant.5.body_short);
+      held_le_longest_headword = (c.loop-found.invariant.0, omega arith, omega arith, c.loop-found.invariant.1, c.requires.h_value.3);
+    }
 
 pub returns-in-Full : goal.returns-in-Full
-returns-in-Full c = let f = part_full_old _ _ _ _ _ _ _ _ _ _ _ _ _ c.next_turn-t.ensures c.loop-found.invariant.6 _ _ _ c.in let whole = -Old.is
-    c.append-fit.ensures.appended c.in-Full.is in
-    let l = c.loop-found.invariant in
-    let a = c.append-fit.ensures in
-    (f.whole, (f.size, (f.behind, (l.5, ((l.1, a.1.0 ∙ l.4, l.3), (l.7, λ z. absurd (full_some _ _ _ _ _ _ _ _ a.0 c.in-Full.is z))))))) in record { part_after = whole.0; used_value = whole.1.0; cursor_after = whole.1.1.0; cursor_ok_2 = whole.1.1.1.0; used_le_longest_entry = whole.1.1.1.1.0; met = whole.1.1.1.1.1.0; cursor_after_2 = whole.1.1.1.1.1.1 }
+returns-in-Full c = let f = part_full_old _ _ _ _ _ _ _ _ _ _ _ _ _ c.next_turn-t.ensures c.loop-found.invariant.6 _ _ _ c.in-Old.is
+    c.append-fit.ensures.appended c.in-Full.is in let l = c.loop-found.invariant in let a = c.append-fit.ensures in record {
+      part_after = f.whole;
+      used_value = f.size;
+      cursor_after = f.behind;
+      cursor_ok_2 = l.5;
+      used_le_longest_entry = (l.1, a.1.0 ∙ l.4, l.3);
+      met = l.7;
+      cursor_after_2 = λ z. absurd (full_some _ _ _ _ _ _ _ _ a.0 c.in-Full.is z);
+    }
 
 pub advance-cur-requires-in-Used-clause-at_in_bounds : goal.advance-cur-requires-in-Used-clause-at_in_bounds
 advance-cur-requires-in-Used-clause-at_in_bounds c = c.loop-found.invariant.5.inside
@@ -149,11 +155,16 @@ append-fit-requires-in-New c = let b = head_bounds _ c.requires.h_value.0 in rec
 }
 
 pub returns-in-Full-fit : goal.returns-in-Full-fit
-returns-in-Full-fit c = let f = part_full_new _ _ _ _ _ _ _ _ _ _ _ _ _ c.next_turn-t.ensures c.loop-found.invariant.6 _ _ _ c.in let whole = -New.is
-    c.append-fit-in-New.ensures.appended c.in-Full-fit.is in
-    let l = c.loop-found.invariant in
-    let a = c.append-fit-in-New.ensures in
-    (f.whole, (f.size, (f.behind, (l.5, ((l.1, a.1.0 ∙ l.4, l.3), (l.7, λ z. absurd (full_some _ _ _ _ _ _ _ _ a.0 c.in-Full-fit.is z))))))) in record { part_after = whole.0; used_value = whole.1.0; cursor_after = whole.1.1.0; cursor_ok_2 = whole.1.1.1.0; used_le_longest_entry = whole.1.1.1.1.0; met = whole.1.1.1.1.1.0; cursor_after_2 = whole.1.1.1.1.1.1 }
+returns-in-Full-fit c = let f = part_full_new _ _ _ _ _ _ _ _ _ _ _ _ _ c.next_turn-t.ensures c.loop-found.invariant.6 _ _ _ c.in-New.is
+    c.append-fit-in-New.ensures.appended c.in-Full-fit.is in let l = c.loop-found.invariant in let a = c.append-fit-in-New.ensures in record {
+      part_after = f.whole;
+      used_value = f.size;
+      cursor_after = f.behind;
+      cursor_ok_2 = l.5;
+      used_le_longest_entry = (l.1, a.1.0 ∙ l.4, l.3);
+      met = l.7;
+      cursor_after_2 = λ z. absurd (full_some _ _ _ _ _ _ _ _ a.0 c.in-Full-fit.is z);
+    }
 
 pub loop-found-smaller : goal.loop-found-smaller
 loop-found-smaller c = new_less _ _ _ _ _ _ c.next_turn-t.ensures c.in-New.is

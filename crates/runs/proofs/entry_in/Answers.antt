@@ -14,10 +14,6 @@ returns-then-end-zero-clause-kept c = search broken_kept
 pub slice_bounds-follows-end-2 : goal.slice_bounds-follows-end-2
 slice_bounds-follows-end-2 c = search front_count
 
--- TODO
-part-follows-end : tie.Need-slice-bounds-follows-end
-part-follows-end c = search rules
-
 pub returns-then-not-follows-clause-result_after : goal.returns-then-not-follows-clause-result_after
 returns-then-not-follows-clause-result_after c = search not_above
 

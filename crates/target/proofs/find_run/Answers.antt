@@ -48,5 +48,6 @@ pub returns-in-Broken-clause-size_bound : goal.returns-in-Broken-clause-size_bou
 returns-in-Broken-clause-size_bound c = none_bounds _ _ _ _ c.no_run-in-Broken.ensures
 
 pub returns-in-Blocks : goal.returns-in-Blocks
-returns-in-Blocks c = let i = c.run_size-size.ensures.size_inside _ c.in let whole = -Blocks.is in
-    (search told_some, (i.2, i.1, search run-laws, search run-laws, search run-laws)) in record { target_told = whole.0; size_bound = whole.1 }
+returns-in-Blocks c =
+    let i = c.run_size-size.ensures.size_inside _ c.in-Blocks.is in
+    record { target_told = search told_some; size_bound = (i.2, i.1, search run-laws, search run-laws, search run-laws) }
