@@ -27,7 +27,7 @@ returns-then-old-p-gt-MOST_INDEX_BLOCKS c = let a = c.args in record {
 pub mark_range-requires : goal.mark_range-requires
 mark_range-requires c =
     let p = c.requires in
-    omega (arith, p.0.inside, accepted_blocks _ _ p.0.accepted, p.1.0.2)
+    omega (arith, p.drafted.inside, accepted_blocks _ _ p.drafted.accepted, p.p_in_bounds.2)
 
 pub grow-requires : goal.grow-requires
 grow-requires c =
@@ -36,11 +36,11 @@ grow-requires c =
       let a = c.args in
     let p = c.requires in
     begins a.image.now a.h.now a.body.now a.words a.p (marks a.free.now) (marks c.mark_range.new.ws)
-    p.1.0.0 p.0 p.1.1.0 p.1.1.1.1 c.mark_range.ensures
-    (omega (arith, accepted_blocks _ _ p.0.accepted, length_marks a.free.now, p.1.0.2)) c.if-old-p-gt-MOST_INDEX_BLOCKS.false p.1.1.1.0.0 p.1.1.1.0.1 in
+    p.p_in_bounds.0 p.drafted p.free_marked p.plan_counted c.mark_range.ensures
+    (omega (arith, accepted_blocks _ _ p.drafted.accepted, length_marks a.free.now, p.p_in_bounds.2)) c.if-old-p-gt-MOST_INDEX_BLOCKS.false p.h_value.0 p.h_value.1 in
     let p = c.requires in record {
   begun = begun;
-  le_g = (c.if-p-gt0.true, p.1.0.0, p.1.0.1, search rules);
+  le_g = (c.if-p-gt0.true, p.p_in_bounds.0, p.p_in_bounds.1, search rules);
 }
 
 pub keep-requires : goal.keep-requires
@@ -50,14 +50,14 @@ keep-requires c =
       let a = c.args in
     let p = c.requires in
     begins a.image.now a.h.now a.body.now a.words a.p (marks a.free.now) (marks c.mark_range.new.ws)
-    p.1.0.0 p.0 p.1.1.0 p.1.1.1.1 c.mark_range.ensures
-    (omega (arith, accepted_blocks _ _ p.0.accepted, length_marks a.free.now, p.1.0.2)) c.if-old-p-gt-MOST_INDEX_BLOCKS.false p.1.1.1.0.0 p.1.1.1.0.1 in
+    p.p_in_bounds.0 p.drafted p.free_marked p.plan_counted c.mark_range.ensures
+    (omega (arith, accepted_blocks _ _ p.drafted.accepted, length_marks a.free.now, p.p_in_bounds.2)) c.if-old-p-gt-MOST_INDEX_BLOCKS.false p.h_value.0 p.h_value.1 in
     let long : length (marks c.mark_range.new.ws) ≡ 163_840 =
       let a = c.args in
     let p = c.requires in
-    let m = marks_long a.free.now p.1.0.2 in
-    ap length c.mark_range.ensures ∙ length_range _ _ true (marks a.free.now) (omega (arith, m, p.0.inside, accepted_blocks _ _ p.0.accepted)) ∙ m in
+    let m = marks_long a.free.now p.p_in_bounds.2 in
+    ap length c.mark_range.ensures ∙ length_range _ _ true (marks a.free.now) (omega (arith, m, p.drafted.inside, accepted_blocks _ _ p.drafted.accepted)) ∙ m in
     let p = c.requires in record {
   ready = still_ready _ c.args.p _ _ _ _ begun long [] (omega (arith, c.if-p-gt0.false));
-  g_value = (refl, p.1.0.0, p.1.0.1, search rules);
+  g_value = (refl, p.p_in_bounds.0, p.p_in_bounds.1, search rules);
 }

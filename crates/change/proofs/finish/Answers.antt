@@ -137,15 +137,15 @@ write_areas-requires-clause-roomy c = room (goal.at.write_areas-requires c).Afte
 pub write_rest-requires : goal.write_rest-requires
 write_rest-requires c =
     let e = c.write_areas.ensures in
-    rest_asks _ (v (goal.at.write_rest-requires c).After-copy) _ _ _ _ (ready (goal.at.write_rest-requires c).After-copy) _ (room (goal.at.write_rest-requires c).After-copy) _ _ e.1.1.0 (last_is (goal.at.write_rest-requires c).After-copy) _ e.1.1.1
+    rest_asks _ (v (goal.at.write_rest-requires c).After-copy) _ _ _ _ (ready (goal.at.write_rest-requires c).After-copy) _ (room (goal.at.write_rest-requires c).After-copy) _ _ e.image_len_unchanged.0 (last_is (goal.at.write_rest-requires c).After-copy) _ e.image_len_unchanged.1
 
 pub returns : goal.returns
 returns c =
     let planned : PlannedEnd (take (old_length c.args.v.old) c.args.image.now) c.args.v
     (marks c.args.free.now) c.args.h.now c.args.body.now c.plan_end-last.result =
       front_planned c.args.image.now c.args.v _ _ _ _ c.position-len.ensures _ c.plan_end-last.ensures.planned_end in
-    let p = (begun (goal.at.returns c).After-copy).pre in let e = c.write_areas.ensures in let f = c.write_rest.ensures in let w = all_written _ (v (goal.at.returns c).After-copy) _ _ _ _ (ready (goal.at.returns c).After-copy) _ (room (goal.at.returns c).After-copy) _ _ _ _ e.0 e.1.0 (last_is (goal.at.returns c).After-copy) f.0 in record {
+    let p = (begun (goal.at.returns c).After-copy).pre in let e = c.write_areas.ensures in let f = c.write_rest.ensures in let w = all_written _ (v (goal.at.returns c).After-copy) _ _ _ _ (ready (goal.at.returns c).After-copy) _ (room (goal.at.returns c).After-copy) _ _ _ _ e.areas e.free_after (last_is (goal.at.returns c).After-copy) f.sealed in record {
   changed = finish_done (image (goal.at.returns c).After-copy) _ (v (goal.at.returns c).After-copy) _ _ _ _ p.0 _ (planned (ended (goal.at.returns c).After-copy)) (marks_long _ p.1.2) (few (goal.at.returns c).After-copy).if1.left (fits (goal.at.returns c).After-copy)
       p.1.0 _ (copied (goal.at.returns c).After-copy) _ w _ (sized (goal.at.returns c).After-copy).position2.ensures;
-  image_len_unchanged = (f.1 ∙ e.1.1.0, c.copy.ensures.dst_len_unchanged);
+  image_len_unchanged = (f.image_len_unchanged ∙ e.image_len_unchanged.0, c.copy.ensures.dst_len_unchanged);
 }

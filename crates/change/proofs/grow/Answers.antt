@@ -34,10 +34,10 @@ slice_bounds-displace-start-2 c =
     omega (arith, c.position-len.ensures, c.position-start.ensures, before-long)
 
 pub displace-end-requires : goal.displace-end-requires
-displace-end-requires c = let p = c.requires in let b = begun_front _ _ _ _ _ _ _ c.position-len.ensures p.0 in let k = marks_long _ p.1.3 in let here = c.position-start.ensures in let i = cut_inside _ _ _ _ _ _ b k _ here in let l = length-replicate {A = ℕ} 32768 0 in record {
+displace-end-requires c = let p = c.requires in let b = begun_front _ _ _ _ _ _ _ c.position-len.ensures p.begun in let k = marks_long _ p.le_g.3 in let here = c.position-start.ensures in let i = cut_inside _ _ _ _ _ _ b k _ here in let l = length-replicate {A = ℕ} 32768 0 in record {
   good_form = (good_here _ _ _ _ _ _ b k, i.0);
   inside = i.1;
-  d_value = (cut_long _ _ _ _ _ _ b k _ here, few _ _ _ _ _ _ b k, omega (arith, p.0.few_index), l, p.1.3);
+  d_value = (cut_long _ _ _ _ _ _ b k _ here, few _ _ _ _ _ _ b k, omega (arith, p.begun.few_index), l, p.le_g.3);
 }
 
 pub overflow_add-p : goal.overflow_add-p
@@ -46,14 +46,14 @@ overflow_add-p c = omega (arith, c.requires.begun.few_index)
 pub returns-then-p-end : goal.returns-then-p-end
 returns-then-p-end c = let d = c.displace-end.ensures in let there = c.position-len.ensures in record {
   changed = grow_full _ c.args.p _ _ _ _ (begun_front _ _ _ _ _ _ _ there c.requires.begun) (marks_long _ c.requires.le_g.3) c.requires.le_g.0 _ _ _
-      _ c.position-start.ensures d.0 c.args.image.now
+      _ c.position-start.ensures d.displaced c.args.image.now
       (old_length c.args.p.old) (ap (λ (k : ℕ). take k c.args.image.now) there) c.if-p-end.true;
   image_len_unchanged = (refl, refl);
 }
 
 pub finish-requires : goal.finish-requires
-finish-requires c = let p = c.requires in let b = p.0 in let d = c.displace-end.ensures in let there = c.position-len.ensures in let l = d.1.0 ∙ length-replicate {A = ℕ} 32768 0 in record {
-  ready = front_ready c.args.image.now _ _ _ _ _ there _ (grow_ready _ c.args.p _ _ _ _ (begun_front _ _ _ _ _ _ _ there b) (marks_long _ p.1.3) p.1.0 _ _ _
-      _ c.position-start.ensures d.0 c.if-p-end.false (omega (arith, l, b.few_index)) (marks_long _ (d.1.1 ∙ p.1.3)));
-  v_in_bounds = (p.1.1, p.1.2, d.1.1 ∙ p.1.3);
+finish-requires c = let p = c.requires in let b = p.begun in let d = c.displace-end.ensures in let there = c.position-len.ensures in let l = d.numbers_len_unchanged.0 ∙ length-replicate {A = ℕ} 32768 0 in record {
+  ready = front_ready c.args.image.now _ _ _ _ _ there _ (grow_ready _ c.args.p _ _ _ _ (begun_front _ _ _ _ _ _ _ there b) (marks_long _ p.le_g.3) p.le_g.0 _ _ _
+      _ c.position-start.ensures d.displaced c.if-p-end.false (omega (arith, l, b.few_index)) (marks_long _ (d.numbers_len_unchanged.1 ∙ p.le_g.3)));
+  v_in_bounds = (p.le_g.1, p.le_g.2, d.numbers_len_unchanged.1 ∙ p.le_g.3);
 }

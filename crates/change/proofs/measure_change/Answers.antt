@@ -85,6 +85,6 @@ returns c =
       refl,
       refl,
       drafted a.image.now a.old c.requires.accepted_image _ c.position-start.ensures _ c.nindex2-elements.ensures.value a.h.now c.find_run-t.result c.find_run-t.ensures.target_told
-          a.body.now a.fresh _ _ _ _ _ _ _ c.find_run-t.ensures.size_bound.0 c.entries_start-from.ensures.value m.0 c.nblock2.ensures.value
-          c.growth-g.ensures m.1.0.1 m.1.1,
+          a.body.now a.fresh _ _ _ _ _ _ _ c.find_run-t.ensures.size_bound.0 c.entries_start-from.ensures.value m.measured c.nblock2.ensures.value
+          c.growth-g.ensures m.parts_bound.1 m.found_value,
     )

@@ -10,8 +10,8 @@ overflow_add-v c = omega (arith, c.requires.g_le_end.2)
 
 pub plan_parts-requires : goal.plan_parts-requires
 plan_parts-requires c = let p = c.requires in record {
-  h_value = (p.1.1.1.0, p.1.1.1.1, run_short _ _ _ _ c.entries_start-from.ensures.value p.1.0.1, omega (arith, p.0.0.1));
-  g_le_end = (p.1.1.0.0, p.1.1.0.1, omega (arith, p.1.1.0.2), omega (arith, p.1.1.0.2));
+  h_value = (p.h_value.0, p.h_value.1, run_short _ _ _ _ c.entries_start-from.ensures.value p.size_bound.1, omega (arith, p.good_form.0.1));
+  g_le_end = (p.g_le_end.0, p.g_le_end.1, omega (arith, p.g_le_end.2), omega (arith, p.g_le_end.2));
 }
 
 pub returns-clause-planned_end : goal.returns-clause-planned_end

@@ -35,16 +35,16 @@ measure_change-p-requires c =
     let good : headword_ok c.args.headword.now ≡ true =
     head_good c.args.headword.now _ c.headword_ok.ensures c.if-not-headword_ok.false-raw in
     let p = c.requires in let there = c.position-len.ensures in record {
-      accepted_image = front_accepted _ _ _ there p.0.0;
+      accepted_image = front_accepted _ _ _ there p.accepted_image.0;
       image_len = (
-        front_blocks c.args.image.now c.position-len.result (omega (arith, there, p.1.0)) (omega (arith, there, whole_blocks _ _ p.0.0)),
+        front_blocks c.args.image.now c.position-len.result (omega (arith, there, p.v_in_bounds.0)) (omega (arith, there, whole_blocks _ _ p.accepted_image.0)),
         good,
         search rules,
       );
     }
 
 pub returns-then-not-p : goal.returns-then-not-p
-returns-then-not-p c = let p = c.requires in let k = draft_front _ c.args.v _ _ _ _ _ c.position-len.ensures c.measure_change-p.ensures in let r = delete_absent c.args.image.now c.args.work.now c.args.v p.0.0 p.1.0 p.1.1
+returns-then-not-p c = let p = c.requires in let k = draft_front _ c.args.v _ _ _ _ _ c.position-len.ensures c.measure_change-p.ensures in let r = delete_absent c.args.image.now c.args.work.now c.args.v p.accepted_image.0 p.v_in_bounds.0 p.v_in_bounds.1
     _ c.writable.ensures c.args.headword.now c.if-not-writable.false
     _ c.headword_ok.ensures c.if-not-headword_ok.false _ _ k c.if-not-p.true in record {
       result_value = r.0;
@@ -55,7 +55,7 @@ returns-then-not-p c = let p = c.requires in let k = draft_front _ c.args.v _ _ 
 pub overflow_sub-words : goal.overflow_sub-words
 overflow_sub-words c =
     let p = c.requires in
-    delete_some _ c.args.v p.0.0 _ _ _ (draft_front _ c.args.v _ _ _ _ _ c.position-len.ensures c.measure_change-p.ensures) c.if-not-p.false
+    delete_some _ c.args.v p.accepted_image.0 _ _ _ (draft_front _ c.args.v _ _ _ _ _ c.position-len.ensures c.measure_change-p.ensures) c.if-not-p.false
 
 pub change-r-requires : goal.change-r-requires
 change-r-requires c =
@@ -63,27 +63,27 @@ change-r-requires c =
     head_good c.args.headword.now _ c.headword_ok.ensures c.if-not-headword_ok.false-raw in
     let v = c.args.v in let p = c.requires in let k = draft_front _ c.args.v _ _ _ _ _ c.position-len.ensures c.measure_change-p.ensures in record {
       drafted = draft_measured _ v _ _ _ _ k;
-      p_in_bounds = (draft_inside _ v _ _ _ _ k p.1.0, p.1.1, p.1.2);
-      free_marked = draft_marked _ v _ _ _ _ k _ p.0.1;
+      p_in_bounds = (draft_inside _ v _ _ _ _ k p.v_in_bounds.0, p.v_in_bounds.1, p.v_in_bounds.2);
+      free_marked = draft_marked _ v _ _ _ _ k _ p.accepted_image.1;
       h_value = (good, search rules);
-      plan_counted = delete_ready _ v p.0.0 _ _ _ k c.if-not-p.false _ refl;
+      plan_counted = delete_ready _ v p.accepted_image.0 _ _ _ k c.if-not-p.false _ refl;
     }
 
 pub returns-in-Full : goal.returns-in-Full
-returns-in-Full c = let p = c.requires in let k = draft_front _ c.args.v _ _ _ _ _ c.position-len.ensures c.measure_change-p.ensures in let q = c.change-r.ensures in let r = delete_fifteen c.args.image.now c.args.work.now c.args.v p.0.0 p.1.0 p.1.1
+returns-in-Full c = let p = c.requires in let k = draft_front _ c.args.v _ _ _ _ _ c.position-len.ensures c.measure_change-p.ensures in let q = c.change-r.ensures in let r = delete_fifteen c.args.image.now c.args.work.now c.args.v p.accepted_image.0 p.v_in_bounds.0 p.v_in_bounds.1
     _ c.writable.ensures c.args.headword.now c.if-not-writable.false
-    _ c.headword_ok.ensures c.if-not-headword_ok.false _ _ k c.if-not-p.false c.change-r.result c.change-r.new.image q.0 (search rules) in record {
+    _ c.headword_ok.ensures c.if-not-headword_ok.false _ _ k c.if-not-p.false c.change-r.result c.change-r.new.image q.changed (search rules) in record {
       result_value = r.0;
       image_after = r.1;
-      work_len_unchanged = q.1.1;
+      work_len_unchanged = q.image_len_unchanged.1;
     }
 
 pub returns-in-Done : goal.returns-in-Done
-returns-in-Done c = let p = c.requires in let k = draft_front _ c.args.v _ _ _ _ _ c.position-len.ensures c.measure_change-p.ensures in let q = c.change-r.ensures in let r = delete_done c.args.image.now c.args.work.now c.args.v p.0.0 p.1.0 p.1.1
+returns-in-Done c = let p = c.requires in let k = draft_front _ c.args.v _ _ _ _ _ c.position-len.ensures c.measure_change-p.ensures in let q = c.change-r.ensures in let r = delete_done c.args.image.now c.args.work.now c.args.v p.accepted_image.0 p.v_in_bounds.0 p.v_in_bounds.1
     _ c.writable.ensures c.args.headword.now c.if-not-writable.false
     _ c.headword_ok.ensures c.if-not-headword_ok.false _ _ k c.if-not-p.false c.change-r.result
-    c.change-r.new.image q.0 c.in-Done.l (search rules) in record {
+    c.change-r.new.image q.changed c.in-Done.l (search rules) in record {
       result_value = r.0;
       image_after = r.1;
-      work_len_unchanged = q.1.1;
+      work_len_unchanged = q.image_len_unchanged.1;
     }

@@ -110,9 +110,9 @@ measure_change-p-requires c =
       let q = c.headword_ok.ensures in
     (head_good c.args.headword.now _ q c.if-not-headword_ok.false, body_few _ _ _ made text-few) in
     let p = c.requires in let there = c.position-len.ensures in record {
-  accepted_image = front_accepted _ _ _ there p.0.0;
+  accepted_image = front_accepted _ _ _ there p.accepted_image.0;
   image_len = (
-        front_blocks c.args.image.now c.position-len.result (omega (arith, there, p.1.0)) (omega (arith, there, whole_blocks _ _ p.0.0)),
+        front_blocks c.args.image.now c.position-len.result (omega (arith, there, p.v_in_bounds.0)) (omega (arith, there, whole_blocks _ _ p.accepted_image.0)),
         entry_good.0,
         entry_good.1,
       );
@@ -133,13 +133,13 @@ change-r-requires c =
     × (length (take (1 + length c.args.text.now) c.copy.new.dst) ≤ longest_body) =
       let q = c.headword_ok.ensures in
     (head_good c.args.headword.now _ q c.if-not-headword_ok.false, body_few _ _ _ made text-few) in
-    let a = c.args in let p = c.requires in let m = draft_front _ c.args.v _ _ _ _ _ c.position-len.ensures c.measure_change-p.ensures in let h = c.headword_ok.ensures in let t = c.text_ok.ensures in let w = c.words_after-words.ensures in let ready = insert_ready _ a.v p.0.0 a.headword.now _ h c.if-not-headword_ok.false
+    let a = c.args in let p = c.requires in let m = draft_front _ c.args.v _ _ _ _ _ c.position-len.ensures c.measure_change-p.ensures in let h = c.headword_ok.ensures in let t = c.text_ok.ensures in let w = c.words_after-words.ensures in let ready = insert_ready _ a.v p.accepted_image.0 a.headword.now _ h c.if-not-headword_ok.false
     a.text.now _ t c.if-not-text_ok.false
     a.attribute _ c.attribute_ok.ensures c.if-not-attribute_ok.false
     _ made _ m _ w in record {
   drafted = draft_measured _ a.v _ _ _ _ m;
-  p_in_bounds = (draft_inside _ a.v _ _ _ _ m p.1.0, p.1.1, p.1.2);
-  free_marked = draft_marked _ a.v _ _ _ _ m _ p.0.1;
+  p_in_bounds = (draft_inside _ a.v _ _ _ _ m p.v_in_bounds.0, p.v_in_bounds.1, p.v_in_bounds.2);
+  free_marked = draft_marked _ a.v _ _ _ _ m _ p.accepted_image.1;
   h_value = entry_good;
   plan_counted = ready;
 }
@@ -152,13 +152,13 @@ returns-in-Full c =
     let made : take (1 + length c.args.text.now) c.copy.new.dst ≡ c.args.attribute ∷ c.args.text.now =
       body_made c.args.attribute c.args.text.now _ _ _ (omega (arith, text-few)) c.write_u8.ensures.dst_after
     c.copy.ensures.dst_after in
-    let p = c.requires in let v = c.writable.ensures in let h = c.headword_ok.ensures in let t = c.text_ok.ensures in let m = draft_front _ c.args.v _ _ _ _ _ c.position-len.ensures c.measure_change-p.ensures in let q = c.change-r.ensures in let r = insert_fifteen c.args.image.now c.args.work.now c.args.v p.0.0 p.1.0 p.1.1 _ v
+    let p = c.requires in let v = c.writable.ensures in let h = c.headword_ok.ensures in let t = c.text_ok.ensures in let m = draft_front _ c.args.v _ _ _ _ _ c.position-len.ensures c.measure_change-p.ensures in let q = c.change-r.ensures in let r = insert_fifteen c.args.image.now c.args.work.now c.args.v p.accepted_image.0 p.v_in_bounds.0 p.v_in_bounds.1 _ v
     c.args.headword.now c.if-not-writable.false
     _ h c.if-not-headword_ok.false
     c.args.attribute c.args.text.now _ t c.if-not-text_ok.false
     _ c.attribute_ok.ensures c.if-not-attribute_ok.false _ made _ m
-    c.change-r.result c.change-r.new.image q.0 (search rules) in
-    (r.0, (r.1, q.1.1)) let whole =  in record { result_value = whole.0; image_after = whole.1.0; work_len_unchanged = whole.1.1 }
+    c.change-r.result c.change-r.new.image q.changed (search rules) in
+    (r.0, (r.1, q.image_len_unchanged.1)) let whole =  in record { result_value = whole.0; image_after = whole.1.0; work_len_unchanged = whole.1.1 }
 
 pub returns-in-Done : goal.returns-in-Done
 returns-in-Done c =
@@ -168,10 +168,10 @@ returns-in-Done c =
     let made : take (1 + length c.args.text.now) c.copy.new.dst ≡ c.args.attribute ∷ c.args.text.now =
       body_made c.args.attribute c.args.text.now _ _ _ (omega (arith, text-few)) c.write_u8.ensures.dst_after
     c.copy.ensures.dst_after in
-    let p = c.requires in let v = c.writable.ensures in let h = c.headword_ok.ensures in let t = c.text_ok.ensures in let m = draft_front _ c.args.v _ _ _ _ _ c.position-len.ensures c.measure_change-p.ensures in let q = c.change-r.ensures in let r = insert_done c.args.image.now c.args.work.now c.args.v p.0.0 p.1.0 p.1.1 _ v
+    let p = c.requires in let v = c.writable.ensures in let h = c.headword_ok.ensures in let t = c.text_ok.ensures in let m = draft_front _ c.args.v _ _ _ _ _ c.position-len.ensures c.measure_change-p.ensures in let q = c.change-r.ensures in let r = insert_done c.args.image.now c.args.work.now c.args.v p.accepted_image.0 p.v_in_bounds.0 p.v_in_bounds.1 _ v
     c.args.headword.now c.if-not-writable.false
     _ h c.if-not-headword_ok.false
     c.args.attribute c.args.text.now _ t c.if-not-text_ok.false
     _ c.attribute_ok.ensures c.if-not-attribute_ok.false _ made _ m
-    c.change-r.result c.change-r.new.image q.0 c.in-Done.l (search rules) in
-    (r.0, (r.1, q.1.1)) let whole =  in record { result_value = whole.0; image_after = whole.1.0; work_len_unchanged = whole.1.1 }
+    c.change-r.result c.change-r.new.image q.changed c.in-Done.l (search rules) in
+    (r.0, (r.1, q.image_len_unchanged.1)) let whole =  in record { result_value = whole.0; image_after = whole.1.0; work_len_unchanged = whole.1.1 }

@@ -16,8 +16,8 @@ returns-then-next_unmarked-d c = search settle-laws
 pub returns-then-nword-v : goal.returns-then-nword-v
 returns-then-nword-v c =
     let read = c.read_free_list.ensures in
-    settle_words _ _ _ _ c.requires.runs_read (search) _ c.empty_block2-first.ensures.value _ c.position-start.ensures _ read.0 c.if-not-read_free_list.false
-    _ read.1.0 _ (length_marks _) c.requires.d_value.2 _
+    settle_words _ _ _ _ c.requires.runs_read (search) _ c.empty_block2-first.ensures.value _ c.position-start.ensures _ read.value (search)
+    _ read.marked _ (length_marks _) c.requires.d_value.2 _
     c.next_unmarked.ensures.0 c.if-next_unmarked-d.false _ c.nword.ensures.value (search)
 
 pub nblock2-requires : goal.nblock2-requires
@@ -26,15 +26,15 @@ nblock2-requires c = omega (arith, c.requires.d_value.0)
 pub returns-then-nblock2-blocks : goal.returns-then-nblock2-blocks
 returns-then-nblock2-blocks c =
     let read = c.read_free_list.ensures in
-    settle_blocks _ _ _ _ c.requires.runs_read (search) _ c.empty_block2-first.ensures.value _ c.position-start.ensures _ read.0 c.if-not-read_free_list.false
-    _ read.1.0 _ (length_marks _) c.requires.d_value.2 _
+    settle_blocks _ _ _ _ c.requires.runs_read (search) _ c.empty_block2-first.ensures.value _ c.position-start.ensures _ read.value (search)
+    _ read.marked _ (length_marks _) c.requires.d_value.2 _
     c.next_unmarked.ensures.0 c.if-next_unmarked-d.false _ c.nword.ensures.value (search) _ c.nblock2.ensures.value
     (search)
 
 pub returns : goal.returns
 returns c =
     let read = c.read_free_list.ensures in
-    settle_sound _ _ _ _ c.requires.runs_read (search) _ c.empty_block2-first.ensures.value _ c.position-start.ensures _ read.0 c.if-not-read_free_list.false
-    _ read.1.0 _ (length_marks _) c.requires.d_value.2 _
+    settle_sound _ _ _ _ c.requires.runs_read (search) _ c.empty_block2-first.ensures.value _ c.position-start.ensures _ read.value (search)
+    _ read.marked _ (length_marks _) c.requires.d_value.2 _
     c.next_unmarked.ensures.0 c.if-next_unmarked-d.false _ c.nword.ensures.value (search) _ c.nblock2.ensures.value
-    (search) _ _ _ c.requires.free_value c.requires.d_value.3 read.1.1
+    (search) _ _ _ c.requires.free_value c.requires.d_value.3 read.marked_2

@@ -3,10 +3,6 @@ use Rattle.listing.proofs.Lines.{refused_length, refused_by}
 use borrow.Author.Rules.{rules}
 use Rattle.listing.proofs.refused_line.Goals as goal
 
--- TODO
-slice-aggregate-copy : tie.Need-slice-aggregate-copy
-slice-aggregate-copy c = search rules
-
 pub returns-clause-value : goal.returns-clause-value
 returns-clause-value c = (search refused_length, omega arith)
 

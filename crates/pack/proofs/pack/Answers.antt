@@ -162,7 +162,7 @@ fill_zero-requires-2 c =
 pub returns : goal.returns
 returns c = let a = c.requires.accepted_image in let in_blocks = c.requires.len.0 in let here = c.position-start.ensures in let number = c.nindex2-elements.ensures.value in let counted = c.nblock2-blocks.ensures.value in let needed = c.need-m.ensures in let written = c.write_runs-out.ensures in let zeroed = c.fill_zero.ensures in let headed = c.write_counts.ensures in let last = c.fill_zero-2.ensures in let ends = c.position-len.ensures in let small = bytes (goal.at.returns c).After-shared_slice_known-1 in record {
   image_after = packed_image _ _ a in_blocks _ here _ number _ counted _ needed small _ _ _ _ _ _ _ _ c.position-data.ensures ends c.requires.len.1 c.requires.len.2
-      written.0 written.1.0 zeroed.0 headed.0 last.0;
+      written.image_after written.value zeroed.dst_after headed.s_after last.dst_after;
   value = packed_length _ _ a in_blocks _ here _ number _ counted _ needed small _ ends;
-  image_len_unchanged = last.1 ∙ headed.1 ∙ zeroed.1 ∙ written.1.1;
+  image_len_unchanged = last.dst_len_unchanged ∙ headed.s_len_unchanged ∙ zeroed.dst_len_unchanged ∙ written.image_len_unchanged;
 }

@@ -8,6 +8,7 @@ use Rattle.encoder.specs.Limits.{longest_entry}
 use Rattle.parts.proofs.Laws.{first_bytes, append_full, append_done, last_renewed}
 use borrow.Author.Rules.{rules}
 use Rattle.parts.proofs.append.Goals as goal
+use Rattle.parts.proofs.append.Goals.{then-used-gt0+else-limit-whole, else-used-gt0}
 
 pub slice_bounds-entry_size-end-2 : goal.slice_bounds-entry_size-end-2
 slice_bounds-entry_size-end-2 c = first_bytes _ _ (omega arith)
@@ -24,7 +25,7 @@ put_entry-requires-clause-headword_len_bound c = (omega arith, omega arith)
 pub put_entry-requires-clause-body_in_bounds : goal.put_entry-requires-clause-body_in_bounds
 put_entry-requires-clause-body_in_bounds c =
     let room : (c.args.used ≡ 0) ⊎ (c.args.used + c.entry_size-size.result + 4 ≤ c.args.limit) =
-    ⊎_elim (λ w. inr (omega arith)) (λ w. inl (omega arith)) c.if-used-gt0.branch in
+    elim c.if-used-gt0.branch [ then-used-gt0+else-limit-whole w ↦ inr (omega arith) | else-used-gt0 w ↦ inl (omega arith) ] in
     let short : c.args.used + c.entry_size-size.result ≤ longest_entry =
     ⊎_elim (λ w. omega arith) (λ w. omega arith) room in
     omega (arith, short)
@@ -32,7 +33,7 @@ put_entry-requires-clause-body_in_bounds c =
 pub returns : goal.returns
 returns c =
     let room : (c.args.used ≡ 0) ⊎ (c.args.used + c.entry_size-size.result + 4 ≤ c.args.limit) =
-    ⊎_elim (λ w. inr (omega arith)) (λ w. inl (omega arith)) c.if-used-gt0.branch in
+    elim c.if-used-gt0.branch [ then-used-gt0+else-limit-whole w ↦ inr (omega arith) | else-used-gt0 w ↦ inl (omega arith) ] in
     let short : c.args.used + c.entry_size-size.result ≤ longest_entry =
     ⊎_elim (λ w. omega arith) (λ w. omega arith) room in
     let renewed : take (length c.args.headword.now) c.copy.new.dst

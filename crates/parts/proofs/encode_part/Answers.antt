@@ -94,10 +94,6 @@ slice_bounds-append-start c =
     c.loop-found.invariant.5.body old_some in
     omega (arith, old-body)
 
--- TODO
-part-append-end : tie.Need-slice-bounds-append-end invariant-loop decreases-loop
-part-append-end c = search rules
-
 pub append-fit-requires : goal.append-fit-requires
 append-fit-requires c =
     let old_some : 1 ≤ c.loop-found.cur.length =
@@ -114,9 +110,9 @@ returns-in-Full c = let f = part_full_old _ _ _ _ _ _ _ _ _ _ _ _ _ c.next_turn-
       used_value = f.size;
       cursor_after = f.behind;
       cursor_ok_2 = l.5;
-      used_le_longest_entry = (l.1, a.1.0 ∙ l.4, l.3);
+      used_le_longest_entry = (l.1, a.part_len_unchanged.0 ∙ l.4, l.3);
       met = l.7;
-      cursor_after_2 = λ z. absurd (full_some _ _ _ _ _ _ _ _ a.0 c.in-Full.is z);
+      cursor_after_2 = λ z. absurd (full_some _ _ _ _ _ _ _ _ a.appended c.in-Full.is z);
     }
 
 pub advance-cur-requires-in-Used-clause-at_in_bounds : goal.advance-cur-requires-in-Used-clause-at_in_bounds
@@ -161,9 +157,9 @@ returns-in-Full-fit c = let f = part_full_new _ _ _ _ _ _ _ _ _ _ _ _ _ c.next_t
       used_value = f.size;
       cursor_after = f.behind;
       cursor_ok_2 = l.5;
-      used_le_longest_entry = (l.1, a.1.0 ∙ l.4, l.3);
+      used_le_longest_entry = (l.1, a.part_len_unchanged.0 ∙ l.4, l.3);
       met = l.7;
-      cursor_after_2 = λ z. absurd (full_some _ _ _ _ _ _ _ _ a.0 c.in-Full-fit.is z);
+      cursor_after_2 = λ z. absurd (full_some _ _ _ _ _ _ _ _ a.appended c.in-Full-fit.is z);
     }
 
 pub loop-found-smaller : goal.loop-found-smaller
