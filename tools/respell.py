@@ -14,6 +14,10 @@ import sys
 
 WORD = re.compile(r"[^\s(){}\[\];,.:\"«»`|]+")
 DECLARED = re.compile(r"^\s*(?:(?:unfoldable|abbrev|pub|open|data|record|ruleset)\s+)*([^\s:(){}\[\];,.\"]+)\s+(?:\{[^}]*\}\s*|\([^)]*\)\s*)*:\s")
+RULESET = re.compile(r"^\s*(?:pub )?ruleset\s+(\S+)\s*=")
+BOUND = re.compile(r"(?<![\w'.-])[a-z][\w']*(?:-[\w']+)+(?![\w'+-])")
+# What port.py took for words of the library.
+GARBLED = {"Told-blocks": "told_blocks", "Chain-laws": "chain_laws", "Free-moved": "free_moved"}
 LIBRARIES = {"Rattle", "Prim", "mathlib", "native", "lib", "borrow", "denote", "specs"}
 USE = re.compile(r"^(?:ghost )?use\s+([^{;]*?)\.?\{(.*?)\}", re.M | re.S)
 
@@ -47,12 +51,16 @@ def code_of(line, mark):
 
 
 def declared(text):
-    """The names that a file declares: definitions, fields, constructors and helpers."""
+    """The names that a file declares or binds: definitions, fields, constructors, rulesets, helpers and variables."""
     found = set()
     for line in text.split("\n"):
-        m = DECLARED.match(code_of(line, "--")[0])
-        if m:
-            found.add(m.group(1))
+        code = code_of(line, "--")[0]
+        for pattern in (DECLARED, RULESET):
+            m = pattern.match(code)
+            if m:
+                found.add(m.group(1))
+        if not line.startswith("use "):
+            found |= set(BOUND.findall(code))
     return found
 
 
@@ -67,7 +75,7 @@ def imported(text, own_crates):
 
 
 def plain(name):
-    return re.sub(r"(?<=[\w'])-(?=[\w'])", "_", name)
+    return GARBLED.get(name) or re.sub(r"(?<=[\w'])-(?=[\w'])", "_", name)
 
 
 def turned(text, own, kept):
@@ -96,11 +104,11 @@ def main():
     names, homes = set(), {}
     for path, kind in every:
         if kind == "antt":
-            for name in declared(read(path)):
+            for name in declared(read(path)) - imported(read(path), own_crates):
                 names.add(name)
                 homes.setdefault(name, set()).add(os.path.relpath(path, root))
-    own = {n for n in names if plain(n) != n}
-    clash = sorted(n for n in own if plain(n) in names and homes[n] & homes[plain(n)])
+    own = {n for n in names if plain(n) != n} | set(GARBLED)
+    clash = sorted(n for n in own if plain(n) in names and homes.get(n, set()) & homes[plain(n)])
     if clash:
         print("two names of one file would become one:", *clash, sep="\n  ")
         raise SystemExit(1)

@@ -211,7 +211,7 @@ module _ (extended index : ℕ) where
       sym (take-append-drop start image) ∙ rw (numbers_none (take d (marks ws)) (b - g) b (omega (arith, marks_few ws d few))) at inv
 
 -- every need of link
-pub ruleset link-laws = (link_below, link_end, rules)
+pub ruleset link_laws = (link_below, link_end, rules)
 
 -- every need of write_free_list, but its turn
-pub ruleset Chain-laws = (gap_next, chain_start, chain_first, chain_end, rules)
+pub ruleset chain_laws = (gap_next, chain_start, chain_first, chain_end, rules)

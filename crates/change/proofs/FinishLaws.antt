@@ -36,7 +36,7 @@ use Rattle.placing.specs.Spread.{Within}
 use Rattle.moves.specs.Moved.{noted, starts, freed}
 use Rattle.target.specs.declared.Target.{Target}
 use Rattle.target.specs.Told.{entries_start, entries_part, TargetTold}
-use Rattle.target.proofs.Laws.{Told-blocks}
+use Rattle.target.proofs.Laws.{told_blocks}
 use Rattle.encoder.specs.Limits.{longest_body}
 use Rattle.parts.specs.Part.{Measured}
 use Rattle.parts.specs.Merge.{entries_left, changed_entries}
@@ -204,7 +204,7 @@ module _ (o : List ℕ) (x : Overview) (a : AcceptedImage o x) (start : ℕ) (he
 
     -- and its blocks among those of all runs
     pub blocks_short : (b : ℕ) → b ≡ get (layout_named o).nblock2 o → t.size ≤ b
-    blocks_short b p = omega (arith, p, blocks_counted o x a, Told-blocks x.form.width order there_index there_area e h a.image.runs t told)
+    blocks_short b p = omega (arith, p, blocks_counted o x a, told_blocks x.form.width order there_index there_area e h a.image.runs t told)
 
     -- so the change is measured
     pub drafted : (body : List ℕ) (fresh there : Bool) (from b g parts bytes blocks : ℕ) → t.block + t.size ≤ x.d → from ≡ entries_start t.block t.size

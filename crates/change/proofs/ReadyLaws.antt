@@ -44,7 +44,7 @@ use Rattle.placing.specs.Spread.{spread, Marked}
 use Rattle.placing.proofs.SpreadLaws.{place_grows}
 use Rattle.target.specs.declared.Target.{Target}
 use Rattle.target.specs.Told.{NoRun, OneRun, TargetTold}
-use Rattle.target.proofs.Laws.{Known, runs_known, told_before, told_after, Told-blocks}
+use Rattle.target.proofs.Laws.{Known, runs_known, told_before, told_after, told_blocks}
 use Rattle.moves.specs.Moved.{noted, starts, size_at, freed, tabled}
 use Rattle.plan.specs.Growing.{Growing}
 use Rattle.plan.proofs.Grown.{Told, freed_between, index_still, index_grown, noted_both, index_over}
@@ -327,7 +327,7 @@ module _ (o : List ℕ) (x : Overview) (a : AcceptedImage o x) where
             arith,
             m.2,
             blocks_counted,
-            Told-blocks w fm.order index area elements h i.runs t k,
+            told_blocks w fm.order index area elements h i.runs t k,
             change_blocks F i h (edited below h body fresh),
             ap (λ (y : Plan). run_blocks y.runs) planned_is,
           )

@@ -55,7 +55,7 @@ pub number_past : (numbers : List ℕ) (g b : ℕ) → g ≤ b → b - g ≡ num
 number_past numbers g b h = sym (number_kept numbers g b h)
 
 -- every need of number_after
-pub ruleset number-laws = (number_low, number_high, number_past, rules)
+pub ruleset number_laws = (number_low, number_high, number_past, rules)
 
 -- ---- block numbers of any width
 module _ (w : ℕ) where
@@ -251,4 +251,4 @@ module _ (w : ℕ) where
       ∙ ap₂ (λ (x y : List ℕ). x ++ y) (element_stands index at small p h) (ap (λ (k : ℕ). bytes_at k (elements_end w index e n - e) index) q ∙ elements_stand index e n small i)
 
 -- every need of copy_elements
-pub ruleset copy-laws = (inside_start, here_end, here_next, here_fits, room_turn, room_end, copy_turn, copy_end, rules)
+pub ruleset copy_laws = (inside_start, here_end, here_next, here_fits, room_turn, room_end, copy_turn, copy_end, rules)

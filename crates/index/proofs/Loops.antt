@@ -217,6 +217,6 @@ module _ (w o : ℕ) where
     next_end z g = here_end w index (end + 1) (left - 1) z next_inside g (omega arith)
 
 -- every need of read_elements, and of concerned
-pub ruleset elements-laws = (elements_start, told_broken, end_short, end_dirty, end_reached, number_cut, zero_missing, headword_over, headword_low, end_turn, rules)
+pub ruleset elements_laws = (elements_start, told_broken, end_short, end_dirty, end_reached, number_cut, zero_missing, headword_over, headword_low, end_turn, rules)
 
-pub ruleset concerned-laws = (inside_start, here_end, next_inside, next_start, next_end, concerned_last, concerned_found, concerned_turn, rules)
+pub ruleset concerned_laws = (inside_start, here_end, next_inside, next_start, next_end, concerned_last, concerned_found, concerned_turn, rules)

@@ -381,7 +381,7 @@ module _ (s : List ℕ) (f : Form) (n d : ℕ) (frame : frame_from (format_of s)
             marked = rw l g;
           }
 
-pub ruleset settle-laws = (settle_many, settle_length, settle_gap, settle_words, settle_blocks, length_marks, rules)
+pub ruleset settle_laws = (settle_many, settle_length, settle_gap, settle_words, settle_blocks, length_marks, rules)
 
 -- what the answer tells of the image, for the crates above
 module _ (s : List ℕ) (ms : List Bool) (r : Inspected) (told : Told s ms r) where

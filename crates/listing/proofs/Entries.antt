@@ -165,7 +165,7 @@ module _ (below : HeadwordOrder) (run word : List ℕ) (len pos b n : ℕ) (out�
         pub printing_next : (a : ℕ) → a ≡ get_or run (z + 1) 0 → (at' : ℕ) (out' : List ℕ) → at' ≡ at + 30 + length (take l word')
             → out' ≡ write at (fields_line (line_numbers ordinal b n a (e - (z + 2))) (take l word')) out
             → length out' ≡ length out → Printing below run word' l e b n out₀ out' start at' k (ordinal + 1)
-        printing_next a told-attribute at' out' ends stored same' =
+        printing_next a told_attribute at' out' ends stored same' =
             record {
               inside = told.2;
               buffer = same ∙ v.buffer;
@@ -176,5 +176,5 @@ module _ (below : HeadwordOrder) (run word : List ℕ) (len pos b n : ℕ) (out�
               few = omega (arith, v.few);
               coming =
                   λ r i j h. coming_next below run word len pos r out₀ out start at k ordinal (v.coming r i j h) st word' step l z e q
-                  told.1 told.2 (omega (arith, told.0, told.1)) at' out' (omega (arith, v.bound, v.inside, v.kept)) (rw (i, j, ← told-attribute) stored) ends;
+                  told.1 told.2 (omega (arith, told.0, told.1)) at' out' (omega (arith, v.bound, v.inside, v.kept)) (rw (i, j, ← told_attribute) stored) ends;
             }

@@ -128,10 +128,10 @@ module _ (w : ℕ) where
               → printed.at ≤ at + 56 * length (run_slice area b size) → (end : ℕ) → end ≡ element_end w index place
               → Walking below index area elements D out₀ out' start printed.at printed.next (end + 1) (left - 1)
           unfolding others
-          walking_next out' printed printed-run few' same most end z =
+          walking_next out' printed printed_run few' same most end z =
               let r : Run = first.0 in
               let rs : List Run = first.1 in
-              let (u, ends', c) = printed-run r its_block its_size its_entries in
+              let (u, ends', c) = printed_run r its_block its_size its_entries in
               let x : List ℕ = entry_lines ordinal r r.entries in
               let y : List ℕ = run_lines printed.next rs in
               let all' : run_lines ordinal v.rest ≡ x ++ y = ap (run_lines ordinal) first.2 ∙ lines_cons ordinal r rs ∙ rw c refl in

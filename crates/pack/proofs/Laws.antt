@@ -111,7 +111,7 @@ need_some (suc elements) bytes h =
     ap (λ (k : ℕ). k / 256) e
 
 -- every need of need
-pub ruleset need-laws = (need_none, need_some, rules)
+pub ruleset need_laws = (need_none, need_some, rules)
 
 -- ---- write_runs
 -- the runs from `at` on are still to be written: their elements from `out` on, they from block b on
@@ -300,4 +300,4 @@ module _ (width order extended : ℕ) where
   fit_front index area elements d front m long v = v.index_room
 
 -- the needs of write_runs that no law of Underway answers
-pub ruleset write-laws = (inside_start, here_end, fit_front, rules)
+pub ruleset write_laws = (inside_start, here_end, fit_front, rules)

@@ -245,9 +245,9 @@ module _ (below : HeadwordOrder) (a : Entry) where
             let up : below a.headword e.headword ≡ true = comparison_above below e.headword a.headword q in
             let every : All (λ d. below a.headword d.headword ≡ true) es
             = all_map _ _ (λ d r. order.transitive a.headword e.headword d.headword up r) es (headwords_above e.headword es h) in
-            let none-lower : filter lower es ≡ [] = filter_nothing lower es (all_map _ _ (λ d r. one_way below order a.headword d.headword r) es every) in
+            let none_lower : filter lower es ≡ [] = filter_nothing lower es (all_map _ _ (λ d r. one_way below order a.headword d.headword r) es every) in
             merge_enters e es q
-            ∙ rw (filter_no lower e es (comparison_above_not below e.headword a.headword q), filter_yes upper e es up, none-lower, filter_every upper es every, merge_stays es every)
+            ∙ rw (filter_no lower e es (comparison_above_not below e.headword a.headword q), filter_yes upper e es up, none_lower, filter_every upper es every, merge_stays es every)
 
 -- a new entry that comes next, alone or before one above it
 module _ (below : HeadwordOrder) (a : Entry) (es : List Entry) where

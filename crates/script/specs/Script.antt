@@ -70,7 +70,7 @@ code_of (ok removed) = 0
 -- the working slice after a call: a reading call is not lent it; "all zero after each changing call, except that 1 and 2 leave it untouched"
 unfoldable pub work_left : Call → Outcome Observed → List ℕ → List ℕ
 work_left (look_up_call h out) o work = work
-work_left (walk_call above h out-headword out-text) o work = work
+work_left (walk_call above h out_headword out_text) o work = work
 work_left (insert_call other h a t) o work = work_after o work
 work_left (delete_call other h) o work = work_after o work
 work_left (optimise_call other) o work = work_after o work

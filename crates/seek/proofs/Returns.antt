@@ -440,7 +440,7 @@ module _ (w : ℕ) where
           same = ap answers (e₁ ∙ ap (λ (l : List Run). r ∷ l) e₂) ∙ s;
         }
 
-    module _ (elements : ℕ) (some-elements : elements ≡ 0 → ⊥) (c : Place) (concerned : c ≡ concerned_from w low index h 0 (elements - 1)) (some_left : 1 ≤ c.left) where
+    module _ (elements : ℕ) (some_elements : elements ≡ 0 → ⊥) (c : Place) (concerned : c ≡ concerned_from w low index h 0 (elements - 1)) (some_left : 1 ≤ c.left) where
       -- the run concerned and those behind it have the answer
       reached : (rs : List Run) → runs_from low D area (elements_at w index 0 elements) ≡ ok rs → Reached rs c.at c.left
       reached rs r =
@@ -476,14 +476,14 @@ module _ (w : ℕ) where
             let s : spot_entry area word Spot.Absent ≡ answer d.run.entries = rw y at (f d.behind d.run d.read) in
             g d.others d.read_others ∙ sym (d.same ∙ rw (← s))
 
-  module _ (order : ℕ) (above : Bool) (h area index : List ℕ) (elements : ℕ) (some-elements : elements ≡ 0 → ⊥) (c : Place)
+  module _ (order : ℕ) (above : Bool) (h area index : List ℕ) (elements : ℕ) (some_elements : elements ≡ 0 → ⊥) (c : Place)
       (concerned : c ≡ concerned_from w (below_of order) index h 0 (elements - 1)) (some_left : 1 ≤ c.left) where
     -- the run concerned has the answer
     pub seek_here : (word : List ℕ) (found : Spot) (k z e : ℕ) → found ≡ Spot.At k z e
         → FoundAtAll (below_of order) (below_of order) above h area (element_at w index c.at) word found
         → SoughtAll (below_of order) (below_of order) above h area (elements_at w index 0 elements) word (Spot.At k z e)
     seek_here word found k z e y f D long =
-        sought_here (below_of order) (order_of order) above h D area index elements some-elements c concerned some_left word found (f D long) k z e y
+        sought_here (below_of order) (order_of order) above h D area index elements some_elements c concerned some_left word found (f D long) k z e y
 
     -- the next one has it
     pub seek_next : (word' : List ℕ) (a : Spot)
@@ -491,4 +491,4 @@ module _ (w : ℕ) where
         → (word : List ℕ) (found : Spot) → FoundAtAll (below_of order) (below_of order) above h area (element_at w index c.at) word found
         → found ≡ Spot.Absent → SoughtAll (below_of order) (below_of order) above h area (elements_at w index 0 elements) word' a
     seek_next word' a g word found f y D long =
-        sought_next (below_of order) (order_of order) above h D area index elements some-elements c concerned some_left word found (f D long) y word' a (g D long)
+        sought_next (below_of order) (order_of order) above h D area index elements some_elements c concerned some_left word found (f D long) y word' a (g D long)

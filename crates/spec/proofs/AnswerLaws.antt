@@ -62,36 +62,36 @@ module _ (s : List ℕ) (L : ℕ) (i : Image) (got : image_in s L ≡ ok i) wher
       go none none = refl
       go none (some e) = ap (λ (x : List ℕ). ok (text_found (attribute e) x (length (text e)))) (written_front (text e) out (length (text e)) refl)
 
-  short_entry : (out-headword out-text : List ℕ) (o : Option Entry)
-      → elim o [ none ↦ false | some e ↦ ltb (length out-headword) (length e.headword) || ltb (length out-text) (length (text e)) ] ≡ short_for_entry out-headword out-text o
+  short_entry : (out_headword out_text : List ℕ) (o : Option Entry)
+      → elim o [ none ↦ false | some e ↦ ltb (length out_headword) (length e.headword) || ltb (length out_text) (length (text e)) ] ≡ short_for_entry out_headword out_text o
   unfolding short_for_entry too_short
-  short_entry out-headword out-text none = refl
-  short_entry out-headword out-text (some e) = refl
+  short_entry out_headword out_text none = refl
+  short_entry out_headword out_text (some e) = refl
 
-  walk_verdict : (above : Bool) (h out-headword out-text : List ℕ)
-      → walk_entry s L above h out-headword out-text
-      ≡ verdict (first_row (rows s i (entries_of i) (walk_call above h out-headword out-text))) (successor i.frame.format.below above h (entries_of i))
+  walk_verdict : (above : Bool) (h out_headword out_text : List ℕ)
+      → walk_entry s L above h out_headword out_text
+      ≡ verdict (first_row (rows s i (entries_of i) (walk_call above h out_headword out_text))) (successor i.frame.format.below above h (entries_of i))
   unfolding walk_entry walk_in entry_fitted start_ok rows ◌if◌
-  walk_verdict above h out-headword out-text =
+  walk_verdict above h out_headword out_text =
       let found : Option Entry = successor i.frame.format.below above h (entries_of i) in
-      rw (got, short_entry out-headword out-text found) (rows_verdict (rows s i (entries_of i) (walk_call above h out-headword out-text)) found)
+      rw (got, short_entry out_headword out_text found) (rows_verdict (rows s i (entries_of i) (walk_call above h out_headword out_text)) found)
 
   -- what is observed of a walk
-  pub walk_observed : (above : Bool) (h out-headword out-text : List ℕ)
-      → (perform s L (walk_call above h out-headword out-text)).observed
-      ≡ expected (first_row (rows s i (entries_of i) (walk_call above h out-headword out-text))) (tell_entry (successor i.frame.format.below above h (entries_of i)))
+  pub walk_observed : (above : Bool) (h out_headword out_text : List ℕ)
+      → (perform s L (walk_call above h out_headword out_text)).observed
+      ≡ expected (first_row (rows s i (entries_of i) (walk_call above h out_headword out_text))) (tell_entry (successor i.frame.format.below above h (entries_of i)))
   unfolding perform walk walk_result observed_entry expected tell_entry
-  walk_observed above h out-headword out-text =
-      rw (walk_verdict above h out-headword out-text) (go (first_row (rows s i (entries_of i) (walk_call above h out-headword out-text))) (successor i.frame.format.below above h (entries_of i)))
+  walk_observed above h out_headword out_text =
+      rw (walk_verdict above h out_headword out_text) (go (first_row (rows s i (entries_of i) (walk_call above h out_headword out_text))) (successor i.frame.format.below above h (entries_of i)))
     where
       go : (n : Option ℕ) (o : Option Entry)
-          → observed_entry (walk_result out-headword out-text (verdict n o)).answer (walk_result out-headword out-text (verdict n o)).headword (walk_result out-headword out-text (verdict n o)).text
+          → observed_entry (walk_result out_headword out_text (verdict n o)).answer (walk_result out_headword out_text (verdict n o)).headword (walk_result out_headword out_text (verdict n o)).text
           ≡ expected n (tell_entry o)
       go (some n) o = refl
       go none none = refl
       go none (some e) =
           ap₂ (λ (x y : List ℕ). ok (entry_found x y (attribute e) (length e.headword) (length (text e))))
-          (written_front e.headword out-headword (length e.headword) refl) (written_front (text e) out-text (length (text e)) refl)
+          (written_front e.headword out_headword (length e.headword) refl) (written_front (text e) out_text (length (text e)) refl)
 
   -- rows 2 and 11 of a changing call, then what follows
   changes : {A : Type 0} (work : List ℕ) (k : Image → Outcome A)

@@ -132,7 +132,7 @@ module _ (s : List ℕ) (L : ℕ) (i : Image) (got : image_in s L ≡ ok i) (sma
   none_given_up : (c : Call) → Zeroed c s L L
   unfolding Zeroed bytes_at zeros
   none_given_up (look_up_call h out) = tt
-  none_given_up (walk_call above h out-headword out-text) = tt
+  none_given_up (walk_call above h out_headword out_text) = tt
   none_given_up (insert_call work h a t) = tt
   none_given_up (delete_call work h) = tt
   none_given_up (optimise_call work) = let z : L - L ≡ 0 = omega arith in (omega arith, rw z)
@@ -175,7 +175,7 @@ module _ (s : List ℕ) (L : ℕ) (i : Image) (got : image_in s L ≡ ok i) (sma
       go false = refl
 
   -- a walk
-  walk_next : (above : Bool) (h out-headword out-text : List ℕ) → Next (walk_call above h out-headword out-text) (perform s L (walk_call above h out-headword out-text))
+  walk_next : (above : Bool) (h out_headword out_text : List ℕ) → Next (walk_call above h out_headword out_text) (perform s L (walk_call above h out_headword out_text))
   unfolding perform list_answer slice_after list_step list_after is_change
   walk_next above h x y =
       idle (walk_call above h x y) _ (walk_observed s L i got above h x y) (slice_same (is_refused (perform s L (walk_call above h x y)).observed))
@@ -186,7 +186,7 @@ module _ (s : List ℕ) (L : ℕ) (i : Image) (got : image_in s L ≡ ok i) (sma
       go false = refl
 
   -- A change that is placed: the plan of n index blocks, D data blocks and the runs rs, and the slice t afterwards.
-  module _ (n D : ℕ) (rs : List Run) (plan-sound : PlanSound i.frame.format n D rs) (room : plan_full s (plan_of i.frame.format n D rs) ≡ false) where
+  module _ (n D : ℕ) (rs : List Run) (plan_sound : PlanSound i.frame.format n D rs) (room : plan_full s (plan_of i.frame.format n D rs) ≡ false) where
     -- the plan
     abbrev plan : Plan
     plan = plan_of i.frame.format n D rs
@@ -196,7 +196,7 @@ module _ (s : List ℕ) (L : ℕ) (i : Image) (got : image_in s L ≡ ok i) (sma
     new = block_position i.frame.format.extended n D
 
     new_inside : new ≤ length s
-    new_inside = written_inside i.frame.format law n D rs s plan-sound kind options room
+    new_inside = written_inside i.frame.format law n D rs s plan_sound kind options room
 
     -- it is an accepted image of the slice
     module _ (t : List ℕ) (size : length t ≡ length s) (front : take new t ≡ take new (plan_written plan s)) where
@@ -211,7 +211,7 @@ module _ (s : List ℕ) (L : ℕ) (i : Image) (got : image_in s L ≡ ok i) (sma
       new_read =
           let F : Format = i.frame.format in
           let u : List ℕ = take new (plan_written plan s) in
-          let back : image_by F u ≡ ok new_image = plan_back F law n D rs s plan-sound kind options room in
+          let back : image_by F u ≡ ok new_image = plan_back F law n D rs s plan_sound kind options room in
           let kept : kind_ok F.layout u ≡ true = (frame_fits F u new_image.frame (image_told F u new_image back).frame).kind in
           let same : format_of u ≡ F = format_stays (take L s) u (subst (λ (G : Format). kind_ok G.layout u ≡ true) format_is kept) ∙ sym format_is in
           rw (new_slice, front) (subst (λ (G : Format). image_by G u ≡ ok new_image) (sym same) back)
@@ -395,7 +395,7 @@ module _ (s : List ℕ) (L : ℕ) (i : Image) (got : image_in s L ≡ ok i) (sma
   -- any call
   next : (c : Call) → Next c (perform s L c)
   next (look_up_call h out) = look_up_next h out
-  next (walk_call above h out-headword out-text) = walk_next above h out-headword out-text
+  next (walk_call above h out_headword out_text) = walk_next above h out_headword out_text
   next (insert_call work h a t) = insert_next work h a t
   next (delete_call work h) = delete_next work h
   next (optimise_call work) = optimise_next work

@@ -38,13 +38,13 @@ pub record LookUpRows (s : List ℕ) (L : ℕ) (h out : List ℕ) : Type 0 where
   pub no_other : (n : ℕ) → (look_up s L h out).answer ≡ refused n → n ∈ image_numbers ++ 12 ∷ 14 ∷ []
 
 -- walk
-pub record WalkRows (s : List ℕ) (L : ℕ) (above : Bool) (h out-headword out-text : List ℕ) : Type 0 where
-  pub image_rows : ImageRows s L (walk s L above h out-headword out-text).answer
-  pub row_12 : ((walk s L above h out-headword out-text).answer ≡ refused 12) ↔ ((i : Image) × (image_in s L ≡ ok i) × (start_ok h ≡ false))
-  pub row_14 : ((walk s L above h out-headword out-text).answer ≡ refused 14)
+pub record WalkRows (s : List ℕ) (L : ℕ) (above : Bool) (h out_headword out_text : List ℕ) : Type 0 where
+  pub image_rows : ImageRows s L (walk s L above h out_headword out_text).answer
+  pub row_12 : ((walk s L above h out_headword out_text).answer ≡ refused 12) ↔ ((i : Image) × (image_in s L ≡ ok i) × (start_ok h ≡ false))
+  pub row_14 : ((walk s L above h out_headword out_text).answer ≡ refused 14)
       ↔ ((i : Image) × (e : Entry) × (image_in s L ≡ ok i) × (start_ok h ≡ true) × (successor i.frame.format.below above h (entries_of i) ≡ some e)
-      × ((length out-headword < length e.headword) ⊎ (length out-text < length (text e))))
-  pub no_other : (n : ℕ) → (walk s L above h out-headword out-text).answer ≡ refused n → n ∈ image_numbers ++ 12 ∷ 14 ∷ []
+      × ((length out_headword < length e.headword) ⊎ (length out_text < length (text e))))
+  pub no_other : (n : ℕ) → (walk s L above h out_headword out_text).answer ≡ refused n → n ∈ image_numbers ++ 12 ∷ 14 ∷ []
 
 -- the numbers with which a changing call begins: row 2 comes behind row 1, row 11 behind what the image holds
 unfoldable pub change_numbers : List ℕ
@@ -91,7 +91,7 @@ pub record FirstNumbers : Type 0 where
   pub create_rows : (s : List ℕ) (k : NewFile) → CreateRows s k
   pub check_rows : (s : List ℕ) (L : ℕ) → CheckRows s L
   pub look_up_rows : (s : List ℕ) (L : ℕ) (h out : List ℕ) → T (are_bytes s) → LookUpRows s L h out
-  pub walk_rows : (s : List ℕ) (L : ℕ) (above : Bool) (h out-headword out-text : List ℕ) → T (are_bytes s) → WalkRows s L above h out-headword out-text
+  pub walk_rows : (s : List ℕ) (L : ℕ) (above : Bool) (h out_headword out_text : List ℕ) → T (are_bytes s) → WalkRows s L above h out_headword out_text
   pub insert_rows : (s : List ℕ) (L : ℕ) (work h : List ℕ) (a : ℕ) (t : List ℕ) → T (are_bytes s) → InsertRows s L work h a t
   pub delete_rows : (s : List ℕ) (L : ℕ) (work h : List ℕ) → T (are_bytes s) → DeleteRows s L work h
   pub optimise_rows : (s : List ℕ) (L : ℕ) (work : List ℕ) → T (are_bytes s) → OptimiseRows s L work

@@ -51,9 +51,9 @@ probe_holds q (checks L told) = bytes_equal (told_figures (check q.slice L)) tol
 probe_holds q (looks_up h out told out') =
     let r = look_up q.slice q.L h out in
     bytes_equal (told_text r.answer) told && bytes_equal r.text out'
-probe_holds q (walks above h out-h out-t told out-h' out-t') =
-    let r = walk q.slice q.L above h out-h out-t in
-    bytes_equal (told_entry r.answer) told && bytes_equal r.headword out-h' && bytes_equal r.text out-t'
+probe_holds q (walks above h out_h out_t told out_h' out_t') =
+    let r = walk q.slice q.L above h out_h out_t in
+    bytes_equal (told_entry r.answer) told && bytes_equal r.headword out_h' && bytes_equal r.text out_t'
 probe_holds q (keeps work c told work') =
     let r = step_with work q c in
     bytes_equal r.told told && bytes_equal r.slice q.slice && eqb r.L q.L && bytes_equal r.work work'

@@ -60,7 +60,7 @@ tell_removed (some e) = removed
 -- the sorted list's answer to a call that is not refused
 unfoldable pub list_answer : HeadwordOrder → Call → List Entry → Observed
 list_answer below (look_up_call h out) es = tell_text (lookup h es)
-list_answer below (walk_call above h out-headword out-text) es = tell_entry (successor below above h es)
+list_answer below (walk_call above h out_headword out_text) es = tell_entry (successor below above h es)
 list_answer below (insert_call work h a t) es = done
 list_answer below (delete_call work h) es = tell_removed (lookup h es)
 list_answer below (optimise_call work) es = done
@@ -68,7 +68,7 @@ list_answer below (optimise_call work) es = done
 -- the sorted list after a call that is not refused
 unfoldable pub list_after : HeadwordOrder → Call → List Entry → List Entry
 list_after below (look_up_call h out) es = es
-list_after below (walk_call above h out-headword out-text) es = es
+list_after below (walk_call above h out_headword out_text) es = es
 list_after below (insert_call work h a t) es = replace below (entry_of h a t) es
 list_after below (delete_call work h) es = remove h es
 list_after below (optimise_call work) es = es
@@ -105,9 +105,9 @@ observed_text (ok (some f)) out = ok (text_found f.attribute (take f.text_length
 
 -- headword and text are read from the output slices, as far as the answered lengths
 unfoldable pub observed_entry : Outcome (Option FoundEntry) → List ℕ → List ℕ → Outcome Observed
-observed_entry (refused n) out-headword out-text = refused n
-observed_entry (ok none) out-headword out-text = ok absent
-observed_entry (ok (some f)) out-headword out-text = ok (entry_found (take f.headword_length out-headword) (take f.text_length out-text) f.attribute f.headword_length f.text_length)
+observed_entry (refused n) out_headword out_text = refused n
+observed_entry (ok none) out_headword out_text = ok absent
+observed_entry (ok (some f)) out_headword out_text = ok (entry_found (take f.headword_length out_headword) (take f.text_length out_text) f.attribute f.headword_length f.text_length)
 
 -- "the L returned with it belongs to the image"
 unfoldable pub observed_done : Outcome ℕ → Outcome Observed
@@ -125,8 +125,8 @@ unfoldable pub perform : List ℕ → ℕ → Call → Performed
 perform s L (look_up_call h out) =
     let r = look_up s L h out in
     record { observed = observed_text r.answer r.text; image = s; length_after = L }
-perform s L (walk_call above h out-headword out-text) =
-    let r = walk s L above h out-headword out-text in
+perform s L (walk_call above h out_headword out_text) =
+    let r = walk s L above h out_headword out_text in
     record { observed = observed_entry r.answer r.headword r.text; image = s; length_after = L }
 perform s L (insert_call work h a t) =
     let r = insert s L work h a t in
@@ -171,8 +171,8 @@ short_for_text out (some e) = too_short out (text e)
 
 -- the same for a walk's two output slices
 unfoldable pub short_for_entry : List ℕ → List ℕ → Option Entry → Bool
-short_for_entry out-headword out-text none = false
-short_for_entry out-headword out-text (some e) = too_short out-headword e.headword || too_short out-text (text e)
+short_for_entry out_headword out_text none = false
+short_for_entry out_headword out_text (some e) = too_short out_headword e.headword || too_short out_text (text e)
 
 -- "an absent deletion places nothing"
 unfoldable pub is_there : Option Entry → Bool
@@ -198,9 +198,9 @@ rows s i es (look_up_call h out) =
     12 if not (headword_ok h)
     ∷ 14 if short_for_text out (lookup h es)
     ∷ []
-rows s i es (walk_call above h out-headword out-text) =
+rows s i es (walk_call above h out_headword out_text) =
     12 if not (leb (length h) 248 && no_zero h)
-    ∷ 14 if short_for_entry out-headword out-text (successor i.frame.format.below above h es)
+    ∷ 14 if short_for_entry out_headword out_text (successor i.frame.format.below above h es)
     ∷ []
 rows s i es (insert_call work h a t) =
     2 if too_short work s
@@ -230,7 +230,7 @@ expected (some n) x = refused n
 -- the image slice after a call that is not refused; a reading call and an absent deletion leave it as it is
 unfoldable pub slice_after : List ℕ → ℕ → Image → Call → List ℕ
 slice_after s L i (look_up_call h out) = s
-slice_after s L i (walk_call above h out-headword out-text) = s
+slice_after s L i (walk_call above h out_headword out_text) = s
 slice_after s L i (insert_call work h a t) = plan_written (insert_placing i h a t) s
 slice_after s L i (delete_call work h) = elim (lookup h (entries_of i)) [ none ↦ s | some e ↦ plan_written (delete_placing i h) s ]
 slice_after s L i (optimise_call work) = given_up_zeroed L (optimise_placing i) (plan_written (optimise_placing i) s)
@@ -243,7 +243,7 @@ slice_kept false s after = after
 -- "A successful change (an insertion, a deletion that removes, or any optimising not refused)": whether a call that is not refused is one
 unfoldable pub is_change : Call → List Entry → Bool
 is_change (look_up_call h out) es = false
-is_change (walk_call above h out-headword out-text) es = false
+is_change (walk_call above h out_headword out_text) es = false
 is_change (insert_call work h a t) es = true
 is_change (delete_call work h) es = is_there (lookup h es)
 is_change (optimise_call work) es = true
@@ -256,7 +256,7 @@ next_count false n = n
 -- "optimise zeroes what it gives up": from the new L to the old
 unfoldable pub Zeroed : Call → List ℕ → ℕ → ℕ → Type 0
 Zeroed (look_up_call h out) image new old = Unit {0}
-Zeroed (walk_call above h out-headword out-text) image new old = Unit {0}
+Zeroed (walk_call above h out_headword out_text) image new old = Unit {0}
 Zeroed (insert_call work h a t) image new old = Unit {0}
 Zeroed (delete_call work h) image new old = Unit {0}
 Zeroed (optimise_call work) image new old = (new ≤ old) × (bytes_at new (old - new) image ≡ zeros (old - new))
@@ -307,7 +307,7 @@ History below s L es (c ∷ cs) =
 -- "their arguments, and the lengths and contents of their other slices, are any": of bytes
 unfoldable pub call_bytes : Call → Bool
 call_bytes (look_up_call h out) = are_bytes h && are_bytes out
-call_bytes (walk_call above h out-headword out-text) = are_bytes h && are_bytes out-headword && are_bytes out-text
+call_bytes (walk_call above h out_headword out_text) = are_bytes h && are_bytes out_headword && are_bytes out_text
 call_bytes (insert_call work h a t) = are_bytes work && are_bytes h && ltb a 256 && are_bytes t
 call_bytes (delete_call work h) = are_bytes work && are_bytes h
 call_bytes (optimise_call work) = are_bytes work

@@ -489,4 +489,4 @@ module _ (w : ℕ) where
     pub walk_front : (word' : List ℕ) → length word' ≡ length word → len ≡ length (take len word')
     walk_front word' l = sym (length-take-le len word' (omega (arith, u.reading.buffer, u.reading.short)))
 
-pub ruleset runs-laws = (slice_count, walk_start, walk_done, walk_number, zero_behind, zero_inside, walk_seven, walk_eight, step_less, walk_broken, walk_high, walk_front, rules)
+pub ruleset runs_laws = (slice_count, walk_start, walk_done, walk_number, zero_behind, zero_inside, walk_seven, walk_eight, step_less, walk_broken, walk_high, walk_front, rules)

@@ -70,7 +70,7 @@ start_most b size = go (eqb size 0) refl
     go false e = let z = eqb-false size 0 e in omega (arith, z)
 
 -- every need of entries_start
-pub ruleset start-laws = (start_none, start_some, rules)
+pub ruleset start_laws = (start_none, start_some, rules)
 
 -- ---- runs and their elements
 -- a run that was read by its own element
@@ -237,11 +237,11 @@ module _ (width order : ℕ) (index area h : List ℕ) (D elements : ℕ) (none 
       }
       )
 
-module _ (width order : ℕ) (index h : List ℕ) (elements : ℕ) (some-elements : elements ≡ 0 → ⊥) (all_inside : Inside width index 0 elements) (c : IndexPlace.Place)
+module _ (width order : ℕ) (index h : List ℕ) (elements : ℕ) (some_elements : elements ≡ 0 → ⊥) (all_inside : Inside width index 0 elements) (c : IndexPlace.Place)
     (concerned : c ≡ concerned_from width (below_of order) index h 0 (elements - 1)) (some_left : 1 ≤ c.left) where
   -- where its element stands among all
   here : Reached width (below_of order) index h elements c.at c.left
-  here = rw concerned (reached width (below_of order) index h elements some-elements)
+  here = rw concerned (reached width (below_of order) index h elements some_elements)
 
   -- no more elements are from it on than there are
   pub left_fewer : c.left ≤ elements
@@ -364,7 +364,7 @@ module _ (width order : ℕ) (index h : List ℕ) (elements : ℕ) (some-element
     pub told_some : (end : ℕ) → end ≡ element_end width index c.at → (blocks : ℕ) → size ≡ Size.Blocks blocks
         → (rs : List Run) → runs_from (below_of order) D area (elements_at width index 0 elements) ≡ ok rs
         → TargetTold width order index area elements h rs (record { at = c.at; end = end + 1; before = elements - c.left; after = c.left - 1; block = b; size = blocks })
-    told_some end ends blocks sized-so rs read =
+    told_some end ends blocks sized_so rs read =
         record {
           before = rw t (sym d.before_is);
           after = rw (t, ends) (sym d.after_is);
@@ -408,7 +408,7 @@ module _ (width order : ℕ) (index h : List ℕ) (elements : ℕ) (some-element
   end_inside end e = omega (arith, inside_end width index c.at c.left inside_parts.1 some_left)
 
 -- the numbers of find_run
-pub ruleset run-laws = (left_fewer, after_fewer, others_fewer, end_inside, inside_start, rules)
+pub ruleset run_laws = (left_fewer, after_fewer, others_fewer, end_inside, inside_start, rules)
 
 -- ---- for the crates above
 -- the blocks of runs taken apart at one

@@ -1,10 +1,10 @@
 -- `link` meets its contract.
-use Rattle.chain.proofs.Laws.{link-laws}
+use Rattle.chain.proofs.Laws.{link_laws}
 use borrow.Author.Rules.{rules}
 use Rattle.chain.proofs.link.Goals as goal
 
 pub returns-then-b-d : goal.returns-then-b-d
-returns-then-b-d c = search link-laws
+returns-then-b-d c = search link_laws
 
 pub returns : goal.returns
-returns c = search link-laws
+returns c = search link_laws

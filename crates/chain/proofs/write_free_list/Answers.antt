@@ -7,42 +7,42 @@ use lib.ListN.{length, take, drop}
 use Rattle.spec.specs.Header.{block_position}
 use Rattle.marks.specs.Marks.{marks, gap}
 use Rattle.chain.specs.Numbers.{numbers}
-use Rattle.chain.proofs.Laws.{image_written, numbers_left, gap_next, chain_turn, Chain-laws}
+use Rattle.chain.proofs.Laws.{image_written, numbers_left, gap_next, chain_turn, chain_laws}
 use borrow.Author.Rules.{rules}
 use Rattle.chain.proofs.write_free_list.Goals as goal
 
 pub next_marked-first-requires : goal.next_marked-first-requires
-next_marked-first-requires c = search Chain-laws
+next_marked-first-requires c = search chain_laws
 
 pub loop-b-init : goal.loop-b-init
-loop-b-init c = search Chain-laws
+loop-b-init c = search chain_laws
 
 pub overflow_add-b : goal.overflow_add-b
-overflow_add-b c = search Chain-laws
+overflow_add-b c = search chain_laws
 
 pub next_marked-next-requires : goal.next_marked-next-requires
-next_marked-next-requires c = search Chain-laws
+next_marked-next-requires c = search chain_laws
 
 pub overflow_sub-b : goal.overflow_sub-b
-overflow_sub-b c = search Chain-laws
+overflow_sub-b c = search chain_laws
 
 pub position-at-requires : goal.position-at-requires
-position-at-requires c = search Chain-laws
+position-at-requires c = search chain_laws
 
 pub write_u16-requires : goal.write_u16-requires
-write_u16-requires c = search Chain-laws
+write_u16-requires c = search chain_laws
 
 pub overflow_add-at : goal.overflow_add-at
-overflow_add-at c = search Chain-laws
+overflow_add-at c = search chain_laws
 
 pub link-requires : goal.link-requires
-link-requires c = search Chain-laws
+link-requires c = search chain_laws
 
 pub write_u32-requires : goal.write_u32-requires
-write_u32-requires c = search Chain-laws
+write_u32-requires c = search chain_laws
 
 pub loop-b-smaller : goal.loop-b-smaller
-loop-b-smaller c = search Chain-laws
+loop-b-smaller c = search chain_laws
 
 pub loop-b-preserved : goal.loop-b-preserved
 loop-b-preserved c =
@@ -59,10 +59,10 @@ loop-b-preserved c =
     )
 
 pub link-requires-2 : goal.link-requires-2
-link-requires-2 c = search Chain-laws
+link-requires-2 c = search chain_laws
 
 pub shape_of-image : goal.shape_of-image
-shape_of-image c = search Chain-laws
+shape_of-image c = search chain_laws
 
 pub returns : goal.returns
-returns c = search Chain-laws
+returns c = search chain_laws

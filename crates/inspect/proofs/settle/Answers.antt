@@ -1,17 +1,17 @@
 use native.Mathlib.Omega.{arith}
 use Rattle.marks.proofs.Laws.{length_marks}
-use Rattle.inspect.proofs.Laws.{settle_words, settle_blocks, settle_sound, settle-laws}
+use Rattle.inspect.proofs.Laws.{settle_words, settle_blocks, settle_sound, settle_laws}
 use borrow.Author.Rules.{rules}
 use Rattle.inspect.proofs.settle.Goals as goal
 
 pub returns-then-d-blocks : goal.returns-then-d-blocks
-returns-then-d-blocks c = search settle-laws
+returns-then-d-blocks c = search settle_laws
 
 pub returns-then-not-read_free_list : goal.returns-then-not-read_free_list
-returns-then-not-read_free_list c = search settle-laws
+returns-then-not-read_free_list c = search settle_laws
 
 pub returns-then-next_unmarked-d : goal.returns-then-next_unmarked-d
-returns-then-next_unmarked-d c = search settle-laws
+returns-then-next_unmarked-d c = search settle_laws
 
 pub returns-then-nword-v : goal.returns-then-nword-v
 returns-then-nword-v c =

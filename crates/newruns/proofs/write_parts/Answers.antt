@@ -55,7 +55,7 @@ pub place-b-requires : goal.place-b-requires
 place-b-requires c = (omega arith, omega (arith, planning_under _ _ _ _ _ _ _ _ c.loop-form.invariant.9.planning), omega arith)
 
 pub overflow_add-b : goal.overflow_add-b
-overflow_add-b c = omega (arith, planning_under _ _ _ _ _ _ _ _ c.loop-form.invariant.9.planning, c.loop-form.invariant.7, c.good.1.0)
+overflow_add-b c = omega (arith, planning_under _ _ _ _ _ _ _ _ c.loop-form.invariant.9.planning, c.loop-form.invariant.7)
 
 pub position-start-requires : goal.position-start-requires
 position-start-requires c =
@@ -70,7 +70,7 @@ position-start-requires c =
           c.encode_part-p.ensures.used_value c.if-p-eq0.false _ c.encode_part-p.ensures.cursor_after _ _ _ _ _ _ _
           c.run_blocks-size.ensures.value c.place-b.ensures.value refl refl _ _ _ c.loop-form.invariant.9.planning),
     ) in
-    omega (arith, run_fits, c.good.1.0)
+    omega (arith, run_fits)
 
 pub slice_bounds-write_run-count : goal.slice_bounds-write_run-count
 slice_bounds-write_run-count c =

@@ -1,10 +1,10 @@
 -- The number of blocks by the two cases of the code.
-use Rattle.pack.proofs.Laws.{need-laws}
+use Rattle.pack.proofs.Laws.{need_laws}
 use borrow.Author.Rules.{rules}
 use Rattle.pack.proofs.need.Goals as goal
 
 pub returns-then-elements-eq0 : goal.returns-then-elements-eq0
-returns-then-elements-eq0 c = search need-laws
+returns-then-elements-eq0 c = search need_laws
 
 pub returns : goal.returns
-returns c = search need-laws
+returns c = search need_laws

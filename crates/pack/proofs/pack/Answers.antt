@@ -14,17 +14,6 @@ use Rattle.pack.proofs.Optimised.{old_whole, end_short, index_fewer, index_holds
 use borrow.Author.Rules.{rules}
 use Rattle.pack.proofs.pack.Goals as goal
 
--- the old image is of bytes
-bytes : (c : goal.After-shared_slice_known-1) (k : ℕ) → get_or c.args.old.now k 0 < 256
-bytes c k = omega (arith, c.type_inv.old k)
-
--- the form of the old image, and its elements
-abbrev old-form : goal.After-need-m → Form
-old-form c = c.args.v.form
-
-abbrev old_elements : goal.After-need-m → List Element
-old_elements c = elements_at (old-form c).width (index_cut (old-form c) c.args.old.now c.position-start.result) 0 c.nindex2-elements.result
-
 pub position-start-requires : goal.position-start-requires
 position-start-requires c =
     let long : block_position c.args.v.form.extended c.args.v.n c.args.v.d ≡ length c.args.old.now =
@@ -56,7 +45,7 @@ pub position-data-requires : goal.position-data-requires
 position-data-requires c =
     let fewer : c.need-m.result ≤ c.args.v.n =
       index_fewer _ _ c.requires.accepted_image c.requires.len.0 _ c.position-start.ensures _ c.nindex2-elements.ensures.value _ c.need-m.ensures
-    (bytes (goal.at.After-need-m c).After-shared_slice_known-1) in
+    (λ k. omega (arith, c.type_inv.old k)) in
     let long : block_position c.args.v.form.extended c.args.v.n c.args.v.d ≡ length c.args.old.now =
       old_whole _ _ c.requires.accepted_image c.requires.len.0 in
     omega (arith, fewer, long)
@@ -77,12 +66,12 @@ pub write_runs-out-requires : goal.write_runs-out-requires
 write_runs-out-requires c =
     let fewer : c.need-m.result ≤ c.args.v.n =
       index_fewer _ _ c.requires.accepted_image c.requires.len.0 _ c.position-start.ensures _ c.nindex2-elements.ensures.value _ c.need-m.ensures
-    (bytes (goal.at.After-need-m c).After-shared_slice_known-1) in
+    (λ k. omega (arith, c.type_inv.old k)) in
     let few : c.nblock2-blocks.result ≤ c.args.v.d =
-      blocks_fewer _ _ c.requires.accepted_image c.requires.len.0 (bytes (goal.at.After-nblock2-blocks c).After-shared_slice_known-1) _ c.nblock2-blocks.ensures.value in
+      blocks_fewer _ _ c.requires.accepted_image c.requires.len.0 (λ k. omega (arith, c.type_inv.old k)) _ c.nblock2-blocks.ensures.value in
     let long : block_position c.args.v.form.extended c.args.v.n c.args.v.d ≡ length c.args.old.now =
       old_whole _ _ c.requires.accepted_image c.requires.len.0 in
-    let holds : index_start (old-form c) + length (elements_bytes (old-form c).width (old_elements c)) ≤ area_start (old-form c) c.need-m.result =
+    let holds : index_start c.args.v.form + length (elements_bytes c.args.v.form.width (elements_at c.args.v.form.width (index_cut c.args.v.form c.args.old.now c.position-start.result) 0 c.nindex2-elements.result)) ≤ area_start c.args.v.form c.need-m.result =
       index_holds _ _ c.requires.accepted_image c.requires.len.0 _ c.position-start.ensures _ c.nindex2-elements.ensures.value _ c.need-m.ensures in
     let a = c.requires.accepted_image in let in_blocks = c.requires.len.0 in let here = c.position-start.ensures in let number = c.nindex2-elements.ensures.value in let g = blocks_counted _ _ a in_blocks _ c.nblock2-blocks.ensures.value in let less = fewer in record {
   width = (accepted_width _ _ a, accepted_inside _ _ a _ here _ number);
@@ -94,10 +83,10 @@ pub overflow_sub-data : goal.overflow_sub-data
 overflow_sub-data c =
     let fewer : c.need-m.result ≤ c.args.v.n =
       index_fewer _ _ c.requires.accepted_image c.requires.len.0 _ c.position-start.ensures _ c.nindex2-elements.ensures.value _ c.need-m.ensures
-    (bytes (goal.at.After-need-m c).After-shared_slice_known-1) in
+    (λ k. omega (arith, c.type_inv.old k)) in
     let long : block_position c.args.v.form.extended c.args.v.n c.args.v.d ≡ length c.args.old.now =
       old_whole _ _ c.requires.accepted_image c.requires.len.0 in
-    let holds : index_start (old-form c) + length (elements_bytes (old-form c).width (old_elements c)) ≤ area_start (old-form c) c.need-m.result =
+    let holds : index_start c.args.v.form + length (elements_bytes c.args.v.form.width (elements_at c.args.v.form.width (index_cut c.args.v.form c.args.old.now c.position-start.result) 0 c.nindex2-elements.result)) ≤ area_start c.args.v.form c.need-m.result =
       index_holds _ _ c.requires.accepted_image c.requires.len.0 _ c.position-start.ensures _ c.nindex2-elements.ensures.value _ c.need-m.ensures in
     omega (arith, holds, fewer, long)
 
@@ -105,10 +94,10 @@ pub fill_zero-requires : goal.fill_zero-requires
 fill_zero-requires c =
     let fewer : c.need-m.result ≤ c.args.v.n =
       index_fewer _ _ c.requires.accepted_image c.requires.len.0 _ c.position-start.ensures _ c.nindex2-elements.ensures.value _ c.need-m.ensures
-    (bytes (goal.at.After-need-m c).After-shared_slice_known-1) in
+    (λ k. omega (arith, c.type_inv.old k)) in
     let long : block_position c.args.v.form.extended c.args.v.n c.args.v.d ≡ length c.args.old.now =
       old_whole _ _ c.requires.accepted_image c.requires.len.0 in
-    let holds : index_start (old-form c) + length (elements_bytes (old-form c).width (old_elements c)) ≤ area_start (old-form c) c.need-m.result =
+    let holds : index_start c.args.v.form + length (elements_bytes c.args.v.form.width (elements_at c.args.v.form.width (index_cut c.args.v.form c.args.old.now c.position-start.result) 0 c.nindex2-elements.result)) ≤ area_start c.args.v.form c.need-m.result =
       index_holds _ _ c.requires.accepted_image c.requires.len.0 _ c.position-start.ensures _ c.nindex2-elements.ensures.value _ c.need-m.ensures in
     omega (arith, holds, fewer, long)
 
@@ -122,9 +111,9 @@ pub position-len-requires : goal.position-len-requires
 position-len-requires c =
     let fewer : c.need-m.result ≤ c.args.v.n =
       index_fewer _ _ c.requires.accepted_image c.requires.len.0 _ c.position-start.ensures _ c.nindex2-elements.ensures.value _ c.need-m.ensures
-    (bytes (goal.at.After-need-m c).After-shared_slice_known-1) in
+    (λ k. omega (arith, c.type_inv.old k)) in
     let few : c.nblock2-blocks.result ≤ c.args.v.d =
-      blocks_fewer _ _ c.requires.accepted_image c.requires.len.0 (bytes (goal.at.After-nblock2-blocks c).After-shared_slice_known-1) _ c.nblock2-blocks.ensures.value in
+      blocks_fewer _ _ c.requires.accepted_image c.requires.len.0 (λ k. omega (arith, c.type_inv.old k)) _ c.nblock2-blocks.ensures.value in
     let long : block_position c.args.v.form.extended c.args.v.n c.args.v.d ≡ length c.args.old.now =
       old_whole _ _ c.requires.accepted_image c.requires.len.0 in
     let countable : length c.args.old.now ≤ 18_446_744_073_709_551_615 =
@@ -135,9 +124,9 @@ pub overflow_sub-old : goal.overflow_sub-old
 overflow_sub-old c =
     let fewer : c.need-m.result ≤ c.args.v.n =
       index_fewer _ _ c.requires.accepted_image c.requires.len.0 _ c.position-start.ensures _ c.nindex2-elements.ensures.value _ c.need-m.ensures
-    (bytes (goal.at.After-need-m c).After-shared_slice_known-1) in
+    (λ k. omega (arith, c.type_inv.old k)) in
     let few : c.nblock2-blocks.result ≤ c.args.v.d =
-      blocks_fewer _ _ c.requires.accepted_image c.requires.len.0 (bytes (goal.at.After-nblock2-blocks c).After-shared_slice_known-1) _ c.nblock2-blocks.ensures.value in
+      blocks_fewer _ _ c.requires.accepted_image c.requires.len.0 (λ k. omega (arith, c.type_inv.old k)) _ c.nblock2-blocks.ensures.value in
     let long : block_position c.args.v.form.extended c.args.v.n c.args.v.d ≡ length c.args.old.now =
       old_whole _ _ c.requires.accepted_image c.requires.len.0 in
     let room : length c.args.old.now ≤ length c.write_counts.new.s =
@@ -149,9 +138,9 @@ pub fill_zero-requires-2 : goal.fill_zero-requires-2
 fill_zero-requires-2 c =
     let fewer : c.need-m.result ≤ c.args.v.n =
       index_fewer _ _ c.requires.accepted_image c.requires.len.0 _ c.position-start.ensures _ c.nindex2-elements.ensures.value _ c.need-m.ensures
-    (bytes (goal.at.After-need-m c).After-shared_slice_known-1) in
+    (λ k. omega (arith, c.type_inv.old k)) in
     let few : c.nblock2-blocks.result ≤ c.args.v.d =
-      blocks_fewer _ _ c.requires.accepted_image c.requires.len.0 (bytes (goal.at.After-nblock2-blocks c).After-shared_slice_known-1) _ c.nblock2-blocks.ensures.value in
+      blocks_fewer _ _ c.requires.accepted_image c.requires.len.0 (λ k. omega (arith, c.type_inv.old k)) _ c.nblock2-blocks.ensures.value in
     let long : block_position c.args.v.form.extended c.args.v.n c.args.v.d ≡ length c.args.old.now =
       old_whole _ _ c.requires.accepted_image c.requires.len.0 in
     let room : length c.args.old.now ≤ length c.write_counts.new.s =

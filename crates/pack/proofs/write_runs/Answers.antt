@@ -6,41 +6,40 @@ use Rattle.spec.specs.Header.{block_position}
 use Rattle.spec.specs.Index.{elements_bytes}
 use Rattle.index.specs.Elements.{elements_at, Inside}
 use Rattle.pack.specs.Packing.{RunsFit}
-use Rattle.pack.proofs.Laws.{Underway, underway_start, underway_broken, run_inside, run_fits, element_fits, underway_turn, underway_out, underway_end, write-laws}
+use Rattle.pack.proofs.Laws.{Underway, underway_start, underway_broken, run_inside, run_fits, element_fits, underway_turn, underway_out, underway_end, write_laws}
 use borrow.Author.Rules.{rules}
 use Rattle.index.proofs.Laws.{here_next}
 use native.Mathlib.Omega.{arith}
 use Rattle.pack.proofs.write_runs.Goals as goal
 
 pub overflow_add-front : goal.overflow_add-front
-overflow_add-front c = search write-laws
+overflow_add-front c = search write_laws
 
 pub loop-left-init : goal.loop-left-init
-loop-left-init c = (search write-laws, search write-laws, search write-laws, search write-laws, λ order fit. underway_start _ order _ _ _ _ _ _ _ _ fit)
+loop-left-init c = (search write_laws, search write_laws, search write_laws, search write_laws, λ order fit. underway_start _ order _ _ _ _ _ _ _ _ fit)
 
 pub element_end-end-requires : goal.element_end-end-requires
-element_end-end-requires c = search write-laws
+element_end-end-requires c = search write_laws
 
 pub overflow_add-next : goal.overflow_add-next
-overflow_add-next c = search write-laws
+overflow_add-next c = search write_laws
 
 pub read_number-from-requires : goal.read_number-from-requires
-read_number-from-requires c = search write-laws
+read_number-from-requires c = search write_laws
 
 pub run_size-size-requires : goal.run_size-size-requires
-run_size-size-requires c = search write-laws
+run_size-size-requires c = search write_laws
 
 pub returns-in-Broken : goal.returns-in-Broken
-returns-in-Broken c = let whole = absurd (
-    underway_broken _ _ _ _ _ _ _ _ _ _ _ _ _ _ _ (c.loop-left.invariant.4 _ c.requires.runs_fit) c.loop-left-test.true c.loop-left.invariant.3 c.requires.d_value.0 _
-    c.element_end-end.ensures.value _ c.read_number-from.ensures.value _ c.run_size-size.ensures.value c.in-Broken.is
-    ) in record { image_after = whole.0; value = whole.1.0; image_len_unchanged = whole.1.1 }
+returns-in-Broken c = absurd (underway_broken _ _ _ _ _ _ _ _ _ _ _ _ _ _ _ (c.loop-left.invariant.4 _ c.requires.runs_fit) c.loop-left-test.true
+    c.loop-left.invariant.3 c.requires.d_value.0 _ c.element_end-end.ensures.value _ c.read_number-from.ensures.value _
+    c.run_size-size.ensures.value c.in-Broken.is)
 
 pub position-to-requires : goal.position-to-requires
 position-to-requires c = omega (arith, c.loop-left.invariant.2)
 
 pub overflow_mul-from : goal.overflow_mul-from
-overflow_mul-from c = search write-laws
+overflow_mul-from c = search write_laws
 
 pub overflow_mul-blocks : goal.overflow_mul-blocks
 overflow_mul-blocks c =
@@ -62,16 +61,16 @@ copy-requires c =
     (omega (arith, fits-here, c.position-to.ensures), omega (arith, inside-here))
 
 pub overflow_add-at : goal.overflow_add-at
-overflow_add-at c = search write-laws
+overflow_add-at c = search write_laws
 
 pub slice_bounds-put_element-count : goal.slice_bounds-put_element-count
-slice_bounds-put_element-count c = search write-laws
+slice_bounds-put_element-count c = search write_laws
 
 pub slice_bounds-put_element-start : goal.slice_bounds-put_element-start
-slice_bounds-put_element-start c = search write-laws
+slice_bounds-put_element-start c = search write_laws
 
 pub slice_bounds-put_element-end : goal.slice_bounds-put_element-end
-slice_bounds-put_element-end c = search write-laws
+slice_bounds-put_element-end c = search write_laws
 
 pub put_element-out-requires : goal.put_element-out-requires
 put_element-out-requires c = (
@@ -94,10 +93,10 @@ overflow_add-b c =
     omega (arith, counted-here)
 
 pub overflow_sub-left : goal.overflow_sub-left
-overflow_sub-left c = search write-laws
+overflow_sub-left c = search write_laws
 
 pub loop-left-smaller : goal.loop-left-smaller
-loop-left-smaller c = search write-laws
+loop-left-smaller c = search write_laws
 
 pub loop-left-preserved : goal.loop-left-preserved
 loop-left-preserved c =
@@ -106,8 +105,8 @@ loop-left-preserved c =
       run_fits _ _ _ _ _ _ _ _ _ _ _ _ _ _ _ (c.loop-left.invariant.4 _ c.requires.runs_fit) c.loop-left-test.true c.loop-left.invariant.3 c.requires.d_value.0 _
     c.element_end-end.ensures.value _ c.read_number-from.ensures.value _ c.run_size-size.ensures.value _ c.in-Blocks.is in
     (
-  search write-laws,
-  search write-laws,
+  search write_laws,
+  search write_laws,
   omega (arith, fits-here),
   here_next _ _ _ _ _ c.loop-left.invariant.3 c.element_end-end.ensures.value c.loop-left-test.true,
   λ order fit.
@@ -117,7 +116,7 @@ loop-left-preserved c =
 )
 
 pub shape_of-image : goal.shape_of-image
-shape_of-image c = search write-laws
+shape_of-image c = search write_laws
 
 pub returns : goal.returns
 returns c = let v = c.loop-left.invariant.4 _ c.requires.runs_fit in record {

@@ -6,7 +6,7 @@ use Rattle.spec.specs.Header.{block_position}
 use Rattle.spec.specs.Index.{elements_bytes}
 use Rattle.index.specs.Elements.{elements_at, Inside}
 use Rattle.pack.specs.Packing.{RunsFit}
-use Rattle.pack.proofs.Laws.{Underway, underway_start, underway_broken, run_inside, run_fits, element_fits, underway_turn, underway_out, underway_end, write-laws}
+use Rattle.pack.proofs.Laws.{Underway, underway_start, underway_broken, run_inside, run_fits, element_fits, underway_turn, underway_out, underway_end, write_laws}
 use borrow.Author.Rules.{rules}
 use Rattle.index.proofs.Laws.{here_next}
 use native.Mathlib.Omega.{arith}

@@ -22,74 +22,18 @@ slice_bounds-is_equal-end c = search spot_front
 pub give_text-requires : goal.give_text-requires
 give_text-requires c = (search spot_body, search spot_area)
 
--- TODO
-returns-2 : tie.Need-returns-2
-returns-2 c i o =
-    look_up_same _ _ _ _ start.pre.0 start.pre.1.1 _ after-headword-ok.headword_ok.ensures else1.if1.left _ after-position.position.ensures _
-    after-nindex2.nindex2.ensures.0 _ _ after-seek.seek.ensures.0 i o _ _ _ after-found.found.given.1 _ after-is-equal.is-equal.ensures
-    then2.if2.taken _ _ after-give-text.give-text.ensures
-  where
-    after-give-text : tie.After-give-text
-    after-give-text = search
-
-    then2 : tie.Then2
-    then2 = search after-give-text
-
-    after-is-equal : tie.After-is-equal
-    after-is-equal = search then2
-
-    after-found : tie.After-found
-    after-found = search after-is-equal
-
-    after-seek : tie.After-seek
-    after-seek = search after-found
-
-    after-nindex2 : tie.After-nindex2
-    after-nindex2 = search after-seek
-
-    after-position : tie.After-position
-    after-position = search after-nindex2
-
-    else1 : tie.Else1
-    else1 = search after-position
-
-    after-headword-ok : tie.After-headword-ok
-    after-headword-ok = search else1
-
-    start : tie.Start
-    start = search after-headword-ok
 
 pub returns-in-Absent : goal.returns-in-Absent
 returns-in-Absent c =
-    look_up_absent _ _ _ _ c.requires.accepted_image c.requires.in_bounds.1 _ c.headword_ok.ensures c.if-not-headword_ok.false _ c.position-start.ensures _
+    look_up_absent _ _ _ _ c.requires.accepted_image c.requires.in_bounds.1 _ c.headword_ok.ensures (search) _ c.position-start.ensures _
     c.nindex2-elements.ensures.value _ _ c.seek-found.ensures.by_index (search)
 
--- TODO
-returns-4 : tie.Need-returns-4
-returns-4 c i o =
-    look_up_other _ _ _ _ start.pre.0 start.pre.1.1 _ after-headword-ok.headword_ok.ensures else1.if1.left _ after-position.position.ensures _
-    after-nindex2.nindex2.ensures.0 _ _ after-seek.seek.ensures.0 i o _ _ _ after-found.found.given.1 _ after-is-equal.is-equal.ensures c.if2.false
-  where
-    after-is-equal : tie.After-is-equal
-    after-is-equal = search
+pub returns-then-is_equal : goal.returns-then-is_equal
+returns-then-is_equal c i o =
+    look_up_same _ _ _ _ c.requires.accepted_image c.requires.in_bounds.1 _ c.headword_ok.ensures (search) _ c.position-start.ensures _
+    c.nindex2-elements.ensures.value _ _ c.seek-found.ensures.by_index i o _ _ _ c.in-At.is _ c.is_equal.ensures (search) _ _ c.give_text.ensures
 
-    after-found : tie.After-found
-    after-found = search after-is-equal
-
-    after-seek : tie.After-seek
-    after-seek = search after-found
-
-    after-nindex2 : tie.After-nindex2
-    after-nindex2 = search after-seek
-
-    after-position : tie.After-position
-    after-position = search after-nindex2
-
-    else1 : tie.Else1
-    else1 = search after-position
-
-    after-headword-ok : tie.After-headword-ok
-    after-headword-ok = search else1
-
-    start : tie.Start
-    start = search after-headword-ok
+pub returns-else-is_equal : goal.returns-else-is_equal
+returns-else-is_equal c i o =
+    look_up_other _ _ _ _ c.requires.accepted_image c.requires.in_bounds.1 _ c.headword_ok.ensures (search) _ c.position-start.ensures _
+    c.nindex2-elements.ensures.value _ _ c.seek-found.ensures.by_index i o _ _ _ c.in-At.is _ c.is_equal.ensures (search)
