@@ -77,7 +77,7 @@ write_rest-requires c =
       front_planned c.args.image.now c.args.v _ _ _ _ c.position-len.ensures _ c.plan_end-last.ensures.planned_end in
     let k = kept_ready c.args.image.now _ _ _ _ _ c.requires.ready
     _ planned c.requires.g_value.3 c.if-v-last.false (omega (arith, c.if-image-new_len.false, c.position-new_len.ensures)) c.requires.g_value.1 in
-    rest_asks _ c.args.v _ _ _ _ c.requires.ready _ k.0 _ _ c.write-Kept.ensures.1.1.0 k.1 _ c.write-Kept.ensures.1.1.2
+    rest_asks _ c.args.v _ _ _ _ c.requires.ready _ k.0 _ _ c.write_kept.ensures.image_len_unchanged.0 k.1 _ c.write_kept.ensures.image_len_unchanged.2
 
 pub returns : goal.returns
 returns c =
@@ -85,10 +85,10 @@ returns c =
     (marks c.args.free.now) c.args.h.now c.args.body.now c.plan_end-last.result =
       front_planned c.args.image.now c.args.v _ _ _ _ c.position-len.ensures _ c.plan_end-last.ensures.planned_end in
     let k = kept_ready c.args.image.now _ _ _ _ _ c.requires.ready
-    _ planned c.requires.g_value.3 c.if-v-last.false (omega (arith, c.if-image-new_len.false, c.position-new_len.ensures)) c.requires.g_value.1 in let w = all_written _ c.args.v _ _ _ _ c.requires.ready _ k.0 _ _ _ _ c.write-Kept.ensures.0
-    c.write-Kept.ensures.1.0 k.1 c.write_rest.ensures.sealed in record {
+    _ planned c.requires.g_value.3 c.if-v-last.false (omega (arith, c.if-image-new_len.false, c.position-new_len.ensures)) c.requires.g_value.1 in let w = all_written _ c.args.v _ _ _ _ c.requires.ready _ k.0 _ _ _ _ c.write_kept.ensures.areas
+    c.write_kept.ensures.free_after k.1 c.write_rest.ensures.sealed in record {
       changed = finish_done c.args.image.now _ _ _ _ _ _ c.requires.ready _ planned
           (marks_long _ c.requires.g_value.3)
           c.if-v-last.false (omega (arith, c.if-image-new_len.false, c.position-new_len.ensures)) c.requires.g_value.1 _ refl _ w _ c.position-new_len.ensures;
-      image_len_unchanged = (omega (arith, c.write_rest.ensures.image_len_unchanged, c.write-Kept.ensures.1.1.0), c.write-Kept.ensures.1.1.1);
+      image_len_unchanged = (omega (arith, c.write_rest.ensures.image_len_unchanged, c.write_kept.ensures.image_len_unchanged.0), c.write_kept.ensures.image_len_unchanged.1);
     }

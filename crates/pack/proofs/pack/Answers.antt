@@ -149,7 +149,7 @@ fill_zero-requires-2 c =
     omega (arith, few, fewer, long, room)
 
 pub returns : goal.returns
-returns c = let a = c.requires.accepted_image in let in_blocks = c.requires.len.0 in let here = c.position-start.ensures in let number = c.nindex2-elements.ensures.value in let counted = c.nblock2-blocks.ensures.value in let needed = c.need-m.ensures in let written = c.write_runs-out.ensures in let zeroed = c.fill_zero.ensures in let headed = c.write_counts.ensures in let last = c.fill_zero-2.ensures in let ends = c.position-len.ensures in let small = bytes (goal.at.returns c).After-shared_slice_known-1 in record {
+returns c = let a = c.requires.accepted_image in let in_blocks = c.requires.len.0 in let here = c.position-start.ensures in let number = c.nindex2-elements.ensures.value in let counted = c.nblock2-blocks.ensures.value in let needed = c.need-m.ensures in let written = c.write_runs-out.ensures in let zeroed = c.fill_zero.ensures in let headed = c.write_counts.ensures in let last = c.fill_zero-2.ensures in let ends = c.position-len.ensures in let small : (k : ℕ) → get_or c.args.old.now k 0 < 256 = λ k. omega (arith, c.type_inv.old k) in record {
   image_after = packed_image _ _ a in_blocks _ here _ number _ counted _ needed small _ _ _ _ _ _ _ _ c.position-data.ensures ends c.requires.len.1 c.requires.len.2
       written.image_after written.value zeroed.dst_after headed.s_after last.dst_after;
   value = packed_length _ _ a in_blocks _ here _ number _ counted _ needed small _ ends;
