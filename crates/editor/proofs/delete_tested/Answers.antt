@@ -45,4 +45,4 @@ returns-in-Sound c =
     search is_accepted in
     let whole : old_length c.in-Sound.v ≡ c.args.len =
     let p = c.requires in front_whole _ _ p.2 p.1 _ accepted in
-    let whole = rw (← whole) (search rules) in record { result_value = whole.0; image_after = whole.1.0; work_len_unchanged = whole.1.1 }
+    rw (← whole) (search rules)

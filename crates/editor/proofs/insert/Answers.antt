@@ -11,12 +11,12 @@ pub returns-then-work-image : goal.returns-then-work-image
 returns-then-work-image c = search insert_short
 
 pub insert_tested-r-requires : goal.insert_tested-r-requires
-insert_tested-r-requires c = now_tested c.args.image.now c.args.len c.args.work.now _ c.slice_ok.ensures c.if-not-slice_ok.false c.if-work-image.false
+insert_tested-r-requires c = now_tested c.args.image.now c.args.len c.args.work.now _ c.slice_ok.ensures (search) c.if-work-image.false
 
 pub returns : goal.returns
 returns c =
     let call = c.insert_tested-r in
-    insert_whole c.args.image.now c.args.len c.args.work.now _ c.slice_ok.ensures c.if-not-slice_ok.false
+    insert_whole c.args.image.now c.args.len c.args.work.now _ c.slice_ok.ensures (search)
     c.if-work-image.false
-    (λ k. omega (arith, c.type_inv.image k)) call.last.1.1.0 _ call.ensures.1.1 c.clear.ensures.dst_after _
-    c.args.headword.now c.args.attribute c.args.text.now _ call.ensures.0 call.ensures.1.0
+    (λ k. omega (arith, c.slice_known-1.given k)) call.new.work _ call.ensures.work_len_unchanged c.clear.ensures.dst_after _
+    c.args.headword.now c.args.attribute c.args.text.now _ call.ensures.result_value call.ensures.image_after

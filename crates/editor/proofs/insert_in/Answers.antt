@@ -32,7 +32,7 @@ use Rattle.editor.proofs.insert_in.Goals as goal
 pub returns-then-not-writable : goal.returns-then-not-writable
 returns-then-not-writable c = let r = insert_eleven c.args.image.now c.args.work.now c.args.v c.requires.accepted_image.0 c.requires.v_in_bounds.0
     c.requires.v_in_bounds.1 _ c.writable.ensures
-    c.args.headword.now c.if-not-writable.true-raw _ _ in record {
+    c.args.headword.now (search) _ _ in record {
   result_value = r.0;
   image_after = r.1;
   work_len_unchanged = refl;
@@ -41,7 +41,7 @@ returns-then-not-writable c = let r = insert_eleven c.args.image.now c.args.work
 pub returns-then-not-headword_ok : goal.returns-then-not-headword_ok
 returns-then-not-headword_ok c = let r = insert_twelve c.args.image.now c.args.work.now c.args.v c.requires.accepted_image.0 c.requires.v_in_bounds.0
     c.requires.v_in_bounds.1 _ c.writable.ensures
-    c.args.headword.now c.if-not-writable.false _ c.headword_ok.ensures c.if-not-headword_ok.true-raw _ _ in record {
+    c.args.headword.now (search) _ c.headword_ok.ensures (search) _ _ in record {
   result_value = r.0;
   image_after = r.1;
   work_len_unchanged = refl;
@@ -50,8 +50,8 @@ returns-then-not-headword_ok c = let r = insert_twelve c.args.image.now c.args.w
 pub returns-then-not-text_ok : goal.returns-then-not-text_ok
 returns-then-not-text_ok c = let r = insert_thirteen c.args.image.now c.args.work.now c.args.v c.requires.accepted_image.0 c.requires.v_in_bounds.0
     c.requires.v_in_bounds.1 _ c.writable.ensures
-    c.args.headword.now c.if-not-writable.false _ c.headword_ok.ensures c.if-not-headword_ok.false c.args.attribute
-    c.args.text.now _ c.text_ok.ensures c.if-not-text_ok.true-raw in record {
+    c.args.headword.now (search) _ c.headword_ok.ensures (search) c.args.attribute
+    c.args.text.now _ c.text_ok.ensures (search) in record {
   result_value = r.0;
   image_after = r.1;
   work_len_unchanged = refl;
@@ -60,35 +60,35 @@ returns-then-not-text_ok c = let r = insert_thirteen c.args.image.now c.args.wor
 pub returns-then-not-attribute_ok : goal.returns-then-not-attribute_ok
 returns-then-not-attribute_ok c = let r = insert_attribute c.args.image.now c.args.work.now c.args.v c.requires.accepted_image.0 c.requires.v_in_bounds.0
     c.requires.v_in_bounds.1 _ c.writable.ensures
-    c.args.headword.now c.if-not-writable.false _ c.headword_ok.ensures c.if-not-headword_ok.false c.args.attribute
-    c.args.text.now _ c.text_ok.ensures c.if-not-text_ok.false _ c.attribute_ok.ensures c.if-not-attribute_ok.true-raw in record {
+    c.args.headword.now (search) _ c.headword_ok.ensures (search) c.args.attribute
+    c.args.text.now _ c.text_ok.ensures (search) _ c.attribute_ok.ensures (search) in record {
   result_value = r.0;
   image_after = r.1;
   work_len_unchanged = refl;
 }
 
 pub copy-requires : goal.copy-requires
-copy-requires c = (omega (arith, text_short c.args.text.now _ c.text_ok.ensures c.if-not-text_ok.false), omega arith)
+copy-requires c = (omega (arith, text_short c.args.text.now _ c.text_ok.ensures (search)), omega arith)
 
 pub overflow_add-body : goal.overflow_add-body
 overflow_add-body c =
     let text-few : length c.args.text.now ≤ 3000 =
       let q = c.text_ok.ensures in
-    text_short c.args.text.now _ q c.if-not-text_ok.false in
+    text_short c.args.text.now _ q (search) in
     omega (arith, text-few)
 
 pub slice_bounds-body-end : goal.slice_bounds-body-end
 slice_bounds-body-end c =
     let text-few : length c.args.text.now ≤ 3000 =
       let q = c.text_ok.ensures in
-    text_short c.args.text.now _ q c.if-not-text_ok.false in
+    text_short c.args.text.now _ q (search) in
     omega (arith, text-few)
 
 pub slice_bounds-new-end : goal.slice_bounds-new-end
 slice_bounds-new-end c =
     let text-few : length c.args.text.now ≤ 3000 =
       let q = c.text_ok.ensures in
-    text_short c.args.text.now _ q c.if-not-text_ok.false in
+    text_short c.args.text.now _ q (search) in
     first_bytes _ _ (omega (arith, text-few))
 
 pub slice_bounds-measure_change-end : goal.slice_bounds-measure_change-end
@@ -101,14 +101,14 @@ pub measure_change-p-requires : goal.measure_change-p-requires
 measure_change-p-requires c =
     let text-few : length c.args.text.now ≤ 3000 =
       let q = c.text_ok.ensures in
-    text_short c.args.text.now _ q c.if-not-text_ok.false in
+    text_short c.args.text.now _ q (search) in
     let made : take (1 + length c.args.text.now) c.copy.new.dst ≡ c.args.attribute ∷ c.args.text.now =
       body_made c.args.attribute c.args.text.now _ _ _ (omega (arith, text-few)) c.write_u8.ensures.dst_after
     c.copy.ensures.dst_after in
     let entry_good : (headword_ok c.args.headword.now ≡ true)
     × (length (take (1 + length c.args.text.now) c.copy.new.dst) ≤ longest_body) =
       let q = c.headword_ok.ensures in
-    (head_good c.args.headword.now _ q c.if-not-headword_ok.false, body_few _ _ _ made text-few) in
+    (head_good c.args.headword.now _ q (search), body_few _ _ _ made text-few) in
     let p = c.requires in let there = c.position-len.ensures in record {
   accepted_image = front_accepted _ _ _ there p.accepted_image.0;
   image_len = (
@@ -125,17 +125,17 @@ pub change-r-requires : goal.change-r-requires
 change-r-requires c =
     let text-few : length c.args.text.now ≤ 3000 =
       let q = c.text_ok.ensures in
-    text_short c.args.text.now _ q c.if-not-text_ok.false in
+    text_short c.args.text.now _ q (search) in
     let made : take (1 + length c.args.text.now) c.copy.new.dst ≡ c.args.attribute ∷ c.args.text.now =
       body_made c.args.attribute c.args.text.now _ _ _ (omega (arith, text-few)) c.write_u8.ensures.dst_after
     c.copy.ensures.dst_after in
     let entry_good : (headword_ok c.args.headword.now ≡ true)
     × (length (take (1 + length c.args.text.now) c.copy.new.dst) ≤ longest_body) =
       let q = c.headword_ok.ensures in
-    (head_good c.args.headword.now _ q c.if-not-headword_ok.false, body_few _ _ _ made text-few) in
-    let a = c.args in let p = c.requires in let m = draft_front _ c.args.v _ _ _ _ _ c.position-len.ensures c.measure_change-p.ensures in let h = c.headword_ok.ensures in let t = c.text_ok.ensures in let w = c.words_after-words.ensures in let ready = insert_ready _ a.v p.accepted_image.0 a.headword.now _ h c.if-not-headword_ok.false
-    a.text.now _ t c.if-not-text_ok.false
-    a.attribute _ c.attribute_ok.ensures c.if-not-attribute_ok.false
+    (head_good c.args.headword.now _ q (search), body_few _ _ _ made text-few) in
+    let a = c.args in let p = c.requires in let m = draft_front _ c.args.v _ _ _ _ _ c.position-len.ensures c.measure_change-p.ensures in let h = c.headword_ok.ensures in let t = c.text_ok.ensures in let w = c.words_after-words.ensures in let ready = insert_ready _ a.v p.accepted_image.0 a.headword.now _ h (search)
+    a.text.now _ t (search)
+    a.attribute _ c.attribute_ok.ensures (search)
     _ made _ m _ w in record {
   drafted = draft_measured _ a.v _ _ _ _ m;
   p_in_bounds = (draft_inside _ a.v _ _ _ _ m p.v_in_bounds.0, p.v_in_bounds.1, p.v_in_bounds.2);
@@ -148,30 +148,30 @@ pub returns-in-Full : goal.returns-in-Full
 returns-in-Full c =
     let text-few : length c.args.text.now ≤ 3000 =
       let q = c.text_ok.ensures in
-    text_short c.args.text.now _ q c.if-not-text_ok.false in
+    text_short c.args.text.now _ q (search) in
     let made : take (1 + length c.args.text.now) c.copy.new.dst ≡ c.args.attribute ∷ c.args.text.now =
       body_made c.args.attribute c.args.text.now _ _ _ (omega (arith, text-few)) c.write_u8.ensures.dst_after
     c.copy.ensures.dst_after in
     let p = c.requires in let v = c.writable.ensures in let h = c.headword_ok.ensures in let t = c.text_ok.ensures in let m = draft_front _ c.args.v _ _ _ _ _ c.position-len.ensures c.measure_change-p.ensures in let q = c.change-r.ensures in let r = insert_fifteen c.args.image.now c.args.work.now c.args.v p.accepted_image.0 p.v_in_bounds.0 p.v_in_bounds.1 _ v
-    c.args.headword.now c.if-not-writable.false
-    _ h c.if-not-headword_ok.false
-    c.args.attribute c.args.text.now _ t c.if-not-text_ok.false
-    _ c.attribute_ok.ensures c.if-not-attribute_ok.false _ made _ m
+    c.args.headword.now (search)
+    _ h (search)
+    c.args.attribute c.args.text.now _ t (search)
+    _ c.attribute_ok.ensures (search) _ made _ m
     c.change-r.result c.change-r.new.image q.changed (search rules) in
-    (r.0, (r.1, q.image_len_unchanged.1)) let whole =  in record { result_value = whole.0; image_after = whole.1.0; work_len_unchanged = whole.1.1 }
+    record { result_value = r.0; image_after = r.1; work_len_unchanged = q.image_len_unchanged.1 }
 
 pub returns-in-Done : goal.returns-in-Done
 returns-in-Done c =
     let text-few : length c.args.text.now ≤ 3000 =
       let q = c.text_ok.ensures in
-    text_short c.args.text.now _ q c.if-not-text_ok.false in
+    text_short c.args.text.now _ q (search) in
     let made : take (1 + length c.args.text.now) c.copy.new.dst ≡ c.args.attribute ∷ c.args.text.now =
       body_made c.args.attribute c.args.text.now _ _ _ (omega (arith, text-few)) c.write_u8.ensures.dst_after
     c.copy.ensures.dst_after in
     let p = c.requires in let v = c.writable.ensures in let h = c.headword_ok.ensures in let t = c.text_ok.ensures in let m = draft_front _ c.args.v _ _ _ _ _ c.position-len.ensures c.measure_change-p.ensures in let q = c.change-r.ensures in let r = insert_done c.args.image.now c.args.work.now c.args.v p.accepted_image.0 p.v_in_bounds.0 p.v_in_bounds.1 _ v
-    c.args.headword.now c.if-not-writable.false
-    _ h c.if-not-headword_ok.false
-    c.args.attribute c.args.text.now _ t c.if-not-text_ok.false
-    _ c.attribute_ok.ensures c.if-not-attribute_ok.false _ made _ m
+    c.args.headword.now (search)
+    _ h (search)
+    c.args.attribute c.args.text.now _ t (search)
+    _ c.attribute_ok.ensures (search) _ made _ m
     c.change-r.result c.change-r.new.image q.changed c.in-Done.l (search rules) in
-    (r.0, (r.1, q.image_len_unchanged.1)) let whole =  in record { result_value = whole.0; image_after = whole.1.0; work_len_unchanged = whole.1.1 }
+    record { result_value = r.0; image_after = r.1; work_len_unchanged = q.image_len_unchanged.1 }

@@ -27,7 +27,7 @@ insert_in-requires c =
     search is_accepted in
     let whole : old_length c.in-Sound.v ≡ c.args.len =
     let p = c.requires in front_whole _ _ p.2 p.1 _ accepted in
-    let e = whole in let few = words_few _ _ c.requires.2 c.requires.0 (λ k. omega (arith, c.type_inv.image k)) _ accepted in record {
+    let e = whole in let few = words_few _ _ c.requires.2 c.requires.0 (λ k. omega (arith, c.slice_known-1.given k)) _ accepted in record {
       accepted_image = (rw e accepted, rw e (search is_marked));
       v_in_bounds = (rw e c.requires.2, c.requires.3, search rules, few);
     }
@@ -46,4 +46,4 @@ returns-in-Sound c =
     search is_accepted in
     let whole : old_length c.in-Sound.v ≡ c.args.len =
     let p = c.requires in front_whole _ _ p.2 p.1 _ accepted in
-    let whole = rw (← whole) (search rules) in record { result_value = whole.0; image_after = whole.1.0; work_len_unchanged = whole.1.1 }
+    rw (← whole) (search rules)

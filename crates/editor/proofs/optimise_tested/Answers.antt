@@ -13,11 +13,6 @@ use Rattle.parts.proofs.Laws.{first_bytes}
 use borrow.Author.Rules.{rules}
 use Rattle.editor.proofs.optimise_tested.Goals as goal
 
--- the image
-abbrev lent : goal.In-Sound → List ℕ
-lent c =
-    take c.args.len c.args.image.now
-
 pub slice_bounds-inspect-end-2 : goal.slice_bounds-inspect-end-2
 slice_bounds-inspect-end-2 c = search first_bytes
 
@@ -29,10 +24,10 @@ inspect-r-requires-clause-free_value c = marks_zero 1024
 
 pub returns-then-not-writable : goal.returns-then-not-writable
 returns-then-not-writable c =
-    let accepted : AcceptedImage (lent c) c.in-Sound.v =
+    let accepted : AcceptedImage (take c.args.len c.args.image.now) c.in-Sound.v =
     search is_accepted in
     let r = optimise_eleven _ _ _ c.requires.0 c.requires.1 c.requires.2 c.requires.3 _ accepted _
-    c.writable.ensures c.if-not-writable.true-raw in record {
+    c.writable.ensures (search) in record {
       result_value = r.0;
       image_after = r.1;
       work_len_unchanged = refl;
@@ -43,7 +38,7 @@ slice_bounds-pack-end-in-Sound c = first_bytes c.copy.new.dst c.args.len (omega 
 
 pub pack-requires : goal.pack-requires
 pack-requires c =
-    let accepted : AcceptedImage (lent c) c.in-Sound.v =
+    let accepted : AcceptedImage (take c.args.len c.args.image.now) c.in-Sound.v =
     search is_accepted in
     let copied = c.copy.ensures.dst_after in let p = c.requires in record {
       accepted_image = copy_accepted _ _ p.2 _ _ copied _ accepted;
@@ -60,10 +55,10 @@ returns-in-Refused c = let p = c.requires in let r = optimise_refused c.args.ima
 
 pub returns-else-not-writable : goal.returns-else-not-writable
 returns-else-not-writable c =
-    let accepted : AcceptedImage (lent c) c.in-Sound.v =
+    let accepted : AcceptedImage (take c.args.len c.args.image.now) c.in-Sound.v =
     search is_accepted in
     let r = optimise_done c.args.image.now c.args.len c.args.work.now c.requires.0 c.requires.1 c.requires.2 c.requires.3
-    _ accepted _ c.writable.ensures c.if-not-writable.false
+    _ accepted _ c.writable.ensures (search)
     _ _ (copy_is _ _ c.requires.2 _ _ c.copy.ensures.dst_after) _ c.pack.ensures.value c.pack.ensures.image_after in record {
       result_value = r.0;
       image_after = r.1;
