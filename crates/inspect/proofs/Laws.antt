@@ -68,7 +68,8 @@ index_some w below area zero e z r k h = absurd (z refl)
 index_some w below area (suc b) e z r k h = h
 
 -- whether a block is marked, with those of runs
-covered_mark : (rs : List Run) (D b : ℕ) (ms : List Bool) → All (λ r. r.block + r.size ≤ D) rs → D ≤ length ms → b < length ms → get_or (covered rs ms) b false ≡ (get_or ms b false || any (covers b) rs)
+covered_mark : (rs : List Run) (D b : ℕ) (ms : List Bool) → All (λ r. r.block + r.size ≤ D) rs → D ≤ length ms → b < length ms → get_or (covered rs ms) b false
+    ≡ (get_or ms b false || any (covers b) rs)
 unfolding Tally.covered Lists.any
 covered_mark [] D b ms p l q = or_false (get_or ms b false)
 covered_mark (r ∷ rs) D b ms (p, ps) l q =

@@ -8,7 +8,8 @@ use Rattle.byteops.proofs.Stores.{stored, copy_start, copy_turn, copy_end}
 use Rattle.byteops.proofs.copy_bytes.Given as goal
 
 abbrev pub invariant-loop-i : goal.invariant-loop-i
-invariant-loop-i l = (l.i ≤ l.n) × (length l.dst ≡ length l.initial.dst) × (stored l.dst (l.at + l.i) (bytes_at (l.from + l.i) (l.n - l.i) l.src) ≡ write l.at (bytes_at l.from l.n l.src) l.initial.dst)
+invariant-loop-i l = (l.i ≤ l.n) × (length l.dst ≡ length l.initial.dst)
+    × (stored l.dst (l.at + l.i) (bytes_at (l.from + l.i) (l.n - l.i) l.src) ≡ write l.at (bytes_at l.from l.n l.src) l.initial.dst)
 
 abbrev pub decreases-loop-i : goal.decreases-loop-i
 decreases-loop-i l = l.n - l.i

@@ -26,10 +26,12 @@ pub nindex2-elements-requires : goal.nindex2-elements-requires
 nindex2-elements-requires c = omega (arith, accepted_index _ _ c.requires.accepted_image)
 
 pub find_run-t-requires : goal.find_run-t-requires
-find_run-t-requires c = let a = c.requires.accepted_image in record {
-  width = (a.good.0, accepted_inside _ _ a _ c.position-start.ensures _ c.nindex2-elements.ensures.value);
-  d_in_bounds = (omega (arith, accepted_area _ _ a _ c.position-start.ensures c.requires.image_len.0), omega (arith, accepted_blocks _ _ a));
-}
+find_run-t-requires c =
+    let a = c.requires.accepted_image in
+    record {
+      width = (a.good.0, accepted_inside _ _ a _ c.position-start.ensures _ c.nindex2-elements.ensures.value);
+      d_in_bounds = (omega (arith, accepted_area _ _ a _ c.position-start.ensures c.requires.image_len.0), omega (arith, accepted_blocks _ _ a));
+    }
 
 pub entries_start-from-requires : goal.entries_start-from-requires
 entries_start-from-requires c = omega (arith, c.find_run-t.ensures.size_bound.0, accepted_blocks _ _ c.requires.accepted_image)
@@ -41,13 +43,21 @@ pub overflow_mul-t : goal.overflow_mul-t
 overflow_mul-t c = omega (arith, c.find_run-t.ensures.size_bound.0, accepted_blocks _ _ c.requires.accepted_image)
 
 pub slice_bounds-measure-end : goal.slice_bounds-measure-end
-slice_bounds-measure-end c = omega (arith, c.find_run-t.ensures.size_bound.0, accepted_area _ _ c.requires.accepted_image _ c.position-start.ensures c.requires.image_len.0)
+slice_bounds-measure-end c =
+    omega (arith, c.find_run-t.ensures.size_bound.0, accepted_area _ _ c.requires.accepted_image _ c.position-start.ensures c.requires.image_len.0)
 
 pub measure-m-requires : goal.measure-m-requires
-measure-m-requires c = let good = c.requires.accepted_image.good in record {
-  h_value = (c.requires.image_len.1, c.requires.image_len.2, run_short _ _ _ _ c.entries_start-from.ensures.value c.find_run-t.ensures.size_bound.1);
-  width = (good.0, omega (arith, good.1));
-}
+measure-m-requires c =
+    let good = c.requires.accepted_image.good in
+    record {
+      h_value = (
+        c.requires.image_len.1,
+        c.requires.image_len.2,
+        run_short _ _ _ _ c.entries_start-from.ensures.value
+            c.find_run-t.ensures.size_bound.1,
+      );
+      width = (good.0, omega (arith, good.1));
+    }
 
 pub overflow_add-count-2 : goal.overflow_add-count-2
 overflow_add-count-2 c =
@@ -55,7 +65,8 @@ overflow_add-count-2 c =
     omega (arith, m.0, c.find_run-t.ensures.size_bound.4, c.nindex2-elements.ensures.upper_bound)
 
 pub overflow_sub-bytes-2 : goal.overflow_sub-bytes-2
-overflow_sub-bytes-2 c = element_short _ _ c.requires.accepted_image _ c.position-start.ensures _ c.nindex2-elements.ensures.value _ _ c.find_run-t.ensures.target_told
+overflow_sub-bytes-2 c =
+    element_short _ _ c.requires.accepted_image _ c.position-start.ensures _ c.nindex2-elements.ensures.value _ _ c.find_run-t.ensures.target_told
 
 pub overflow_add-bytes : goal.overflow_add-bytes
 overflow_add-bytes c =
@@ -73,7 +84,9 @@ pub nblock2-requires : goal.nblock2-requires
 nblock2-requires c = omega (arith, accepted_index _ _ c.requires.accepted_image)
 
 pub overflow_sub-blocks : goal.overflow_sub-blocks
-overflow_sub-blocks c = blocks_short _ _ c.requires.accepted_image _ c.position-start.ensures _ c.nindex2-elements.ensures.value _ _ c.find_run-t.ensures.target_told _ c.nblock2.ensures.value
+overflow_sub-blocks c =
+    blocks_short _ _ c.requires.accepted_image _ c.position-start.ensures _ c.nindex2-elements.ensures.value _ _ c.find_run-t.ensures.target_told _
+    c.nblock2.ensures.value
 
 pub overflow_add-blocks : goal.overflow_add-blocks
 overflow_add-blocks c = omega (arith, c.nblock2.ensures.upper_bound, c.measure-m.ensures.parts_bound.2)
@@ -84,7 +97,7 @@ returns c =
     let m = c.measure-m.ensures in (
       refl,
       refl,
-      drafted a.image.now a.old c.requires.accepted_image _ c.position-start.ensures _ c.nindex2-elements.ensures.value a.h.now c.find_run-t.result c.find_run-t.ensures.target_told
-          a.body.now a.fresh _ _ _ _ _ _ _ c.find_run-t.ensures.size_bound.0 c.entries_start-from.ensures.value m.measured c.nblock2.ensures.value
-          c.growth-g.ensures m.parts_bound.1 m.found_value,
+      drafted a.image.now a.old c.requires.accepted_image _ c.position-start.ensures _ c.nindex2-elements.ensures.value a.h.now c.find_run-t.result
+          c.find_run-t.ensures.target_told a.body.now a.fresh _ _ _ _ _ _ _ c.find_run-t.ensures.size_bound.0 c.entries_start-from.ensures.value
+          m.measured c.nblock2.ensures.value c.growth-g.ensures m.parts_bound.1 m.found_value,
     )

@@ -9,10 +9,12 @@ pub overflow_add-v : goal.overflow_add-v
 overflow_add-v c = omega (arith, c.requires.g_le_end.2)
 
 pub plan_parts-requires : goal.plan_parts-requires
-plan_parts-requires c = let p = c.requires in record {
-  h_value = (p.h_value.0, p.h_value.1, run_short _ _ _ _ c.entries_start-from.ensures.value p.size_bound.1, omega (arith, p.good_form.0.1));
-  g_le_end = (p.g_le_end.0, p.g_le_end.1, omega (arith, p.g_le_end.2), omega (arith, p.g_le_end.2));
-}
+plan_parts-requires c =
+    let p = c.requires in
+    record {
+      h_value = (p.h_value.0, p.h_value.1, run_short _ _ _ _ c.entries_start-from.ensures.value p.size_bound.1, omega (arith, p.good_form.0.1));
+      g_le_end = (p.g_le_end.0, p.g_le_end.1, omega (arith, p.g_le_end.2), omega (arith, p.g_le_end.2));
+    }
 
 pub returns-clause-planned_end : goal.returns-clause-planned_end
 returns-clause-planned_end c = end_planned c.args.old.now c.args.v c.args.free.now _ c.args.h.now c.args.body.now

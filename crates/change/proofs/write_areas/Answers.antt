@@ -33,25 +33,33 @@ pub position-end-requires : goal.position-end-requires
 position-end-requires c = omega (arith, c.requires.ready.accepted.good.2, c.requires.ready.few_index)
 
 pub slice_bounds-index-count : goal.slice_bounds-index-count
-slice_bounds-index-count c = omega (arith, starts_inside _ _ _ _ _ _ c.requires.ready _ c.requires.roomy _ c.position-start.ensures, c.position-start.ensures)
+slice_bounds-index-count c =
+    omega (arith, starts_inside _ _ _ _ _ _ c.requires.ready _ c.requires.roomy _ c.position-start.ensures, c.position-start.ensures)
 
 pub slice_bounds-index-start : goal.slice_bounds-index-start
-slice_bounds-index-start c = omega (arith, starts_inside _ _ _ _ _ _ c.requires.ready _ c.requires.roomy _ c.position-start.ensures, c.position-start.ensures)
+slice_bounds-index-start c =
+    omega (arith, starts_inside _ _ _ _ _ _ c.requires.ready _ c.requires.roomy _ c.position-start.ensures, c.position-start.ensures)
 
 pub slice_bounds-index-end : goal.slice_bounds-index-end
-slice_bounds-index-end c = omega (arith, starts_inside _ _ _ _ _ _ c.requires.ready _ c.requires.roomy _ c.position-start.ensures, c.position-start.ensures)
+slice_bounds-index-end c =
+    omega (arith, starts_inside _ _ _ _ _ _ c.requires.ready _ c.requires.roomy _ c.position-start.ensures, c.position-start.ensures)
 
 pub slice_bounds-area-count : goal.slice_bounds-area-count
-slice_bounds-area-count c = omega (arith, starts_inside _ _ _ _ _ _ c.requires.ready _ c.requires.roomy _ c.position-start.ensures, c.position-start.ensures)
+slice_bounds-area-count c =
+    omega (arith, starts_inside _ _ _ _ _ _ c.requires.ready _ c.requires.roomy _ c.position-start.ensures, c.position-start.ensures)
 
 pub slice_bounds-area-start : goal.slice_bounds-area-start
-slice_bounds-area-start c = omega (arith, starts_inside _ _ _ _ _ _ c.requires.ready _ c.requires.roomy _ c.position-start.ensures, c.position-start.ensures)
+slice_bounds-area-start c =
+    omega (arith, starts_inside _ _ _ _ _ _ c.requires.ready _ c.requires.roomy _ c.position-start.ensures, c.position-start.ensures)
 
 pub slice_bounds-area-end : goal.slice_bounds-area-end
-slice_bounds-area-end c = omega (arith, starts_inside _ _ _ _ _ _ c.requires.ready _ c.requires.roomy _ c.position-start.ensures, c.position-start.ensures)
+slice_bounds-area-end c =
+    omega (arith, starts_inside _ _ _ _ _ _ c.requires.ready _ c.requires.roomy _ c.position-start.ensures, c.position-start.ensures)
 
 pub copy_moved-requires : goal.copy_moved-requires
-copy_moved-requires c = let whole = moved_asks _ _ _ _ _ _ c.requires.ready _ c.requires.roomy _ c.position-start.ensures in record { d_in_bounds = whole.0; all = whole.1 }
+copy_moved-requires c =
+    let whole = moved_asks _ _ _ _ _ _ c.requires.ready _ c.requires.roomy _ c.position-start.ensures in
+    record { d_in_bounds = whole.0; all = whole.1 }
 
 pub entries_start-from-requires : goal.entries_start-from-requires
 entries_start-from-requires c = run_asks _ _ _ _ _ _ c.requires.ready _ c.requires.roomy
@@ -108,27 +116,27 @@ slice_bounds-run-end c =
 
 pub copy_elements-a-requires : goal.copy_elements-a-requires
 copy_elements-a-requires c =
-    let moved-kept : length c.copy_moved.new.image ≡ length c.args.image.now =
-      c.copy_moved.ensures.image_len_unchanged in
-    let whole = before_asks _ _ _ _ _ _ c.requires.ready _ c.requires.roomy _ c.position-start.ensures _ moved-kept in record { width = whole.0; g_in_bounds = whole.1.0; left_in_bounds = whole.1.1 }
+    let moved-kept : length c.copy_moved.new.image ≡ length c.args.image.now = c.copy_moved.ensures.image_len_unchanged in
+    let whole = before_asks _ _ _ _ _ _ c.requires.ready _ c.requires.roomy _ c.position-start.ensures _ moved-kept in
+    record { width = whole.0; g_in_bounds = whole.1.0; left_in_bounds = whole.1.1 }
 
 pub write_parts-b-requires : goal.write_parts-b-requires
 write_parts-b-requires c =
-    let moved-kept : length c.copy_moved.new.image ≡ length c.args.image.now =
-      c.copy_moved.ensures.image_len_unchanged in
-    let before-kept : length c.copy_elements-a.new.dst ≡ length c.args.image.now =
-      c.copy_elements-a.ensures.dst_len_unchanged ∙ moved-kept in
-    let whole = parts_asks _ _ _ _ _ _ c.requires.ready _ c.requires.roomy _ c.position-start.ensures _ _ _ before-kept c.entries_start-from.ensures.value
-    c.copy_elements-a.ensures.value in record { h_value = whole.0; width = whole.1.0; parts_fit = whole.1.1 }
+    let moved-kept : length c.copy_moved.new.image ≡ length c.args.image.now = c.copy_moved.ensures.image_len_unchanged in
+    let before-kept : length c.copy_elements-a.new.dst ≡ length c.args.image.now = c.copy_elements-a.ensures.dst_len_unchanged ∙ moved-kept in
+    let whole =
+    parts_asks _ _ _ _ _ _ c.requires.ready _ c.requires.roomy _ c.position-start.ensures _ _ _ before-kept c.entries_start-from.ensures.value
+    c.copy_elements-a.ensures.value in
+    record { h_value = whole.0; width = whole.1.0; parts_fit = whole.1.1 }
 
 pub copy_elements-c-requires : goal.copy_elements-c-requires
 copy_elements-c-requires c =
     let moved-kept : length c.copy_moved.new.image ≡ length c.args.image.now =
-      c.copy_moved.ensures.image_len_unchanged in
+    c.copy_moved.ensures.image_len_unchanged in
     let before-kept : length c.copy_elements-a.new.dst ≡ length c.args.image.now =
-      c.copy_elements-a.ensures.dst_len_unchanged ∙ moved-kept in
+    c.copy_elements-a.ensures.dst_len_unchanged ∙ moved-kept in
     let parts-kept : length c.write_parts-b.new.image ≡ length c.args.image.now =
-      c.write_parts-b.ensures.image_len_unchanged.0 ∙ before-kept in
+    c.write_parts-b.ensures.image_len_unchanged.0 ∙ before-kept in
     let whole = after_asks _ _ _ _ _ _ c.requires.ready _ c.requires.roomy _ c.position-start.ensures _ _ _ parts-kept c.copy_elements-a.ensures.value
     (parts_bytes _ _ _ _ _ _ c.requires.ready _ c.requires.roomy _ c.position-start.ensures _ c.entries_start-from.ensures.value _ _
     c.write_parts-b.ensures.parts_put.1) in record { width = whole.0; g_in_bounds = whole.1.0; left_in_bounds = whole.1.1 }
@@ -146,13 +154,13 @@ overflow_sub-end c =
 pub fill_zero-requires : goal.fill_zero-requires
 fill_zero-requires c =
     let moved-kept : length c.copy_moved.new.image ≡ length c.args.image.now =
-      c.copy_moved.ensures.image_len_unchanged in
+    c.copy_moved.ensures.image_len_unchanged in
     let before-kept : length c.copy_elements-a.new.dst ≡ length c.args.image.now =
-      c.copy_elements-a.ensures.dst_len_unchanged ∙ moved-kept in
+    c.copy_elements-a.ensures.dst_len_unchanged ∙ moved-kept in
     let parts-kept : length c.write_parts-b.new.image ≡ length c.args.image.now =
-      c.write_parts-b.ensures.image_len_unchanged.0 ∙ before-kept in
+    c.write_parts-b.ensures.image_len_unchanged.0 ∙ before-kept in
     let after_kept : length c.copy_elements-c.new.dst ≡ length c.args.image.now =
-      c.copy_elements-c.ensures.dst_len_unchanged ∙ parts-kept in
+    c.copy_elements-c.ensures.dst_len_unchanged ∙ parts-kept in
     omega (
       arith,
       index_end _ _ _ _ _ _ c.requires.ready _ c.requires.roomy _ c.position-start.ensures _ _ _ c.copy_elements-a.ensures.value
@@ -165,22 +173,22 @@ fill_zero-requires c =
 pub shape_of-image : goal.shape_of-image
 shape_of-image c =
     let moved-kept : length c.copy_moved.new.image ≡ length c.args.image.now =
-      c.copy_moved.ensures.image_len_unchanged in
+    c.copy_moved.ensures.image_len_unchanged in
     let before-kept : length c.copy_elements-a.new.dst ≡ length c.args.image.now =
-      c.copy_elements-a.ensures.dst_len_unchanged ∙ moved-kept in
+    c.copy_elements-a.ensures.dst_len_unchanged ∙ moved-kept in
     let parts-kept : length c.write_parts-b.new.image ≡ length c.args.image.now =
-      c.write_parts-b.ensures.image_len_unchanged.0 ∙ before-kept in
+    c.write_parts-b.ensures.image_len_unchanged.0 ∙ before-kept in
     let after_kept : length c.copy_elements-c.new.dst ≡ length c.args.image.now =
-      c.copy_elements-c.ensures.dst_len_unchanged ∙ parts-kept in
+    c.copy_elements-c.ensures.dst_len_unchanged ∙ parts-kept in
     c.fill_zero.ensures.dst_len_unchanged ∙ after_kept
 
 pub returns-clause-areas : goal.returns-clause-areas
-returns-clause-areas c = areas_written _ _ _ _ _ _ c.requires.ready _ c.requires.roomy _ c.position-start.ensures _ _ _ _ _ _ _ _ _ c.copy_moved.ensures.image_after
-    c.copy_elements-a.ensures.dst_after c.copy_elements-a.ensures.value (parts_image _ _ _ _ _ _
-    c.requires.ready _ c.requires.roomy _ c.position-start.ensures _ c.entries_start-from.ensures.value _ _ _ c.write_parts-b.ensures.parts_put.0)
-    (parts_bytes _ _ _ _ _ _ c.requires.ready _ c.requires.roomy _ c.position-start.ensures _ c.entries_start-from.ensures.value _ _
-    c.write_parts-b.ensures.parts_put.1) c.copy_elements-c.ensures.dst_after
-    c.copy_elements-c.ensures.value c.position-end.ensures c.fill_zero.ensures.dst_after
+returns-clause-areas c =
+    areas_written _ _ _ _ _ _ c.requires.ready _ c.requires.roomy _ c.position-start.ensures _ _ _ _ _ _ _ _ _ c.copy_moved.ensures.image_after
+    c.copy_elements-a.ensures.dst_after c.copy_elements-a.ensures.value (parts_image _ _ _ _ _ _ c.requires.ready _ c.requires.roomy _
+    c.position-start.ensures _ c.entries_start-from.ensures.value _ _ _ c.write_parts-b.ensures.parts_put.0) (parts_bytes _ _ _ _ _ _
+    c.requires.ready _ c.requires.roomy _ c.position-start.ensures _ c.entries_start-from.ensures.value _ _ c.write_parts-b.ensures.parts_put.1)
+    c.copy_elements-c.ensures.dst_after c.copy_elements-c.ensures.value c.position-end.ensures c.fill_zero.ensures.dst_after
 
 pub returns-clause-free_after : goal.returns-clause-free_after
 returns-clause-free_after c = parts_marks _ _ _ _ _ _ c.requires.ready _
@@ -189,11 +197,11 @@ returns-clause-free_after c = parts_marks _ _ _ _ _ _ c.requires.ready _
 pub returns-clause-image_len_unchanged : goal.returns-clause-image_len_unchanged
 returns-clause-image_len_unchanged c =
     let moved-kept : length c.copy_moved.new.image ≡ length c.args.image.now =
-      c.copy_moved.ensures.image_len_unchanged in
+    c.copy_moved.ensures.image_len_unchanged in
     let before-kept : length c.copy_elements-a.new.dst ≡ length c.args.image.now =
-      c.copy_elements-a.ensures.dst_len_unchanged ∙ moved-kept in
+    c.copy_elements-a.ensures.dst_len_unchanged ∙ moved-kept in
     let parts-kept : length c.write_parts-b.new.image ≡ length c.args.image.now =
-      c.write_parts-b.ensures.image_len_unchanged.0 ∙ before-kept in
+    c.write_parts-b.ensures.image_len_unchanged.0 ∙ before-kept in
     let after_kept : length c.copy_elements-c.new.dst ≡ length c.args.image.now =
-      c.copy_elements-c.ensures.dst_len_unchanged ∙ parts-kept in
+    c.copy_elements-c.ensures.dst_len_unchanged ∙ parts-kept in
     (c.fill_zero.ensures.dst_len_unchanged ∙ after_kept, search rules)

@@ -11,13 +11,20 @@ pub overflow_sub-rest : goal.overflow_sub-rest
 overflow_sub-rest c = end_inside _ _ _ _ _ _ c.requires.ready _ c.requires.roomy c.requires.g_value.0 (λ k. omega (arith, c.slice_known-1.given k))
 
 pub save_old-size-requires-clause-good_form : goal.save_old-size-requires-clause-good_form
-save_old-size-requires-clause-good_form c = (ready_form _ _ _ _ _ _ c.requires.ready, omega (arith, c.requires.ready.few_index), omega (arith, ready_few _ _ _ _ _ _ c.requires.ready))
+save_old-size-requires-clause-good_form c = (
+  ready_form _ _ _ _ _ _ c.requires.ready,
+  omega (arith, c.requires.ready.few_index),
+  omega (arith, ready_few _ _ _ _ _ _ c.requires.ready),
+)
 
 pub save_old-size-requires-clause-v_in_bounds : goal.save_old-size-requires-clause-v_in_bounds
 save_old-size-requires-clause-v_in_bounds c = (omega (arith, c.requires.ready.whole, c.requires.roomy.shorter), c.requires.g_value.1)
 
 pub save_old-size-requires-clause-size_bound : goal.save_old-size-requires-clause-size_bound
-save_old-size-requires-clause-size_bound c = (c.requires.ready.inside, end_inside _ _ _ _ _ _ c.requires.ready _ c.requires.roomy c.requires.g_value.0 (λ k. omega (arith, c.slice_known-1.given k)))
+save_old-size-requires-clause-size_bound c = (
+  c.requires.ready.inside,
+  end_inside _ _ _ _ _ _ c.requires.ready _ c.requires.roomy c.requires.g_value.0 (λ k. omega (arith, c.slice_known-1.given k)),
+)
 
 pub overflow_add-front-2 : goal.overflow_add-front-2
 overflow_add-front-2 c =
@@ -32,11 +39,15 @@ pub slice_bounds-write_parts-end-2 : goal.slice_bounds-write_parts-end-2
 slice_bounds-write_parts-end-2 c = sym (length-take-le _ _ (omega (arith, c.save_old-size.ensures.end_in_bounds)))
 
 pub write_parts-b-requires : goal.write_parts-b-requires
-write_parts-b-requires c = let whole = kept_asks _ _ _ _ _ _ c.requires.ready _ c.requires.roomy c.requires.g_value.0 (λ k. omega (arith, c.slice_known-1.given k))
-    _ _ c.save_old-size.ensures.saved _ refl in record { h_value = whole.0; width = whole.1.0; parts_fit = whole.1.1 }
+write_parts-b-requires c =
+    let whole =
+    kept_asks _ _ _ _ _ _ c.requires.ready _ c.requires.roomy c.requires.g_value.0 (λ k. omega (arith, c.slice_known-1.given k)) _ _
+    c.save_old-size.ensures.saved _ refl in
+    record { h_value = whole.0; width = whole.1.0; parts_fit = whole.1.1 }
 
 pub overflow_add-size : goal.overflow_add-size
-overflow_add-size c = omega (arith, c.save_old-size.ensures.saved.0, c.requires.ready.inside, ready_few _ _ _ _ _ _ c.requires.ready, c.requires.ready.few_index)
+overflow_add-size c =
+    omega (arith, c.save_old-size.ensures.saved.0, c.requires.ready.inside, ready_few _ _ _ _ _ _ c.requires.ready, c.requires.ready.few_index)
 
 pub put_rest-requires : goal.put_rest-requires
 put_rest-requires c =
@@ -50,8 +61,9 @@ returns-clause-areas c = kept_areas _ _ _ _ _ _ c.requires.ready _ c.requires.ro
     c.write_parts-b.ensures.parts_put.0 c.write_parts-b.ensures.image_len_unchanged.0 c.put_rest.ensures.image_after
 
 pub returns-clause-free_after : goal.returns-clause-free_after
-returns-clause-free_after c = kept_marks _ _ _ _ _ _ c.requires.ready _ c.requires.roomy c.requires.g_value.0 (λ k. omega (arith, c.slice_known-1.given k))
-    _ _ c.save_old-size.ensures.saved _ c.write_parts-b.ensures.parts_put.2
+returns-clause-free_after c =
+    kept_marks _ _ _ _ _ _ c.requires.ready _ c.requires.roomy c.requires.g_value.0 (λ k. omega (arith, c.slice_known-1.given k)) _ _
+    c.save_old-size.ensures.saved _ c.write_parts-b.ensures.parts_put.2
 
 pub returns-clause-image_len_unchanged : goal.returns-clause-image_len_unchanged
 returns-clause-image_len_unchanged c = (

@@ -32,25 +32,31 @@ slice_bounds-measure_change-end-2 c = first_bytes _ _ (omega (arith, c.requires.
 
 pub measure_change-p-requires : goal.measure_change-p-requires
 measure_change-p-requires c =
-    let good : headword_ok c.args.headword.now ≡ true =
-    head_good c.args.headword.now _ c.headword_ok.ensures (search) in
-    let p = c.requires in let there = c.position-len.ensures in record {
+    let good : headword_ok c.args.headword.now ≡ true = head_good c.args.headword.now _ c.headword_ok.ensures (search) in
+    let p = c.requires in
+    let there = c.position-len.ensures in
+    record {
       accepted_image = front_accepted _ _ _ there p.accepted_image.0;
       image_len = (
-        front_blocks c.args.image.now c.position-len.result (omega (arith, there, p.v_in_bounds.0)) (omega (arith, there, whole_blocks _ _ p.accepted_image.0)),
+        front_blocks c.args.image.now c.position-len.result (omega (arith, there, p.v_in_bounds.0)) (omega (
+          arith,
+          there,
+          whole_blocks _ _
+              p.accepted_image.0,
+        )),
         good,
         search rules,
       );
     }
 
 pub returns-then-not-p : goal.returns-then-not-p
-returns-then-not-p c = let p = c.requires in let k = draft_front _ c.args.v _ _ _ _ _ c.position-len.ensures c.measure_change-p.ensures in let r = delete_absent c.args.image.now c.args.work.now c.args.v p.accepted_image.0 p.v_in_bounds.0 p.v_in_bounds.1
-    _ c.writable.ensures c.args.headword.now (search)
-    _ c.headword_ok.ensures (search) _ _ k (search) in record {
-      result_value = r.0;
-      image_after = r.1;
-      work_len_unchanged = refl;
-    }
+returns-then-not-p c =
+    let p = c.requires in
+    let k = draft_front _ c.args.v _ _ _ _ _ c.position-len.ensures c.measure_change-p.ensures in
+    let r =
+    delete_absent c.args.image.now c.args.work.now c.args.v p.accepted_image.0 p.v_in_bounds.0 p.v_in_bounds.1 _ c.writable.ensures
+    c.args.headword.now (search) _ c.headword_ok.ensures (search) _ _ k (search) in
+    record { result_value = r.0; image_after = r.1; work_len_unchanged = refl }
 
 pub overflow_sub-words : goal.overflow_sub-words
 overflow_sub-words c =
@@ -59,9 +65,11 @@ overflow_sub-words c =
 
 pub change-r-requires : goal.change-r-requires
 change-r-requires c =
-    let good : headword_ok c.args.headword.now ≡ true =
-    head_good c.args.headword.now _ c.headword_ok.ensures (search) in
-    let v = c.args.v in let p = c.requires in let k = draft_front _ c.args.v _ _ _ _ _ c.position-len.ensures c.measure_change-p.ensures in record {
+    let good : headword_ok c.args.headword.now ≡ true = head_good c.args.headword.now _ c.headword_ok.ensures (search) in
+    let v = c.args.v in
+    let p = c.requires in
+    let k = draft_front _ c.args.v _ _ _ _ _ c.position-len.ensures c.measure_change-p.ensures in
+    record {
       drafted = draft_measured _ v _ _ _ _ k;
       p_in_bounds = (draft_inside _ v _ _ _ _ k p.v_in_bounds.0, p.v_in_bounds.1, p.v_in_bounds.2);
       free_marked = draft_marked _ v _ _ _ _ k _ p.accepted_image.1;
@@ -70,20 +78,23 @@ change-r-requires c =
     }
 
 pub returns-in-Full : goal.returns-in-Full
-returns-in-Full c = let p = c.requires in let k = draft_front _ c.args.v _ _ _ _ _ c.position-len.ensures c.measure_change-p.ensures in let q = c.change-r.ensures in let r = delete_fifteen c.args.image.now c.args.work.now c.args.v p.accepted_image.0 p.v_in_bounds.0 p.v_in_bounds.1
-    _ c.writable.ensures c.args.headword.now (search)
-    _ c.headword_ok.ensures (search) _ _ k (search) c.change-r.result c.change-r.new.image q.changed (search rules) in record {
-      result_value = r.0;
-      image_after = r.1;
-      work_len_unchanged = q.image_len_unchanged.1;
-    }
+returns-in-Full c =
+    let p = c.requires in
+    let k = draft_front _ c.args.v _ _ _ _ _ c.position-len.ensures c.measure_change-p.ensures in
+    let q = c.change-r.ensures in
+    let r =
+    delete_fifteen c.args.image.now c.args.work.now c.args.v p.accepted_image.0 p.v_in_bounds.0 p.v_in_bounds.1 _ c.writable.ensures
+    c.args.headword.now (search) _ c.headword_ok.ensures (search) _ _ k (search) c.change-r.result c.change-r.new.image q.changed (search
+    rules) in
+    record { result_value = r.0; image_after = r.1; work_len_unchanged = q.image_len_unchanged.1 }
 
 pub returns-in-Done : goal.returns-in-Done
-returns-in-Done c = let p = c.requires in let k = draft_front _ c.args.v _ _ _ _ _ c.position-len.ensures c.measure_change-p.ensures in let q = c.change-r.ensures in let r = delete_done c.args.image.now c.args.work.now c.args.v p.accepted_image.0 p.v_in_bounds.0 p.v_in_bounds.1
-    _ c.writable.ensures c.args.headword.now (search)
-    _ c.headword_ok.ensures (search) _ _ k (search) c.change-r.result
-    c.change-r.new.image q.changed c.in-Done.l (search rules) in record {
-      result_value = r.0;
-      image_after = r.1;
-      work_len_unchanged = q.image_len_unchanged.1;
-    }
+returns-in-Done c =
+    let p = c.requires in
+    let k = draft_front _ c.args.v _ _ _ _ _ c.position-len.ensures c.measure_change-p.ensures in
+    let q = c.change-r.ensures in
+    let r =
+    delete_done c.args.image.now c.args.work.now c.args.v p.accepted_image.0 p.v_in_bounds.0 p.v_in_bounds.1 _ c.writable.ensures
+    c.args.headword.now (search) _ c.headword_ok.ensures (search) _ _ k (search) c.change-r.result c.change-r.new.image q.changed c.in-Done.l
+    (search rules) in
+    record { result_value = r.0; image_after = r.1; work_len_unchanged = q.image_len_unchanged.1 }

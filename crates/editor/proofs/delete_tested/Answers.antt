@@ -32,12 +32,10 @@ delete_in-requires c =
     }
 
 pub returns-in-Refused : goal.returns-in-Refused
-returns-in-Refused c = let p = c.requires in let r = delete_refused c.args.image.now c.args.len c.args.work.now p.0 p.1 p.2 p.3
-    c.in-Refused.k (search is_refused) c.args.headword.now in record {
-      result_value = r.0;
-      image_after = r.1;
-      work_len_unchanged = refl;
-    }
+returns-in-Refused c =
+    let p = c.requires in
+    let r = delete_refused c.args.image.now c.args.len c.args.work.now p.0 p.1 p.2 p.3 c.in-Refused.k (search is_refused) c.args.headword.now in
+    record { result_value = r.0; image_after = r.1; work_len_unchanged = refl }
 
 pub returns-in-Sound : goal.returns-in-Sound
 returns-in-Sound c =

@@ -23,22 +23,22 @@ inspect-r-requires-clause-free_value c = marks_zero 2560
 
 pub insert_in-requires : goal.insert_in-requires
 insert_in-requires c =
-    let accepted : AcceptedImage (take c.args.len c.args.image.now) c.in-Sound.v =
-    search is_accepted in
-    let whole : old_length c.in-Sound.v ≡ c.args.len =
-    let p = c.requires in front_whole _ _ p.2 p.1 _ accepted in
-    let e = whole in let few = words_few _ _ c.requires.2 c.requires.0 (λ k. omega (arith, c.slice_known-1.given k)) _ accepted in record {
+    let accepted : AcceptedImage (take c.args.len c.args.image.now) c.in-Sound.v = search is_accepted in
+    let whole : old_length c.in-Sound.v ≡ c.args.len = let p = c.requires in front_whole _ _ p.2 p.1 _ accepted in
+    let e = whole in
+    let few = words_few _ _ c.requires.2 c.requires.0 (λ k. omega (arith, c.slice_known-1.given k)) _ accepted in
+    record {
       accepted_image = (rw e accepted, rw e (search is_marked));
       v_in_bounds = (rw e c.requires.2, c.requires.3, search rules, few);
     }
 
 pub returns-in-Refused : goal.returns-in-Refused
-returns-in-Refused c = let p = c.requires in let r = insert_refused c.args.image.now c.args.len c.args.work.now p.0 p.1 p.2 p.3
-    c.in-Refused.k (search is_refused) c.args.headword.now c.args.attribute c.args.text.now in record {
-      result_value = r.0;
-      image_after = r.1;
-      work_len_unchanged = refl;
-    }
+returns-in-Refused c =
+    let p = c.requires in
+    let r =
+    insert_refused c.args.image.now c.args.len c.args.work.now p.0 p.1 p.2 p.3 c.in-Refused.k (search is_refused) c.args.headword.now
+    c.args.attribute c.args.text.now in
+    record { result_value = r.0; image_after = r.1; work_len_unchanged = refl }
 
 pub returns-in-Sound : goal.returns-in-Sound
 returns-in-Sound c =

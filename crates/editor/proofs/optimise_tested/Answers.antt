@@ -38,20 +38,19 @@ slice_bounds-pack-end-in-Sound c = first_bytes c.copy.new.dst c.args.len (omega 
 
 pub pack-requires : goal.pack-requires
 pack-requires c =
-    let accepted : AcceptedImage (take c.args.len c.args.image.now) c.in-Sound.v =
-    search is_accepted in
-    let copied = c.copy.ensures.dst_after in let p = c.requires in record {
+    let accepted : AcceptedImage (take c.args.len c.args.image.now) c.in-Sound.v = search is_accepted in
+    let copied = c.copy.ensures.dst_after in
+    let p = c.requires in
+    record {
       accepted_image = copy_accepted _ _ p.2 _ _ copied _ accepted;
       len = (copy_blocks _ _ p.2 _ _ copied p.1, copy_inside _ _ p.2 _ _ copied, copy_front _ _ p.2 _ _ copied);
     }
 
 pub returns-in-Refused : goal.returns-in-Refused
-returns-in-Refused c = let p = c.requires in let r = optimise_refused c.args.image.now c.args.len c.args.work.now p.0 p.1 p.2 p.3
-    c.in-Refused.k (search is_refused) in record {
-      result_value = r.0;
-      image_after = r.1;
-      work_len_unchanged = refl;
-    }
+returns-in-Refused c =
+    let p = c.requires in
+    let r = optimise_refused c.args.image.now c.args.len c.args.work.now p.0 p.1 p.2 p.3 c.in-Refused.k (search is_refused) in
+    record { result_value = r.0; image_after = r.1; work_len_unchanged = refl }
 
 pub returns-else-not-writable : goal.returns-else-not-writable
 returns-else-not-writable c =

@@ -12,7 +12,8 @@ abbrev pub invariant-loop-left : goal.invariant-loop-left
 invariant-loop-left l =
     (length l.dst ≡ length l.initial.dst) × (l.at + room l.width (elements_at l.width l.index l.initial.pos l.initial.left) ≤ length l.dst) × Inside l.width l.index l.pos l.left
     × (l.out + room l.width (elements_at l.width l.index l.pos l.left) ≡ l.at + room l.width (elements_at l.width l.index l.initial.pos l.initial.left))
-    × (write l.out (renewed_bytes l.width l.numbers l.g (elements_at l.width l.index l.pos l.left)) l.dst ≡ write l.at (renewed_bytes l.width l.numbers l.g (elements_at l.width l.index l.initial.pos l.initial.left)) l.initial.dst)
+    × (write l.out (renewed_bytes l.width l.numbers l.g (elements_at l.width l.index l.pos l.left)) l.dst
+    ≡ write l.at (renewed_bytes l.width l.numbers l.g (elements_at l.width l.index l.initial.pos l.initial.left)) l.initial.dst)
 
 abbrev pub decreases-loop-left : goal.decreases-loop-left
 decreases-loop-left l = l.left

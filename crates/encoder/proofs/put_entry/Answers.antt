@@ -12,35 +12,35 @@ pub write_u16-requires : goal.write_u16-requires
 write_u16-requires c =
     let size : length (entry_bytes c.args.prev.now (record { headword = c.args.headword.now; body = c.args.body.now }))
     ≡ 4 + (length c.args.headword.now - c.shared_front-front.result) + length c.args.body.now =
-      sym (search entry_measured) in
+    sym (search entry_measured) in
     omega (arith, size)
 
 pub write_u8-requires : goal.write_u8-requires
 write_u8-requires c =
     let size : length (entry_bytes c.args.prev.now (record { headword = c.args.headword.now; body = c.args.body.now }))
     ≡ 4 + (length c.args.headword.now - c.shared_front-front.result) + length c.args.body.now =
-      sym (search entry_measured) in
+    sym (search entry_measured) in
     omega (arith, size)
 
 pub copy-requires : goal.copy-requires
 copy-requires c =
     let size : length (entry_bytes c.args.prev.now (record { headword = c.args.headword.now; body = c.args.body.now }))
     ≡ 4 + (length c.args.headword.now - c.shared_front-front.result) + length c.args.body.now =
-      sym (search entry_measured) in
+    sym (search entry_measured) in
     (omega (arith, size), omega arith)
 
 pub write_u8-requires-2 : goal.write_u8-requires-2
 write_u8-requires-2 c =
     let size : length (entry_bytes c.args.prev.now (record { headword = c.args.headword.now; body = c.args.body.now }))
     ≡ 4 + (length c.args.headword.now - c.shared_front-front.result) + length c.args.body.now =
-      sym (search entry_measured) in
+    sym (search entry_measured) in
     omega (arith, size)
 
 pub copy-requires-2 : goal.copy-requires-2
 copy-requires-2 c =
     let size : length (entry_bytes c.args.prev.now (record { headword = c.args.headword.now; body = c.args.body.now }))
     ≡ 4 + (length c.args.headword.now - c.shared_front-front.result) + length c.args.body.now =
-      sym (search entry_measured) in
+    sym (search entry_measured) in
     (omega (arith, size), omega arith)
 
 pub returns-clause-dst_after : goal.returns-clause-dst_after

@@ -5,10 +5,9 @@ use borrow.Author.Rules.{rules}
 use Rattle.listing.proofs.listing.Goals as goal
 
 pub returns-then-out-lt4000000 : goal.returns-then-out-lt4000000
-returns-then-out-lt4000000 c = let k = listed_short _ c.args.out.now c.if-out-lt4000000.true in record {
-  value = (k.0, omega arith);
-  out_after = k.1;
-}
+returns-then-out-lt4000000 c =
+    let k = listed_short _ c.args.out.now c.if-out-lt4000000.true in
+    record { value = (k.0, omega arith); out_after = k.1 }
 
 pub returns-clause-value : goal.returns-clause-value
 returns-clause-value c = (search (list_end, listed_whole), omega arith)

@@ -25,11 +25,14 @@ pub loop-from-smaller : goal.loop-from-smaller
 loop-from-smaller c = search (fit_less, rules)
 
 pub loop-from-preserved : goal.loop-from-preserved
-loop-from-preserved c = (omega arith, omega arith,
-    elim c.else-n-size.branch [
-      | else-n-size-via-then-n-size+else-size-limit w ↦ search (fit_long, rules)
-      | else-n-size-via-else-n-size w ↦ search (fit_short, rules)
-    ])
+loop-from-preserved c = (
+  omega arith,
+  omega arith,
+  elim c.else-n-size.branch [
+    | else-n-size-via-then-n-size+else-size-limit w ↦ search (fit_long, rules)
+    | else-n-size-via-else-n-size w ↦ search (fit_short, rules)
+  ],
+)
 
 pub returns-else-n-limit : goal.returns-else-n-limit
 returns-else-n-limit c = (search (fit_exact, leb-false, rules), omega arith)

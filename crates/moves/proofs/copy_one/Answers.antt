@@ -18,7 +18,9 @@ pub overflow_mul-b : goal.overflow_mul-b
 overflow_mul-b c = omega (arith, ready_run _ _ _ _ _ _ _ c.if-numbers-b-eq0.false c.requires.all)
 
 pub copy-requires : goal.copy-requires
-copy-requires c = let r = ready_run _ _ _ _ _ _ _ c.if-numbers-b-eq0.false c.requires.all in (omega arith, omega arith)
+copy-requires c =
+    let r = ready_run _ _ _ _ _ _ _ c.if-numbers-b-eq0.false c.requires.all in
+    (omega arith, omega arith)
 
 pub returns-clause-image_after : goal.returns-clause-image_after
 returns-clause-image_after c = search (copy_run, rules)

@@ -11,7 +11,8 @@ use Rattle.moves.proofs.note_starts.Given as goal
 
 abbrev pub invariant-loop-left : goal.invariant-loop-left
 invariant-loop-left l =
-    (length l.numbers ≡ length l.initial.numbers) × (noted l.g (blocks (elements_at l.width l.index l.at l.left)) l.numbers ≡ noted l.g (blocks (elements_at l.width l.index l.initial.at l.initial.left)) l.initial.numbers)
+    (length l.numbers ≡ length l.initial.numbers) × (noted l.g (blocks (elements_at l.width l.index l.at l.left)) l.numbers
+    ≡ noted l.g (blocks (elements_at l.width l.index l.initial.at l.initial.left)) l.initial.numbers)
     × Inside l.width l.index l.at l.left
 
 abbrev pub decreases-loop-left : goal.decreases-loop-left

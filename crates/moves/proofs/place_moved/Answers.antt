@@ -24,8 +24,10 @@ pub loop-b-preserved : goal.loop-b-preserved
 loop-b-preserved c = (omega arith, omega arith, omega arith, omega arith, omega arith, omega arith, search (place_turn, rules))
 
 pub returns : goal.returns
-returns c = let r = place_end _ _ _ _ _ _ _ _ _ _ c.loop-b.invariant.6 c.loop-b-test.false in record {
-  within = (λ h. (r.0, r.1), λ h. absurd (omega arith));
-  numbers_after = λ h. r.2;
-  free_len_unchanged = (omega arith, omega arith, omega arith);
-}
+returns c =
+    let r = place_end _ _ _ _ _ _ _ _ _ _ c.loop-b.invariant.6 c.loop-b-test.false in
+    record {
+      within = (λ h. (r.0, r.1), λ h. absurd (omega arith));
+      numbers_after = λ h. r.2;
+      free_len_unchanged = (omega arith, omega arith, omega arith);
+    }

@@ -37,7 +37,8 @@ pub encode_part-p-requires-clause-h_value : goal.encode_part-p-requires-clause-h
 encode_part-p-requires-clause-h_value c = (c.requires.h_value.0, c.requires.h_value.1, omega arith, c.requires.h_value.3)
 
 pub returns-then-p-eq0-clause-within : goal.returns-then-p-eq0-clause-within
-returns-then-p-eq0-clause-within c = planned _ _ _ _ _ _ _ _ c.loop-form.invariant.9 _ (none_left _ _ _ c.encode_part-p.ensures.used_value c.if-p-eq0.true)
+returns-then-p-eq0-clause-within c =
+    planned _ _ _ _ _ _ _ _ c.loop-form.invariant.9 _ (none_left _ _ _ c.encode_part-p.ensures.used_value c.if-p-eq0.true)
 
 pub returns-then-p-eq0-clause-lower_bound : goal.returns-then-p-eq0-clause-lower_bound
 returns-then-p-eq0-clause-lower_bound c = (omega arith, omega arith, omega arith)

@@ -26,7 +26,8 @@ invariant-loop-form l =
     × (block_position l.form.extended l.index (laid l.form.limit l.g l.initial.last (marks l.initial.free) (changed_entries l.form.order l.run l.h l.body l.fresh)).end ≤ length l.initial.image)
     × (l.initial.out + elements_long l.form.width l.form.limit l.g (laid l.form.limit l.g l.initial.last (marks l.initial.free) (changed_entries l.form.order l.run l.h l.body l.fresh)).places
     (changed_entries l.form.order l.run l.h l.body l.fresh) ≤ length l.initial.image)
-    × Writing l.form.width l.form.limit l.form.extended l.index l.g l.initial.out l.initial.last (marks l.initial.free) (changed_entries l.form.order l.run l.h l.body l.fresh) l.initial.image l.out l.last (marks l.free)
+    × Writing l.form.width l.form.limit l.form.extended l.index l.g l.initial.out l.initial.last (marks l.initial.free) (changed_entries l.form.order l.run l.h l.body
+    l.fresh) l.initial.image l.out l.last (marks l.free)
     (todo l.form.order l.run l.word l.h l.body l.cur) l.image
 
 abbrev pub decreases-loop-form : goal.decreases-loop-form

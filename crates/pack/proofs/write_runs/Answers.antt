@@ -16,7 +16,13 @@ pub overflow_add-front : goal.overflow_add-front
 overflow_add-front c = search write_laws
 
 pub loop-left-init : goal.loop-left-init
-loop-left-init c = (search write_laws, search write_laws, search write_laws, search write_laws, λ order fit. underway_start _ order _ _ _ _ _ _ _ _ fit)
+loop-left-init c = (
+  search write_laws,
+  search write_laws,
+  search write_laws,
+  search write_laws,
+  λ order fit. underway_start _ order _ _ _ _ _ _ _ _ fit,
+)
 
 pub element_end-end-requires : goal.element_end-end-requires
 element_end-end-requires c = search write_laws
@@ -43,21 +49,22 @@ overflow_mul-from c = search write_laws
 
 pub overflow_mul-blocks : goal.overflow_mul-blocks
 overflow_mul-blocks c =
-    let fits-here : block_position c.args.form.extended c.args.m c.loop-left.b + 256 * c.in-Blocks.blocks
-    ≤ length c.loop-left.image =
-      run_fits _ _ _ _ _ _ _ _ _ _ _ _ _ _ _ (c.loop-left.invariant.4 _ c.requires.runs_fit) c.loop-left-test.true c.loop-left.invariant.3 c.requires.d_value.0 _
-    c.element_end-end.ensures.value _ c.read_number-from.ensures.value _ c.run_size-size.ensures.value _ c.in-Blocks.is in
+    let fits-here : block_position c.args.form.extended c.args.m c.loop-left.b + 256 * c.in-Blocks.blocks ≤ length c.loop-left.image =
+    run_fits _ _ _ _ _ _ _ _ _ _ _ _ _ _ _ (c.loop-left.invariant.4 _ c.requires.runs_fit) c.loop-left-test.true c.loop-left.invariant.3
+    c.requires.d_value.0 _ c.element_end-end.ensures.value _ c.read_number-from.ensures.value _ c.run_size-size.ensures.value _ c.in-Blocks.is
+    in
     omega (arith, fits-here)
 
 pub copy-requires : goal.copy-requires
 copy-requires c =
     let inside-here : c.read_number-from.result + c.in-Blocks.blocks ≤ c.args.d =
-      run_inside _ _ _ _ _ _ _ _ _ _ _ _ _ _ _ (c.loop-left.invariant.4 _ c.requires.runs_fit) c.loop-left-test.true c.loop-left.invariant.3 c.requires.d_value.0 _
-    c.element_end-end.ensures.value _ c.read_number-from.ensures.value _ c.run_size-size.ensures.value _ c.in-Blocks.is in
-    let fits-here : block_position c.args.form.extended c.args.m c.loop-left.b + 256 * c.in-Blocks.blocks
-    ≤ length c.loop-left.image =
-      run_fits _ _ _ _ _ _ _ _ _ _ _ _ _ _ _ (c.loop-left.invariant.4 _ c.requires.runs_fit) c.loop-left-test.true c.loop-left.invariant.3 c.requires.d_value.0 _
-    c.element_end-end.ensures.value _ c.read_number-from.ensures.value _ c.run_size-size.ensures.value _ c.in-Blocks.is in
+    run_inside _ _ _ _ _ _ _ _ _ _ _ _ _ _ _ (c.loop-left.invariant.4 _ c.requires.runs_fit) c.loop-left-test.true c.loop-left.invariant.3
+    c.requires.d_value.0 _ c.element_end-end.ensures.value _ c.read_number-from.ensures.value _ c.run_size-size.ensures.value _ c.in-Blocks.is
+    in
+    let fits-here : block_position c.args.form.extended c.args.m c.loop-left.b + 256 * c.in-Blocks.blocks ≤ length c.loop-left.image =
+    run_fits _ _ _ _ _ _ _ _ _ _ _ _ _ _ _ (c.loop-left.invariant.4 _ c.requires.runs_fit) c.loop-left-test.true c.loop-left.invariant.3
+    c.requires.d_value.0 _ c.element_end-end.ensures.value _ c.read_number-from.ensures.value _ c.run_size-size.ensures.value _ c.in-Blocks.is
+    in
     (omega (arith, fits-here, c.position-to.ensures), omega (arith, inside-here))
 
 pub overflow_add-at : goal.overflow_add-at
@@ -77,19 +84,19 @@ put_element-out-requires c = (
   search rules,
   omega (
     arith,
-    element_fits _ _ _ _ _ _ _ _ _ _ _ _ _ _ _ (c.loop-left.invariant.4 _ c.requires.runs_fit) c.loop-left-test.true c.loop-left.invariant.3 c.requires.d_value.0 _
-        c.element_end-end.ensures.value _ c.read_number-from.ensures.value _ c.run_size-size.ensures.value _ c.in-Blocks.is,
+    element_fits _ _ _ _ _ _ _ _ _ _ _ _ _ _ _ (c.loop-left.invariant.4 _ c.requires.runs_fit) c.loop-left-test.true
+        c.loop-left.invariant.3 c.requires.d_value.0 _ c.element_end-end.ensures.value _ c.read_number-from.ensures.value _
+        c.run_size-size.ensures.value _ c.in-Blocks.is,
   ),
 )
 
 pub overflow_add-b : goal.overflow_add-b
 overflow_add-b c =
-    let fits-here : block_position c.args.form.extended c.args.m c.loop-left.b + 256 * c.in-Blocks.blocks
-    ≤ length c.loop-left.image =
-      run_fits _ _ _ _ _ _ _ _ _ _ _ _ _ _ _ (c.loop-left.invariant.4 _ c.requires.runs_fit) c.loop-left-test.true c.loop-left.invariant.3 c.requires.d_value.0 _
-    c.element_end-end.ensures.value _ c.read_number-from.ensures.value _ c.run_size-size.ensures.value _ c.in-Blocks.is in
-    let counted-here : c.loop-left.b + c.in-Blocks.blocks ≤ 18_446_744_073_709_551_615 =
-      omega (arith, fits-here) in
+    let fits-here : block_position c.args.form.extended c.args.m c.loop-left.b + 256 * c.in-Blocks.blocks ≤ length c.loop-left.image =
+    run_fits _ _ _ _ _ _ _ _ _ _ _ _ _ _ _ (c.loop-left.invariant.4 _ c.requires.runs_fit) c.loop-left-test.true c.loop-left.invariant.3
+    c.requires.d_value.0 _ c.element_end-end.ensures.value _ c.read_number-from.ensures.value _ c.run_size-size.ensures.value _ c.in-Blocks.is
+    in
+    let counted-here : c.loop-left.b + c.in-Blocks.blocks ≤ 18_446_744_073_709_551_615 = omega (arith, fits-here) in
     omega (arith, counted-here)
 
 pub overflow_sub-left : goal.overflow_sub-left
@@ -100,27 +107,28 @@ loop-left-smaller c = search write_laws
 
 pub loop-left-preserved : goal.loop-left-preserved
 loop-left-preserved c =
-    let fits-here : block_position c.args.form.extended c.args.m c.loop-left.b + 256 * c.in-Blocks.blocks
-    ≤ length c.loop-left.image =
-      run_fits _ _ _ _ _ _ _ _ _ _ _ _ _ _ _ (c.loop-left.invariant.4 _ c.requires.runs_fit) c.loop-left-test.true c.loop-left.invariant.3 c.requires.d_value.0 _
-    c.element_end-end.ensures.value _ c.read_number-from.ensures.value _ c.run_size-size.ensures.value _ c.in-Blocks.is in
-    (
-  search write_laws,
-  search write_laws,
-  omega (arith, fits-here),
-  here_next _ _ _ _ _ c.loop-left.invariant.3 c.element_end-end.ensures.value c.loop-left-test.true,
-  λ order fit.
-      underway_turn _ _ _ _ _ _ _ _ _ _ _ _ _ _ _ (c.loop-left.invariant.4 order fit) c.loop-left-test.true c.loop-left.invariant.3 c.requires.d_value.0 _
-      c.element_end-end.ensures.value _ c.read_number-from.ensures.value _ c.run_size-size.ensures.value _ c.in-Blocks.is
-      _ c.position-to.ensures _ _ _ c.loop-left.invariant.1 c.copy.ensures.dst_after c.put_element-out.ensures.dst_after c.put_element-out.ensures.value,
-)
+    let fits-here : block_position c.args.form.extended c.args.m c.loop-left.b + 256 * c.in-Blocks.blocks ≤ length c.loop-left.image =
+    run_fits _ _ _ _ _ _ _ _ _ _ _ _ _ _ _ (c.loop-left.invariant.4 _ c.requires.runs_fit) c.loop-left-test.true c.loop-left.invariant.3
+    c.requires.d_value.0 _ c.element_end-end.ensures.value _ c.read_number-from.ensures.value _ c.run_size-size.ensures.value _ c.in-Blocks.is
+    in (
+      search write_laws,
+      search write_laws,
+      omega (arith, fits-here),
+      here_next _ _ _ _ _ c.loop-left.invariant.3 c.element_end-end.ensures.value c.loop-left-test.true,
+      λ order fit. underway_turn _ _ _ _ _ _ _ _ _ _ _ _ _ _ _ (c.loop-left.invariant.4 order fit) c.loop-left-test.true c.loop-left.invariant.3
+          c.requires.d_value.0 _ c.element_end-end.ensures.value _ c.read_number-from.ensures.value _ c.run_size-size.ensures.value _ c.in-Blocks.is _
+          c.position-to.ensures _ _ _ c.loop-left.invariant.1 c.copy.ensures.dst_after c.put_element-out.ensures.dst_after
+          c.put_element-out.ensures.value,
+    )
 
 pub shape_of-image : goal.shape_of-image
 shape_of-image c = search write_laws
 
 pub returns : goal.returns
-returns c = let v = c.loop-left.invariant.4 _ c.requires.runs_fit in record {
-  image_after = underway_end _ _ _ _ _ _ _ _ _ _ _ _ _ _ _ v c.loop-left-test.false;
-  value = underway_out _ _ _ _ _ _ _ _ _ _ _ _ _ _ _ v c.loop-left-test.false;
-  image_len_unchanged = search rules;
-}
+returns c =
+    let v = c.loop-left.invariant.4 _ c.requires.runs_fit in
+    record {
+      image_after = underway_end _ _ _ _ _ _ _ _ _ _ _ _ _ _ _ v c.loop-left-test.false;
+      value = underway_out _ _ _ _ _ _ _ _ _ _ _ _ _ _ _ v c.loop-left-test.false;
+      image_len_unchanged = search rules;
+    }

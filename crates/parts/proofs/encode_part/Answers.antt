@@ -32,21 +32,25 @@ pub loop-found-init : goal.loop-found-init
 loop-found-init c = (omega arith, omega arith, refl, refl, refl, c.requires.cursor_ok, filling_start _ _ _, met_start _ _)
 
 pub returns-in-Done : goal.returns-in-Done
-returns-in-Done c = let f = part_done _ _ _ _ _ _ _ _ _ _ _ _ _ c.next_turn-t.ensures c.loop-found.invariant.6 c.in-Done.is in let l = c.loop-found.invariant in record {
-  part_after = f.whole;
-  used_value = f.size;
-  cursor_after = f.behind;
-  cursor_ok_2 = l.5;
-  used_le_longest_entry = (l.1, l.4, l.3);
-  met = l.7;
-  cursor_after_2 = λ z. met_done _ _ _ _ _ _ c.next_turn-t.ensures c.in-Done.is;
-}
+returns-in-Done c =
+    let f = part_done _ _ _ _ _ _ _ _ _ _ _ _ _ c.next_turn-t.ensures c.loop-found.invariant.6 c.in-Done.is in
+    let l = c.loop-found.invariant in
+    record {
+      part_after = f.whole;
+      used_value = f.size;
+      cursor_after = f.behind;
+      cursor_ok_2 = l.5;
+      used_le_longest_entry = (l.1, l.4, l.3);
+      met = l.7;
+      cursor_after_2 = λ z. met_done _ _ _ _ _ _ c.next_turn-t.ensures c.in-Done.is;
+    }
 
 pub advance-cur-requires-clause-at_in_bounds : goal.advance-cur-requires-clause-at_in_bounds
 advance-cur-requires-clause-at_in_bounds c = c.loop-found.invariant.5.inside
 
 pub advance-cur-requires-clause-longest_headword_in_bounds : goal.advance-cur-requires-clause-longest_headword_in_bounds
-advance-cur-requires-clause-longest_headword_in_bounds c = (c.loop-found.invariant.5.room, c.loop-found.invariant.5.short, c.loop-found.invariant.5.clean)
+advance-cur-requires-clause-longest_headword_in_bounds c =
+    (c.loop-found.invariant.5.room, c.loop-found.invariant.5.short, c.loop-found.invariant.5.clean)
 
 pub loop-found-smaller-in-Skip : goal.loop-found-smaller-in-Skip
 loop-found-smaller-in-Skip c =
@@ -104,8 +108,13 @@ append-fit-requires c =
     }
 
 pub returns-in-Full : goal.returns-in-Full
-returns-in-Full c = let f = part_full_old _ _ _ _ _ _ _ _ _ _ _ _ _ c.next_turn-t.ensures c.loop-found.invariant.6 _ _ _ c.in-Old.is
-    c.append-fit.ensures.appended c.in-Full.is in let l = c.loop-found.invariant in let a = c.append-fit.ensures in record {
+returns-in-Full c =
+    let f =
+    part_full_old _ _ _ _ _ _ _ _ _ _ _ _ _ c.next_turn-t.ensures c.loop-found.invariant.6 _ _ _ c.in-Old.is c.append-fit.ensures.appended
+    c.in-Full.is in
+    let l = c.loop-found.invariant in
+    let a = c.append-fit.ensures in
+    record {
       part_after = f.whole;
       used_value = f.size;
       cursor_after = f.behind;
@@ -119,7 +128,8 @@ pub advance-cur-requires-in-Used-clause-at_in_bounds : goal.advance-cur-requires
 advance-cur-requires-in-Used-clause-at_in_bounds c = c.loop-found.invariant.5.inside
 
 pub advance-cur-requires-in-Used-clause-longest_headword_in_bounds : goal.advance-cur-requires-in-Used-clause-longest_headword_in_bounds
-advance-cur-requires-in-Used-clause-longest_headword_in_bounds c = (c.loop-found.invariant.5.room, c.loop-found.invariant.5.short, c.loop-found.invariant.5.clean)
+advance-cur-requires-in-Used-clause-longest_headword_in_bounds c =
+    (c.loop-found.invariant.5.room, c.loop-found.invariant.5.short, c.loop-found.invariant.5.clean)
 
 pub loop-found-smaller-in-Used : goal.loop-found-smaller-in-Used
 loop-found-smaller-in-Used c =
@@ -145,14 +155,21 @@ loop-found-preserved-in-Used c = (
 )
 
 pub append-fit-requires-in-New : goal.append-fit-requires-in-New
-append-fit-requires-in-New c = let b = head_bounds _ c.requires.h_value.0 in record {
-  in_bounds = (b.0, b.1, c.requires.h_value.1);
-  held_le_longest_headword = (c.loop-found.invariant.0, omega arith, omega arith, c.loop-found.invariant.1, c.requires.h_value.3);
-}
+append-fit-requires-in-New c =
+    let b = head_bounds _ c.requires.h_value.0 in
+    record {
+      in_bounds = (b.0, b.1, c.requires.h_value.1);
+      held_le_longest_headword = (c.loop-found.invariant.0, omega arith, omega arith, c.loop-found.invariant.1, c.requires.h_value.3);
+    }
 
 pub returns-in-Full-fit : goal.returns-in-Full-fit
-returns-in-Full-fit c = let f = part_full_new _ _ _ _ _ _ _ _ _ _ _ _ _ c.next_turn-t.ensures c.loop-found.invariant.6 _ _ _ c.in-New.is
-    c.append-fit-in-New.ensures.appended c.in-Full-fit.is in let l = c.loop-found.invariant in let a = c.append-fit-in-New.ensures in record {
+returns-in-Full-fit c =
+    let f =
+    part_full_new _ _ _ _ _ _ _ _ _ _ _ _ _ c.next_turn-t.ensures c.loop-found.invariant.6 _ _ _ c.in-New.is c.append-fit-in-New.ensures.appended
+    c.in-Full-fit.is in
+    let l = c.loop-found.invariant in
+    let a = c.append-fit-in-New.ensures in
+    record {
       part_after = f.whole;
       used_value = f.size;
       cursor_after = f.behind;
@@ -173,7 +190,7 @@ loop-found-preserved c = (
   c.loop-found.invariant.3,
   c.append-fit-in-New.ensures.part_len_unchanged.0 ∙ c.loop-found.invariant.4,
   cursor_taken _ _ _ c.loop-found.invariant.5,
-  part_enters _ _ _ _ _ _ _ _ _ _ _ _ _ c.next_turn-t.ensures c.loop-found.invariant.6 _ _ _ c.in-New.is
-      c.append-fit-in-New.ensures.appended _ c.in-Used-fit.is (omega (arith, c.loop-found.invariant.1, c.loop-found.invariant.4, c.requires.h_value.2)),
+  part_enters _ _ _ _ _ _ _ _ _ _ _ _ _ c.next_turn-t.ensures c.loop-found.invariant.6 _ _ _ c.in-New.is c.append-fit-in-New.ensures.appended _
+      c.in-Used-fit.is (omega (arith, c.loop-found.invariant.1, c.loop-found.invariant.4, c.requires.h_value.2)),
   met_new _ _ _ _ _ _ _ c.loop-found.invariant.7,
 )

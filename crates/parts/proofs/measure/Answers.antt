@@ -21,21 +21,34 @@ pub loop-form-init : goal.loop-form-init
 loop-form-init c =
     let a = c.advance-cur.ensures in
     let p = c.requires in
-    let b = measure_bounds _ _ _ _ _ _ _ a.result_after a.fresh_value _ _ p.width.0.1 p.width.1 a.cursor_ok p.h_value.0 p.h_value.1 p.h_value.2 in
-    (a.word_len_unchanged, refl, a.cursor_ok, measure_start _ _ _ _ _ _ _ a.result_after a.fresh_value _ _, b.0, b.1, b.2, met_begun _ _ _ _ _ a.result_after)
+    let b = measure_bounds _ _ _ _ _ _ _ a.result_after a.fresh_value _ _ p.width.0.1 p.width.1 a.cursor_ok p.h_value.0 p.h_value.1 p.h_value.2 in (
+      a.word_len_unchanged,
+      refl,
+      a.cursor_ok,
+      measure_start _ _ _ _ _ _ _ a.result_after a.fresh_value _ _,
+      b.0,
+      b.1,
+      b.2,
+      met_begun _ _ _ _ _ a.result_after,
+    )
 
 pub encode_part-p-requires : goal.encode_part-p-requires
-encode_part-p-requires c = let p = c.requires in record {
-  cursor_ok = c.loop-form.invariant.2;
-  h_value = (p.h_value.0, p.h_value.1, omega arith, p.width.1);
-}
+encode_part-p-requires c =
+    let p = c.requires in
+    record {
+      cursor_ok = c.loop-form.invariant.2;
+      h_value = (p.h_value.0, p.h_value.1, omega arith, p.width.1);
+    }
 
 pub returns-then-p-eq0 : goal.returns-then-p-eq0
-returns-then-p-eq0 c = let k = c.loop-form.invariant in let p = c.encode_part-p.ensures in record {
-  measured = counted _ _ _ _ _ _ _ _ k.3 p.used_value c.if-p-eq0.true;
-  parts_bound = (omega (arith, k.3.parts_all, k.4), omega (arith, k.3.bytes_all, k.5), omega (arith, k.3.blocks_all, k.6));
-  found_value = met_all _ _ _ _ (met_part _ _ _ _ _ _ k.7 p.met) (p.cursor_after_2 c.if-p-eq0.true);
-}
+returns-then-p-eq0 c =
+    let k = c.loop-form.invariant in
+    let p = c.encode_part-p.ensures in
+    record {
+      measured = counted _ _ _ _ _ _ _ _ k.3 p.used_value c.if-p-eq0.true;
+      parts_bound = (omega (arith, k.3.parts_all, k.4), omega (arith, k.3.bytes_all, k.5), omega (arith, k.3.blocks_all, k.6));
+      found_value = met_all _ _ _ _ (met_part _ _ _ _ _ _ k.7 p.met) (p.cursor_after_2 c.if-p-eq0.true);
+    }
 
 pub overflow_add-long : goal.overflow_add-long
 overflow_add-long c = omega (arith, c.requires.width.0.1)
@@ -47,7 +60,8 @@ head_length-requires c = (
 )
 
 pub overflow_add-long-in-loop-form : goal.overflow_add-long-in-loop-form
-overflow_add-long-in-loop-form c = omega (arith, c.head_length.ensures.result_bound, c.encode_part-p.ensures.used_le_longest_entry.0, c.requires.width.0.1)
+overflow_add-long-in-loop-form c =
+    omega (arith, c.head_length.ensures.result_bound, c.encode_part-p.ensures.used_le_longest_entry.0, c.requires.width.0.1)
 
 pub overflow_add-parts : goal.overflow_add-parts
 overflow_add-parts c =

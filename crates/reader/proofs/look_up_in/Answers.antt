@@ -22,7 +22,6 @@ slice_bounds-is_equal-end c = search spot_front
 pub give_text-requires : goal.give_text-requires
 give_text-requires c = (search spot_body, search spot_area)
 
-
 pub returns-in-Absent : goal.returns-in-Absent
 returns-in-Absent c =
     look_up_absent _ _ _ _ c.requires.accepted_image c.requires.in_bounds.1 _ c.headword_ok.ensures (search) _ c.position-start.ensures _

@@ -40,6 +40,13 @@ copy_over-requires c = (
 )
 
 pub returns : goal.returns
-returns c = let whole = good_entry _ _ _ c.args.held _ _ _ _ c.first_zero-zero.ensures.value (search) (search) _ c.follows.ensures (search) (search) _
-    c.body_ok.ensures (search) (search) (search) (search) _ _
-    c.copy_over.ensures.dst_after (search) (search) in record { result_after = whole.0; inside = whole.1.0; word_len_unchanged = whole.1.1.0; kept = whole.1.1.1 }
+returns c =
+    let whole =
+    good_entry _ _ _ c.args.held _ _ _ _ c.first_zero-zero.ensures.value (search) (search) _ c.follows.ensures (search) (search) _
+    c.body_ok.ensures (search) (search) (search) (search) _ _ c.copy_over.ensures.dst_after (search) (search) in
+    record {
+      result_after = whole.0;
+      inside = whole.1.0;
+      word_len_unchanged = whole.1.1.0;
+      kept = whole.1.1.1;
+    }

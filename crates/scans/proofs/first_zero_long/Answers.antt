@@ -17,9 +17,9 @@ pub loop-i-init : goal.loop-i-init
 loop-i-init c = (omega arith, omega arith, clear_none _ _)
 
 pub returns-then-not-no_zero_flat-clause-value : goal.returns-then-not-no_zero_flat-clause-value
-returns-then-not-no_zero_flat-clause-value c = first_inside _ _ _ _ _ _ c.loop-i.invariant.2 c.loop-i.invariant.0 c.requires.1 _ c.no_zero_flat.ensures c.if-not-no_zero_flat.true-raw
-    c.loop-i-test.true
-    c.loop-i.invariant.1 c.first_zero_short-then-not-no_zero_flat.ensures.value
+returns-then-not-no_zero_flat-clause-value c =
+    first_inside _ _ _ _ _ _ c.loop-i.invariant.2 c.loop-i.invariant.0 c.requires.1 _ c.no_zero_flat.ensures c.if-not-no_zero_flat.true-raw
+    c.loop-i-test.true c.loop-i.invariant.1 c.first_zero_short-then-not-no_zero_flat.ensures.value
 
 pub returns-then-not-no_zero_flat-clause-lower_bound : goal.returns-then-not-no_zero_flat-clause-lower_bound
 returns-then-not-no_zero_flat-clause-lower_bound c = (omega arith, omega arith)

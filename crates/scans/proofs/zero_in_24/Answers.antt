@@ -26,17 +26,19 @@ both c =
     elim c.if-a-ne0.branch [
       | then-a-ne0 w ↦
           by_first c.args.s.now c.args.at c.zero_marks-a.result c.zero_marks-b.result c.zero_marks-m.result _ _ _ c.requires
-              first c.low_zeros.ensures.value (omega arith) w.if-a-ne0.true w.m-is w.n-is
+          first c.low_zeros.ensures.value (omega arith) w.if-a-ne0.true w.m-is w.n-is
       | else-a-ne0 w ↦
           elim c.if-b-ne0.branch [
             | then-b-ne0 v ↦
                 by_second c.args.s.now c.args.at c.zero_marks-a.result c.zero_marks-b.result c.zero_marks-m.result _ _ _ c.requires
-                    first c.low_zeros.ensures.value w.if-a-ne0.false second (omega arith) v.if-b-ne0.true (w.m-is ∙ v.m-is) (w.n-is ∙ v.n-is)
+                first c.low_zeros.ensures.value w.if-a-ne0.false second (omega arith) v.if-b-ne0.true (w.m-is ∙ v.m-is) (w.n-is ∙ v.n-is)
             | else-b-ne0 v ↦
                 by_third c.args.s.now c.args.at c.zero_marks-a.result c.zero_marks-b.result c.zero_marks-m.result _ _ _ c.requires
-                    first c.low_zeros.ensures.value w.if-a-ne0.false second v.if-b-ne0.false third (w.m-is ∙ v.m-is) (w.n-is ∙ v.n-is) (omega arith)
+                first c.low_zeros.ensures.value w.if-a-ne0.false second v.if-b-ne0.false third (w.m-is ∙ v.m-is) (w.n-is ∙ v.n-is) (omega arith)
           ]
     ]
 
 pub returns : goal.returns
-returns c = let whole = both c in record { value = whole.0; upper_bound = whole.1 }
+returns c =
+    let whole = both c in
+    record { value = whole.0; upper_bound = whole.1 }

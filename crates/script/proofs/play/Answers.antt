@@ -13,11 +13,17 @@ pub loop-size-init : goal.loop-size-init
 loop-size-init c = (omega arith, omega arith, refl, refl, refl, played_start _ _ _ _ _ _)
 
 pub returns-in-End : goal.returns-in-End
-returns-in-End c = let start = c.args in let turn = c.loop-size in let e = played_end _ start.script.now turn.at _ _ _ _ _ _ turn.invariant.5 _ c.first_call-first.ensures c.in-End.is in let image-bytes = c.slice_known-1 in let script-bytes = c.shared_slice_known-1 in record {
-  codes_after = e;
-  claimed = script_claimed start.image.now (λ k. omega (arith, image-bytes.given k)) _ start.script.now (λ k. omega (arith, script-bytes.given k)) _ _ _ _
-      e;
-}
+returns-in-End c =
+    let start = c.args in
+    let turn = c.loop-size in
+    let e = played_end _ start.script.now turn.at _ _ _ _ _ _ turn.invariant.5 _ c.first_call-first.ensures c.in-End.is in
+    let image-bytes = c.slice_known-1 in
+    let script-bytes = c.shared_slice_known-1 in
+    record {
+      codes_after = e;
+      claimed = script_claimed start.image.now (λ k. omega (arith, image-bytes.given k)) _ start.script.now (λ k. omega (arith, script-bytes.given k))
+          _ _ _ _ e;
+    }
 
 pub perform-done-requires : goal.perform-done-requires
 perform-done-requires c = size_told _ _ c.first_call-first.ensures _ c.in-Call.is
@@ -37,7 +43,8 @@ loop-size-preserved c =
     let turn = c.loop-size in
     let start = c.args in
     let known = c.first_call-first.ensures in
-    let next = played_turn _ start.script.now turn.at _ _ _ _ _ _ turn.invariant.5 _ known _ c.in-Call.is turn.invariant.3 _ _ _ _ c.perform-done.ensures.work_after
-    _ c.put_code.ensures in
+    let next =
+    played_turn _ start.script.now turn.at _ _ _ _ _ _ turn.invariant.5 _ known _ c.in-Call.is turn.invariant.3 _ _ _ _
+    c.perform-done.ensures.work_after _ c.put_code.ensures in
     let inside = size_inside start.script.now turn.at _ known turn.invariant.0 _ c.in-Call.is in
     (omega arith, omega arith, omega arith, omega arith, omega arith, next)

@@ -20,4 +20,5 @@ pub returns-in-At-clause-spot_inside : goal.returns-in-At-clause-spot_inside
 returns-in-At-clause-spot_inside c = search spot_inside
 
 pub returns-in-Absent-clause-by_index : goal.returns-in-Absent-clause-by_index
-returns-in-Absent-clause-by_index c = seek_next _ _ _ _ _ _ _ (search) _ (search) (search) _ _ c.find_next.ensures.by_index _ _ c.find_at-found.ensures.by_index (search)
+returns-in-Absent-clause-by_index c =
+    seek_next _ _ _ _ _ _ _ (search) _ (search) (search) _ _ c.find_next.ensures.by_index _ _ c.find_at-found.ensures.by_index (search)

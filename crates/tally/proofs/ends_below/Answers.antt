@@ -10,10 +10,12 @@ pub overflow_add-at : goal.overflow_add-at
 overflow_add-at c = omega (arith, zero_behind _ _ _ _ c.requires.inside c.if-left-eq0.false _ c.requires.carried, c.requires.end_in_bounds)
 
 pub slice_bounds-is_below-count : goal.slice_bounds-is_below-count
-slice_bounds-is_below-count c = omega (arith, zero_behind _ _ _ _ c.requires.inside c.if-left-eq0.false _ c.requires.carried, c.requires.end_in_bounds)
+slice_bounds-is_below-count c =
+    omega (arith, zero_behind _ _ _ _ c.requires.inside c.if-left-eq0.false _ c.requires.carried, c.requires.end_in_bounds)
 
 pub slice_bounds-is_below-start : goal.slice_bounds-is_below-start
-slice_bounds-is_below-start c = omega (arith, zero_behind _ _ _ _ c.requires.inside c.if-left-eq0.false _ c.requires.carried, c.requires.end_in_bounds)
+slice_bounds-is_below-start c =
+    omega (arith, zero_behind _ _ _ _ c.requires.inside c.if-left-eq0.false _ c.requires.carried, c.requires.end_in_bounds)
 
 pub slice_bounds-is_below-end : goal.slice_bounds-is_below-end
 slice_bounds-is_below-end c = omega (arith, zero_behind _ _ _ _ c.requires.inside c.if-left-eq0.false _ c.requires.carried, c.requires.end_in_bounds)

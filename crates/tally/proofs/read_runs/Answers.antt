@@ -82,8 +82,8 @@ overflow_sub-len c = search runs_laws
 pub loop-length-init : goal.loop-length-init
 loop-length-init c = (
   omega (arith, c.run_size-told.ensures.size_inside c.in-Blocks.size (search)),
-  walk_reading _ _ _ _ _ _ _ _ _ _ _ _ c.walk.invariant.2 c.if-left-eq0.false _ c.read_number-b.ensures.value _ c.run_size-told.ensures.value _ (search)
-      _ c.walk.invariant.3 _ _ c.first_entry-first.ensures.started _ (search) (search) (search) (search),
+  walk_reading _ _ _ _ _ _ _ _ _ _ _ _ c.walk.invariant.2 c.if-left-eq0.false _ c.read_number-b.ensures.value _ c.run_size-told.ensures.value _
+      (search) _ c.walk.invariant.3 _ _ c.first_entry-first.ensures.started _ (search) (search) (search) (search),
 )
 
 pub slice_bounds-read_entry-end : goal.slice_bounds-read_entry-end
@@ -190,5 +190,5 @@ shape_of-used-then-not-ends_below c = search (c.walk.invariant.1, rules)
 
 pub returns-then-not-ends_below : goal.returns-then-not-ends_below
 returns-then-not-ends_below c =
-    walk_high _ _ _ _ _ _ _ _ _ _ _ _ _ _ _ _ _ c.loop-length.invariant.1 _ _ c.read_entry-st.ensures.result_after (search) c.read_entry-st.ensures.kept
-    _ c.ends_below.ensures _ _ _ c.walk.invariant.2 _ (search)
+    walk_high _ _ _ _ _ _ _ _ _ _ _ _ _ _ _ _ _ c.loop-length.invariant.1 _ _ c.read_entry-st.ensures.result_after (search)
+    c.read_entry-st.ensures.kept _ c.ends_below.ensures _ _ _ c.walk.invariant.2 _ (search)

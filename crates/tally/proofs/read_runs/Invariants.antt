@@ -17,7 +17,8 @@ decreases-loop-length l = length l.run - l.pos
 
 abbrev pub invariant-walk : goal.invariant-walk
 invariant-walk l =
-    (length l.word ≡ 256) × (length l.used ≡ length l.initial.used) × Walking l.width (below_of l.order) l.index l.area l.elements l.d (marks l.initial.used) l.words l.blocks l.at l.left (marks l.used)
+    (length l.word ≡ 256) × (length l.used ≡ length l.initial.used)
+    × Walking l.width (below_of l.order) l.index l.area l.elements l.d (marks l.initial.used) l.words l.blocks l.at l.left (marks l.used)
     × Carried l.width l.index l.at l.left l.end
 
 abbrev pub decreases-walk : goal.decreases-walk
