@@ -1,4 +1,6 @@
 // The free list as it is written, ascending: the chain of the paper.
+#![tactic(auto)]
+
 ghost use Rattle.std.specs.Prelude.{◌≡◌, ◌++◌, ◌-◌, ◌*◌, ◌≤◌, length, take, drop};
 ghost use Rattle.spec.specs.Header.{block_position};
 ghost use Rattle.spec.specs.Blocks.{free_list_start, free_list_written};

@@ -1,4 +1,6 @@
 // A change of one run: the plan, which decides row 15 and writes nothing, then the writing.
+#![tactic(auto)]
+
 ghost use Rattle.std.specs.Prelude.{◌≡◌, true, [], ◌+◌, ◌-◌, ◌*◌, ◌%◌, ◌≤◌, length, take, drop};
 ghost use Rattle.spec.specs.Bytes.{write};
 ghost use Rattle.spec.specs.Header.{block_position};

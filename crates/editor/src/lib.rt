@@ -1,4 +1,6 @@
 // The changing calls: create, insert, delete and optimise.
+#![tactic(auto)]
+
 ghost use Rattle.std.specs.Prelude.{◌≡◌, ℕ, ◌%◌, ◌<◌, ◌≤◌, length, take};
 ghost use Rattle.spec.specs.Outcome.{refused};
 ghost use Rattle.spec.specs.Lists.{◌∈◌};

@@ -1,4 +1,6 @@
 // The index as it is written: elements one after the other, those kept with their numbers renewed.
+#![tactic(auto)]
+
 ghost use Rattle.std.specs.Prelude.{◌≡◌, map, ◌+◌, ◌≤◌, ◌<◌, length};
 ghost use Rattle.spec.specs.Bytes.{write};
 ghost use Rattle.spec.specs.Index.{element_bytes, elements_bytes};

@@ -1,4 +1,6 @@
 // The free list of an image: its numbers one after the other, each block marked.
+#![tactic(auto)]
+
 ghost use Rattle.std.specs.Prelude.{◌≡◌, true, ◌*◌, ◌≤◌, length};
 ghost use Rattle.spec.specs.Blocks.{free_list_from};
 ghost use Rattle.marks.specs.Marks.{marks};

@@ -1,4 +1,6 @@
 // The header of an image: its fields, rows 1, 3 to 5 and 11 of the refusals, and what is written in it.
+#![tactic(auto)]
+
 ghost use Rattle.std.specs.Prelude.{◌≡◌, ◌+◌, ◌%◌, ◌<◌, ◌≤◌, true, length};
 ghost use Rattle.spec.specs.Outcome.{accepted};
 ghost use Rattle.spec.specs.Bytes.{write};

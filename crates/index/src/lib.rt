@@ -1,4 +1,6 @@
 // The index: its elements one after the other, row 6 of the refusals, and the element of the run concerned.
+#![tactic(auto)]
+
 ghost use Rattle.std.specs.Prelude.{◌≡◌, [], ◌+◌, ◌-◌, ◌≤◌, ◌<◌, length};
 ghost use Rattle.spec.specs.Outcome.{accepted};
 ghost use Rattle.spec.specs.Order.{below_of};

@@ -1,4 +1,6 @@
 // An image tested whole: rows 3 to 10 of the refusals, in one pass over its bytes.
+#![tactic(auto)]
+
 ghost use Rattle.std.specs.Prelude.{◌≡◌, false, ◌*◌, ◌%◌, ◌≤◌, length, replicate};
 ghost use Rattle.spec.specs.Order.{below_of};
 ghost use Rattle.spec.specs.Outcome.{ok, accepted};

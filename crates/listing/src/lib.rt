@@ -1,4 +1,6 @@
 // The printed list of an image: one line of numbers, then one line for each entry.
+#![tactic(auto)]
+
 ghost use Rattle.std.specs.Prelude.{◌≡◌, false, cond, not, ◌+◌, ◌*◌, ◌%◌, ◌≤◌, ◌<◌, length, eqb};
 ghost use Rattle.spec.specs.Order.{below_of};
 ghost use Rattle.spec.specs.Bytes.{write};

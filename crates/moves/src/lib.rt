@@ -1,5 +1,7 @@
 // The runs that the growing index displaces: those that start among the first g blocks. A table tells for each such block
 // 0 where no run starts, else the run's new place.
+#![tactic(auto)]
+
 ghost use Rattle.std.specs.Prelude.{◌≡◌, [], ◌∷◌, ◌++◌, map, ◌+◌, ◌*◌, ◌≤◌, ◌<◌, max, length, get_or, take, drop};
 ghost use Rattle.byteops.specs.Width.{Width};
 ghost use Rattle.index.specs.Elements.{elements_at, Inside};

@@ -1,4 +1,6 @@
 // The new runs of a change, one for each part: placed on the marks, and written with their index elements.
+#![tactic(auto)]
+
 ghost use Rattle.std.specs.Prelude.{◌≡◌, true, ◌+◌, ◌*◌, ◌≤◌, length};
 ghost use Rattle.spec.specs.Entry.{headword_ok};
 ghost use Rattle.byteops.specs.Width.{Width};

@@ -1,4 +1,6 @@
 // Optimising: the runs one after the other in index order, no free block.
+#![tactic(auto)]
+
 ghost use Rattle.std.specs.Prelude.{◌≡◌, List, ◌+◌, ◌*◌, ◌%◌, ◌≤◌, length, take};
 ghost use Rattle.spec.specs.Order.{below_of};
 ghost use Rattle.spec.specs.Outcome.{ok};

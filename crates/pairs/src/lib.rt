@@ -1,4 +1,6 @@
 // Two-byte characters: where a front of a headword may end.
+#![tactic(auto)]
+
 ghost use Rattle.std.specs.Prelude.{◌≡◌, false, ◌≤◌, length, take};
 ghost use Rattle.spec.specs.Pairs.{is_lead, second_behind, whole_front};
 

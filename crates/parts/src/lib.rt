@@ -1,4 +1,6 @@
 // A run's entries with a change merged in, encoded part by part.
+#![tactic(auto)]
+
 ghost use Rattle.std.specs.Prelude.{◌≡◌, true, List, [], ◌∷◌, map, ◌+◌, ◌≤◌, ◌<◌, length, take, drop};
 ghost use Rattle.spec.specs.Bytes.{write, no_zero};
 ghost use Rattle.spec.specs.Order.{below_of};

@@ -1,4 +1,6 @@
 // The calls from C, as include/pdic.h declares them.
+#![tactic(auto)]
+
 ghost use Rattle.std.specs.Prelude.{◌≡◌, not, ◌∷◌, eqb};
 ghost use Rattle.spec.specs.Lists.{◌∈◌};
 ghost use Rattle.spec.specs.Calls.{create, check, look_up, walk, insert, delete, optimise};

@@ -1,5 +1,5 @@
 -- Laws of a search, for the crates above: where the entry found stands.
-use Prim.Native.Nat.{ℕ, ◌+◌, ◌-◌, ◌≤◌}
+use Prim.Native.Nat.{ℕ, ◌+◌, ◌≤◌}
 use mathlib.Core.Path.{◌≡◌, sym}
 use mathlib.Core.Bool.{false≢true}
 use mathlib.Core.List.{List}

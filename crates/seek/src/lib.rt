@@ -1,5 +1,7 @@
 // The entry that a look up or a walk answers: the run concerned by the index, then the first of its entries that may be
 // taken, else the first of the next run.
+#![tactic(auto)]
+
 ghost use Rattle.std.specs.Prelude.{◌≡◌, List, [], ℕ, ◌+◌, ◌-◌, ◌*◌, ◌≤◌, length, drop};
 ghost use Rattle.spec.specs.Outcome.{ok};
 ghost use Rattle.spec.specs.Order.{below_of};

@@ -16,7 +16,7 @@ use Rattle.spec.specs.Bytes.{from_little_endian, bytes_at, zeros}
 use Rattle.spec.specs.Header.{Format, Lawful, format_of, get, writable, tested_fields, written_fields, lies_in, header_bytes, block_position}
 use Rattle.spec.specs.Entry.{Entry, headword_ok, text_ok, attribute_ok, body_ok, entry_of}
 use Rattle.spec.specs.Run.{Run}
-use Rattle.spec.specs.Blocks.{covers, run_blocks, free_blocks, each_once}
+use Rattle.spec.specs.Blocks.{covers, run_blocks, free_blocks}
 use Rattle.spec.specs.Check.{Frame, Image, image_in, image_by, image_from, slice_ok, kind_ok, options_ok, frame_length, entries_of, all_entries}
 use Rattle.spec.specs.SortedList.{lookup}
 use Rattle.spec.specs.Place.{Plan, plan_change, plan_packed, plan_full, plan_written}

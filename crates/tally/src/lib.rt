@@ -1,4 +1,6 @@
 // All runs of an image in index order, rows 7 and 8 of the refusals, and what is counted of them.
+#![tactic(auto)]
+
 ghost use Rattle.std.specs.Prelude.{◌≡◌, ◌*◌, ◌≤◌, length};
 ghost use Rattle.spec.specs.Order.{below_of};
 ghost use Rattle.spec.specs.Check.{runs_from, next_headword};

@@ -1,4 +1,6 @@
 // The run that a change goes to: the run concerned of the paper.
+#![tactic(auto)]
+
 ghost use Rattle.std.specs.Prelude.{◌≡◌, List, ◌+◌, ◌*◌, ◌≤◌, length};
 ghost use Rattle.spec.specs.Order.{below_of};
 ghost use Rattle.spec.specs.Outcome.{ok};

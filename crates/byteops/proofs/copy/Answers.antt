@@ -1,10 +1,7 @@
 -- The loop has stored the first i bytes; the last 32 may go over some of them.
-use Prim.Native.Nat.{◌-◌, ◌≤◌}
-use mathlib.Core.Path.{◌≡◌, refl}
+use mathlib.Core.Path.{refl}
 use native.Mathlib.Omega.{arith}
-use lib.ListN.{length}
-use Rattle.spec.specs.Bytes.{bytes_at}
-use Rattle.byteops.proofs.Stores.{stored, chunk_none, chunk_more, chunk_last}
+use Rattle.byteops.proofs.Stores.{chunk_none, chunk_more, chunk_last}
 use Rattle.byteops.proofs.copy.Goals as goal
 
 pub returns-then-n-lt32-clause-dst_after : goal.returns-then-n-lt32-clause-dst_after

@@ -1,10 +1,9 @@
 -- The loop has stored the first i bytes; the last 32 may go over some of them.
 use Prim.Native.Nat.{◌-◌, ◌≤◌}
-use mathlib.Core.Path.{◌≡◌, refl}
-use native.Mathlib.Omega.{arith}
+use mathlib.Core.Path.{◌≡◌}
 use lib.ListN.{length}
 use Rattle.spec.specs.Bytes.{bytes_at}
-use Rattle.byteops.proofs.Stores.{stored, chunk_none, chunk_more, chunk_last}
+use Rattle.byteops.proofs.Stores.{stored}
 use Rattle.byteops.proofs.copy.Given as goal
 
 abbrev pub invariant-loop-i : goal.invariant-loop-i

@@ -1,6 +1,5 @@
 use native.Mathlib.Omega.{arith}
 use Rattle.byteops.proofs.Stores.{four_copied}
-use borrow.Author.Rules.{rules}
 use Rattle.byteops.proofs.copy_32.Goals as goal
 
 pub returns-clause-dst_after : goal.returns-clause-dst_after

@@ -1,10 +1,8 @@
 -- What is still to be copied, stored in what stands there now, is the whole copy.
-use Prim.Native.Nat.{◌+◌, ◌-◌, ◌≤◌}
-use mathlib.Core.Path.{◌≡◌, refl}
+use mathlib.Core.Path.{refl}
 use native.Mathlib.Omega.{arith}
-use lib.ListN.{length, length-set}
-use Rattle.spec.specs.Bytes.{bytes_at, write}
-use Rattle.byteops.proofs.Stores.{stored, copy_start, copy_turn, copy_end}
+use lib.ListN.{length-set}
+use Rattle.byteops.proofs.Stores.{copy_start, copy_turn, copy_end}
 use Rattle.byteops.proofs.copy_bytes.Goals as goal
 
 pub loop-i-init : goal.loop-i-init

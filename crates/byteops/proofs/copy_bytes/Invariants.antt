@@ -1,10 +1,9 @@
 -- What is still to be copied, stored in what stands there now, is the whole copy.
 use Prim.Native.Nat.{◌+◌, ◌-◌, ◌≤◌}
-use mathlib.Core.Path.{◌≡◌, refl}
-use native.Mathlib.Omega.{arith}
-use lib.ListN.{length, length-set}
+use mathlib.Core.Path.{◌≡◌}
+use lib.ListN.{length}
 use Rattle.spec.specs.Bytes.{bytes_at, write}
-use Rattle.byteops.proofs.Stores.{stored, copy_start, copy_turn, copy_end}
+use Rattle.byteops.proofs.Stores.{stored}
 use Rattle.byteops.proofs.copy_bytes.Given as goal
 
 abbrev pub invariant-loop-i : goal.invariant-loop-i

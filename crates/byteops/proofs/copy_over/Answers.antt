@@ -1,5 +1,4 @@
 use native.Mathlib.Omega.{arith}
-use borrow.Author.Rules.{rules}
 use Rattle.byteops.proofs.Stores.{head_written}
 use Rattle.byteops.proofs.copy_over.Goals as goal
 

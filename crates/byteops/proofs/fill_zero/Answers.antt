@@ -1,10 +1,8 @@
 -- The zeros still to come, stored in what stands there now, are the whole fill.
-use Prim.Native.Nat.{◌+◌, ◌-◌, ◌≤◌}
-use mathlib.Core.Path.{◌≡◌, refl}
+use mathlib.Core.Path.{refl}
 use native.Mathlib.Omega.{arith}
-use lib.ListN.{length, length-set}
-use Rattle.spec.specs.Bytes.{zeros, write}
-use Rattle.byteops.proofs.Stores.{stored, fill_start, fill_turn, fill_end}
+use lib.ListN.{length-set}
+use Rattle.byteops.proofs.Stores.{fill_start, fill_turn, fill_end}
 use Rattle.byteops.proofs.fill_zero.Goals as goal
 
 pub loop-done-init : goal.loop-done-init

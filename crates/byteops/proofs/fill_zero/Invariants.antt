@@ -1,10 +1,9 @@
 -- The zeros still to come, stored in what stands there now, are the whole fill.
 use Prim.Native.Nat.{◌+◌, ◌-◌, ◌≤◌}
-use mathlib.Core.Path.{◌≡◌, refl}
-use native.Mathlib.Omega.{arith}
-use lib.ListN.{length, length-set}
+use mathlib.Core.Path.{◌≡◌}
+use lib.ListN.{length}
 use Rattle.spec.specs.Bytes.{zeros, write}
-use Rattle.byteops.proofs.Stores.{stored, fill_start, fill_turn, fill_end}
+use Rattle.byteops.proofs.Stores.{stored}
 use Rattle.byteops.proofs.fill_zero.Given as goal
 
 abbrev pub invariant-loop-done : goal.invariant-loop-done

@@ -1,5 +1,4 @@
 use Rattle.byteops.proofs.Stores.{four_as, two_as}
-use borrow.Author.Rules.{rules}
 use Rattle.byteops.proofs.read_number.Goals as goal
 
 pub returns-then-width-eq4-clause-value : goal.returns-then-width-eq4-clause-value

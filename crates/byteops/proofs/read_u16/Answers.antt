@@ -1,6 +1,4 @@
-use native.Mathlib.Omega.{arith}
 use Rattle.byteops.proofs.Stores.{two_read}
-use borrow.Author.Rules.{rules}
 use Rattle.byteops.proofs.read_u16.Goals as goal
 
 pub returns-clause-value : goal.returns-clause-value

@@ -1,5 +1,4 @@
 use Rattle.byteops.proofs.Stores.{eight_read}
-use borrow.Author.Rules.{rules}
 use Rattle.byteops.proofs.read_u64.Goals as goal
 
 pub returns : goal.returns

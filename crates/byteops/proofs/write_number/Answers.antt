@@ -1,5 +1,4 @@
 use Rattle.byteops.proofs.Stores.{four_put, two_put}
-use borrow.Author.Rules.{rules}
 use Rattle.byteops.proofs.write_number.Goals as goal
 
 pub returns-then-width-eq4-clause-dst_after : goal.returns-then-width-eq4-clause-dst_after

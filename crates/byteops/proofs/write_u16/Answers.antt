@@ -1,7 +1,6 @@
 use native.Mathlib.Omega.{arith}
 use lib.ListN.{length-set}
 use Rattle.byteops.proofs.Stores.{two_stored}
-use borrow.Author.Rules.{rules}
 use Rattle.byteops.proofs.write_u16.Goals as goal
 
 pub bounds-dst-at-2 : goal.bounds-dst-at-2

@@ -1,6 +1,4 @@
-use native.Mathlib.Omega.{arith}
 use Rattle.byteops.proofs.Stores.{eight_stored}
-use borrow.Author.Rules.{rules}
 use Rattle.byteops.proofs.write_u64.Goals as goal
 
 pub returns-clause-dst_after : goal.returns-clause-dst_after

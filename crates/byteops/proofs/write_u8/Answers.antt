@@ -1,6 +1,5 @@
 use lib.ListN.{length-set}
 use Rattle.byteops.proofs.Stores.{one_stored}
-use borrow.Author.Rules.{rules}
 use Rattle.byteops.proofs.write_u8.Goals as goal
 
 pub returns-clause-dst_after : goal.returns-clause-dst_after

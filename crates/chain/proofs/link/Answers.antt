@@ -1,6 +1,5 @@
 -- `link` meets its contract.
 use Rattle.chain.proofs.Laws.{link_laws}
-use borrow.Author.Rules.{rules}
 use Rattle.chain.proofs.link.Goals as goal
 
 pub returns-then-b-d : goal.returns-then-b-d

@@ -1,13 +1,6 @@
 -- What is left of the list, written over what stands there now, is the whole list written.
-use Prim.Native.Nat.{◌-◌, ◌≤◌}
-use mathlib.Core.Path.{◌≡◌}
-use mathlib.Core.Bool.{true}
 use native.Mathlib.Omega.{arith}
-use lib.ListN.{length, take, drop}
-use Rattle.spec.specs.Header.{block_position}
-use Rattle.marks.specs.Marks.{marks, gap}
-use Rattle.chain.specs.Numbers.{numbers}
-use Rattle.chain.proofs.Laws.{image_written, numbers_left, gap_next, chain_turn, chain_laws}
+use Rattle.chain.proofs.Laws.{gap_next, chain_turn, chain_laws}
 use borrow.Author.Rules.{rules}
 use Rattle.chain.proofs.write_free_list.Goals as goal
 

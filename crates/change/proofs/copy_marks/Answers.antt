@@ -1,9 +1,7 @@
 -- `copy_marks` meets its contract.
-use Prim.Native.Nat.{◌-◌, ◌≤◌}
-use mathlib.Core.Path.{◌≡◌, refl}
-use mathlib.Core.List.{◌++◌}
+use mathlib.Core.Path.{refl}
 use native.Mathlib.Omega.{arith}
-use lib.ListN.{length, take, drop, length-set}
+use lib.ListN.{length-set}
 use borrow.Author.Rules.{rules}
 use Rattle.change.proofs.CodeLaws.{marks_turn, marks_end}
 use Rattle.change.proofs.copy_marks.Goals as goal

@@ -1,11 +1,8 @@
 -- `copy_marks` meets its contract.
 use Prim.Native.Nat.{◌-◌, ◌≤◌}
-use mathlib.Core.Path.{◌≡◌, refl}
+use mathlib.Core.Path.{◌≡◌}
 use mathlib.Core.List.{◌++◌}
-use native.Mathlib.Omega.{arith}
-use lib.ListN.{length, take, drop, length-set}
-use borrow.Author.Rules.{rules}
-use Rattle.change.proofs.CodeLaws.{marks_turn, marks_end}
+use lib.ListN.{length, take, drop}
 use Rattle.change.proofs.copy_marks.Given as goal
 
 abbrev pub invariant-loop-i : goal.invariant-loop-i

@@ -1,6 +1,5 @@
 -- `displace` meets its contract.
 use native.Mathlib.Omega.{arith}
-use borrow.Author.Rules.{rules}
 use Rattle.change.proofs.CodeLaws.{displaced}
 use Rattle.change.proofs.displace.Goals as goal
 

@@ -8,13 +8,11 @@ use lib.Seq.{length-take-le}
 use Rattle.marks.specs.Marks.{marks}
 use Rattle.spec.specs.Header.{block_position}
 use Rattle.parts.proofs.PartLaws.{copied_front}
-use Rattle.change.specs.declared.Outline.{Outline}
 use Rattle.change.specs.Ready.{laid_parts, old_length, Ready, Roomy}
 use Rattle.change.specs.Drafted.{PlannedEnd}
 use Rattle.change.proofs.Laws.{run_few}
 use Rattle.change.proofs.AreasLaws.{rest_asks, all_written}
 use Rattle.change.proofs.FinishLaws.{front_planned, front_long, marks_long, end_behind, ready_form, ready_few, finish_blocks, finish_length, copy_ready, copy_roomy, copy_last, finish_done}
-use borrow.Author.Rules.{rules}
 use Rattle.change.proofs.finish.Goals as goal
 
 pub position-len-requires : goal.position-len-requires

@@ -6,7 +6,6 @@ use lib.ListN.{length, take, length-replicate}
 use lib.Seq.{length-take-le}
 use Rattle.change.specs.Ready.{old_length}
 use Rattle.change.proofs.FinishLaws.{marks_long, front_ready, begun_front, good_here, few, cut_long, cut_inside, grow_full, grow_ready}
-use borrow.Author.Rules.{rules}
 use Rattle.change.proofs.grow.Goals as goal
 
 pub slice_bounds-before-end-2 : goal.slice_bounds-before-end-2

@@ -1,5 +1,4 @@
 -- `growth` meets its contract.
-use borrow.Author.Rules.{rules}
 use Rattle.change.proofs.CodeLaws.{growth_none, growth_still, growth_more}
 use Rattle.change.proofs.growth.Goals as goal
 

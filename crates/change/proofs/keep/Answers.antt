@@ -10,7 +10,6 @@ use Rattle.change.proofs.Laws.{run_few}
 use Rattle.change.proofs.FinishLaws.{front_planned, front_long, marks_long, end_behind, ready_form, ready_few, finish_blocks, finish_length, finish_done}
 use Rattle.change.proofs.AreasLaws.{rest_asks, all_written}
 use Rattle.change.proofs.KeptLaws.{kept_ready}
-use borrow.Author.Rules.{rules}
 use Rattle.change.proofs.keep.Goals as goal
 
 pub position-len-requires : goal.position-len-requires

@@ -4,7 +4,6 @@ use native.Mathlib.Omega.{arith}
 use Rattle.inspect.proofs.Accepted.{accepted_index, accepted_blocks, accepted_area, accepted_inside}
 use Rattle.change.proofs.Laws.{run_short}
 use Rattle.change.proofs.FinishLaws.{index_short, element_short, blocks_short, drafted}
-use borrow.Author.Rules.{rules}
 use Rattle.change.proofs.measure_change.Goals as goal
 
 pub overflow_add-front : goal.overflow_add-front

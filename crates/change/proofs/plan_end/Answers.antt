@@ -2,7 +2,6 @@
 use native.Mathlib.Omega.{arith}
 use Rattle.change.proofs.Laws.{run_short}
 use Rattle.change.proofs.FinishLaws.{end_planned}
-use borrow.Author.Rules.{rules}
 use Rattle.change.proofs.plan_end.Goals as goal
 
 pub overflow_add-v : goal.overflow_add-v

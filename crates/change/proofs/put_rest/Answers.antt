@@ -2,7 +2,6 @@
 use mathlib.Core.Path.{refl}
 use native.Mathlib.Omega.{arith}
 use Rattle.change.proofs.KeptLaws.{put_cut, put_filled}
-use borrow.Author.Rules.{rules}
 use Rattle.change.proofs.put_rest.Goals as goal
 
 pub returns-then-room-long-clause-image_after : goal.returns-then-room-long-clause-image_after

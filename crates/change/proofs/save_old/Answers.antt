@@ -2,7 +2,6 @@
 use mathlib.Core.Path.{refl}
 use native.Mathlib.Omega.{arith}
 use Rattle.change.proofs.KeptLaws.{saved}
-use borrow.Author.Rules.{rules}
 use Rattle.change.proofs.save_old.Goals as goal
 
 pub overflow_add-front-2 : goal.overflow_add-front-2

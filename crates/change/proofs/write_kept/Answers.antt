@@ -4,7 +4,6 @@ use native.Mathlib.Omega.{arith}
 use lib.Seq.{length-take-le}
 use Rattle.change.proofs.FinishLaws.{ready_form, ready_few}
 use Rattle.change.proofs.KeptLaws.{end_inside, at_inside, kept_asks, kept_marks, new_inside, kept_areas}
-use borrow.Author.Rules.{rules}
 use Rattle.change.proofs.write_kept.Goals as goal
 
 pub overflow_sub-rest : goal.overflow_sub-rest

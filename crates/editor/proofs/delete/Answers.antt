@@ -1,7 +1,6 @@
 -- `delete` meets its contract.
 use native.Mathlib.Omega.{arith}
 use Rattle.editor.proofs.Rows.{delete_slice, delete_short, now_tested, delete_whole}
-use borrow.Author.Rules.{rules}
 use Rattle.editor.proofs.delete.Goals as goal
 
 pub returns-then-not-slice_ok : goal.returns-then-not-slice_ok

@@ -1,7 +1,6 @@
 -- `insert` meets its contract.
 use native.Mathlib.Omega.{arith}
 use Rattle.editor.proofs.Rows.{insert_slice, insert_short, now_tested, insert_whole}
-use borrow.Author.Rules.{rules}
 use Rattle.editor.proofs.insert.Goals as goal
 
 pub returns-then-not-slice_ok : goal.returns-then-not-slice_ok

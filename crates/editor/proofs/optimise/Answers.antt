@@ -3,7 +3,6 @@ use Prim.Native.Nat.{ℕ, ◌<◌}
 use native.Mathlib.Omega.{arith}
 use lib.ListN.{get_or}
 use Rattle.editor.proofs.Rows.{optimise_slice, optimise_short, now_tested, optimise_whole, optimise_promised}
-use borrow.Author.Rules.{rules}
 use Rattle.editor.proofs.optimise.Goals as goal
 
 pub returns-then-not-slice_ok : goal.returns-then-not-slice_ok

@@ -1,7 +1,5 @@
 -- `optimise_tested` meets its contract.
-use Prim.Native.Nat.{ℕ}
 use mathlib.Core.Path.{refl}
-use mathlib.Core.List.{List}
 use lib.ListN.{take}
 use Rattle.inspect.specs.Overview.{AcceptedImage}
 use native.Mathlib.Omega.{arith}

@@ -1,7 +1,6 @@
 -- `words_after` meets its contract.
 use native.Mathlib.Omega.{arith}
 use Rattle.editor.specs.Entered as Entered
-use borrow.Author.Rules.{rules}
 use Rattle.editor.proofs.words_after.Goals as goal
 
 pub returns-then-replaced : goal.returns-then-replaced

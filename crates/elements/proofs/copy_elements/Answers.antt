@@ -1,10 +1,5 @@
 -- What is left, written where the code stands, is the whole written.
-use Prim.Native.Nat.{◌+◌, ◌≤◌}
-use mathlib.Core.Path.{◌≡◌}
-use lib.ListN.{length}
-use Rattle.spec.specs.Bytes.{write}
-use Rattle.index.specs.Elements.{elements_at, Inside}
-use Rattle.elements.proofs.Laws.{renewed_bytes, room, copy_laws}
+use Rattle.elements.proofs.Laws.{copy_laws}
 use borrow.Author.Rules.{rules}
 use Rattle.elements.proofs.copy_elements.Goals as goal
 

@@ -4,8 +4,7 @@ use mathlib.Core.Path.{◌≡◌}
 use lib.ListN.{length}
 use Rattle.spec.specs.Bytes.{write}
 use Rattle.index.specs.Elements.{elements_at, Inside}
-use Rattle.elements.proofs.Laws.{renewed_bytes, room, copy_laws}
-use borrow.Author.Rules.{rules}
+use Rattle.elements.proofs.Laws.{renewed_bytes, room}
 use Rattle.elements.proofs.copy_elements.Given as goal
 
 abbrev pub invariant-loop-left : goal.invariant-loop-left

@@ -1,6 +1,5 @@
 -- `number_after` meets its contract.
 use Rattle.elements.proofs.Laws.{number_laws}
-use borrow.Author.Rules.{rules}
 use Rattle.elements.proofs.number_after.Goals as goal
 
 pub returns-then-p-g : goal.returns-then-p-g

@@ -1,5 +1,4 @@
 -- `put_element` meets its contract.
-use native.Mathlib.Omega.{arith}
 use Rattle.elements.proofs.Laws.{element_put}
 use borrow.Author.Rules.{rules}
 use Rattle.elements.proofs.put_element.Goals as goal

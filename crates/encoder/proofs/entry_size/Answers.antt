@@ -1,7 +1,6 @@
 -- `entry_size` meets its contract.
 use native.Mathlib.Omega.{arith}
 use Rattle.encoder.proofs.Laws.{entry_measured}
-use borrow.Author.Rules.{rules}
 use Rattle.encoder.proofs.entry_size.Goals as goal
 
 pub returns-clause-value : goal.returns-clause-value

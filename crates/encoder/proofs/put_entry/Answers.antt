@@ -5,7 +5,6 @@ use native.Mathlib.Omega.{arith}
 use lib.ListN.{length}
 use Rattle.spec.specs.Entry.{entry_bytes}
 use Rattle.encoder.proofs.Laws.{entry_measured, entry_stored}
-use borrow.Author.Rules.{rules}
 use Rattle.encoder.proofs.put_entry.Goals as goal
 
 pub write_u16-requires : goal.write_u16-requires

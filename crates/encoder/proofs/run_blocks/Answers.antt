@@ -1,7 +1,6 @@
 -- `run_blocks` meets its contract.
 use native.Mathlib.Omega.{arith}
 use Rattle.encoder.proofs.Laws.{blocks_counted}
-use borrow.Author.Rules.{rules}
 use Rattle.encoder.proofs.run_blocks.Goals as goal
 
 pub returns-clause-value : goal.returns-clause-value

@@ -1,7 +1,5 @@
 -- `write_run` meets its contract.
-use native.Mathlib.Omega.{arith}
 use Rattle.encoder.proofs.Laws.{run_stored}
-use borrow.Author.Rules.{rules}
 use Rattle.encoder.proofs.write_run.Goals as goal
 
 pub returns-clause-dst_after : goal.returns-clause-dst_after

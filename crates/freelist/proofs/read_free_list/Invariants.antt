@@ -1,7 +1,5 @@
 -- `read_free_list` meets its contract.
-use mathlib.Core.Bool.{false≢true}
-use borrow.Author.Rules.{rules}
-use Rattle.freelist.proofs.Reading.{Sofar, list_start, list_off, list_full, list_next, list_end, list_used, list_free}
+use Rattle.freelist.proofs.Reading.{Sofar}
 use Rattle.freelist.proofs.read_free_list.Given as goal
 
 abbrev pub invariant-loop-left : goal.invariant-loop-left

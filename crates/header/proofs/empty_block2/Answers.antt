@@ -1,5 +1,4 @@
 -- `empty_block2` meets its contract.
-use Rattle.std.proofs.Common.{arith, rules}
 use Rattle.header.proofs.Laws.{read_empty_block2}
 use Rattle.header.proofs.empty_block2.Goals as goal
 

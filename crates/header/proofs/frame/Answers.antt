@@ -1,6 +1,5 @@
 -- `frame` meets its contract.
 use Rattle.header.proofs.Laws.{frame_kind, frame_options, frame_index, frame_past, frame_data, frame_whole, no_form, one_form}
-use Rattle.std.proofs.Common.{rules}
 use Rattle.header.proofs.frame.Goals as goal
 
 pub returns-then-not-kind_ok-clause-result_value : goal.returns-then-not-kind_ok-clause-result_value

@@ -1,6 +1,5 @@
 -- `kind_ok` meets its contract.
 use Rattle.header.proofs.Laws.{kind_version, kind_block, kind_header, kind_attribute, kind_whole}
-use Rattle.std.proofs.Common.{rules}
 use Rattle.header.proofs.kind_ok.Goals as goal
 
 pub returns-then-not-known_version : goal.returns-then-not-known_version

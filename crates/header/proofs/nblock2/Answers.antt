@@ -1,5 +1,4 @@
 -- `nblock2` meets its contract.
-use Rattle.std.proofs.Common.{arith, rules}
 use Rattle.header.proofs.Laws.{read_nblock2}
 use Rattle.header.proofs.nblock2.Goals as goal
 

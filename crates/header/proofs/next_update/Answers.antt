@@ -1,6 +1,5 @@
 -- `next_update` meets its contract.
 use Rattle.header.proofs.Laws.{update_raised}
-use Rattle.std.proofs.Common.{rules}
 use Rattle.header.proofs.next_update.Goals as goal
 
 pub returns : goal.returns

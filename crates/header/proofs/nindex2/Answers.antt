@@ -1,5 +1,4 @@
 -- `nindex2` meets its contract.
-use Rattle.std.proofs.Common.{arith, rules}
 use Rattle.header.proofs.Laws.{read_nindex2}
 use Rattle.header.proofs.nindex2.Goals as goal
 

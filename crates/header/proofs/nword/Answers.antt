@@ -1,5 +1,4 @@
 -- `nword` meets its contract.
-use Rattle.std.proofs.Common.{arith, rules}
 use Rattle.header.proofs.Laws.{read_nword}
 use Rattle.header.proofs.nword.Goals as goal
 

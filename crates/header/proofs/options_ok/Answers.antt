@@ -1,6 +1,5 @@
 -- `options_ok` meets its contract.
 use Rattle.header.proofs.Laws.{options_order, options_type, options_os, options_bits, options_extension}
-use Rattle.std.proofs.Common.{rules}
 use Rattle.header.proofs.options_ok.Goals as goal
 
 pub returns-then-s-ne0 : goal.returns-then-s-ne0

@@ -1,6 +1,5 @@
 -- `places` meets its contract.
 use Rattle.header.proofs.Laws.{places_named}
-use Rattle.std.proofs.Common.{rules}
 use Rattle.header.proofs.places.Goals as goal
 
 pub returns-clause-placed : goal.returns-clause-placed

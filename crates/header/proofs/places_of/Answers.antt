@@ -1,6 +1,5 @@
 -- `places_of` meets its contract.
 use Rattle.header.proofs.Laws.{places_moved, places_kept}
-use Rattle.std.proofs.Common.{rules}
 use Rattle.header.proofs.places_of.Goals as goal
 
 pub returns-then-version-eq-VERSION_5-clause-placed : goal.returns-then-version-eq-VERSION_5-clause-placed

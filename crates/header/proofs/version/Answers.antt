@@ -1,6 +1,5 @@
 -- `version` meets its contract.
 use Rattle.header.proofs.Laws.{version_read}
-use Rattle.std.proofs.Common.{rules}
 use Rattle.header.proofs.version.Goals as goal
 
 pub returns : goal.returns

@@ -1,6 +1,5 @@
 -- `writable` meets its contract.
 use Rattle.header.proofs.Laws.{version_writable}
-use Rattle.std.proofs.Common.{rules}
 use Rattle.header.proofs.writable.Goals as goal
 
 pub returns : goal.returns

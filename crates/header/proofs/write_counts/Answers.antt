@@ -1,5 +1,4 @@
 -- `write_counts` meets its contract.
-use Rattle.std.proofs.Common.{arith, rules}
 use Rattle.header.proofs.Laws.{counts_stored}
 use Rattle.header.proofs.write_counts.Goals as goal
 

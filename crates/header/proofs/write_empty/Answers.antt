@@ -1,5 +1,4 @@
 -- `write_empty` meets its contract.
-use Rattle.std.proofs.Common.{arith, rules}
 use Rattle.header.proofs.Laws.{empty_stored}
 use Rattle.header.proofs.write_empty.Goals as goal
 

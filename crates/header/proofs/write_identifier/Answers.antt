@@ -1,5 +1,4 @@
 -- `write_identifier` meets its contract.
-use Rattle.std.proofs.Common.{arith, rules}
 use Rattle.header.proofs.Laws.{identifier_stored, identifier_none}
 use Rattle.header.proofs.write_identifier.Goals as goal
 

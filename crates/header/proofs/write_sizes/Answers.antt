@@ -1,5 +1,4 @@
 -- `write_sizes` meets its contract.
-use Rattle.std.proofs.Common.{arith, rules}
 use Rattle.header.proofs.Laws.{sizes_stored}
 use Rattle.header.proofs.write_sizes.Goals as goal
 

@@ -1,9 +1,4 @@
 -- The element concerned of what is left is that of the whole.
-use Prim.Native.Nat.{◌-◌, ◌≤◌, ◌<◌}
-use mathlib.Core.Path.{◌≡◌}
-use lib.ListN.{length}
-use Rattle.spec.specs.Order.{below_of}
-use Rattle.index.specs.Elements.{element_end, Inside, concerned_from}
 use Rattle.index.proofs.Loops.{concerned_laws}
 use Rattle.index.proofs.concerned.Goals as goal
 

@@ -4,7 +4,6 @@ use mathlib.Core.Path.{◌≡◌}
 use lib.ListN.{length}
 use Rattle.spec.specs.Order.{below_of}
 use Rattle.index.specs.Elements.{element_end, Inside, concerned_from}
-use Rattle.index.proofs.Loops.{concerned_laws}
 use Rattle.index.proofs.concerned.Given as goal
 
 abbrev pub invariant-loop-left : goal.invariant-loop-left

@@ -1,5 +1,4 @@
 use Rattle.index.proofs.Loops.{end_found}
-use borrow.Author.Rules.{rules}
 use Rattle.index.proofs.element_end.Goals as goal
 
 pub returns-clause-value : goal.returns-clause-value

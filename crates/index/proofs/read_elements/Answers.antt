@@ -1,14 +1,5 @@
 -- What is left of the index is accepted as the whole is, and ends where the whole ends.
-use Prim.Native.Nat.{◌-◌, ◌≤◌}
-use mathlib.Core.Path.{◌≡◌}
-use mathlib.Core.List.{[]}
-use lib.ListN.{length, drop}
 use borrow.Author.Rules.{rules}
-use Rattle.spec.specs.Order.{below_of}
-use Rattle.spec.specs.Outcome.{accepted}
-use Rattle.spec.specs.Bytes.{bytes_at}
-use Rattle.spec.specs.Index.{elements_from}
-use Rattle.index.specs.Elements.{elements_end}
 use Rattle.index.proofs.Laws.{end_turn}
 use Rattle.index.proofs.Loops.{elements_laws, element_good}
 use Rattle.index.proofs.read_elements.Goals as goal

@@ -1,6 +1,5 @@
 use Rattle.header.proofs.Laws.{frame_read}
 use Rattle.inspect.proofs.Laws.{areas_frame, areas_fit, areas_good, areas_whole, areas_index_few, areas_data_few}
-use borrow.Author.Rules.{rules}
 use Rattle.inspect.proofs.inspect.Goals as goal
 
 pub inspect_areas-requires-clause-s_value : goal.inspect_areas-requires-clause-s_value

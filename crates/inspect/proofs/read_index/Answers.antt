@@ -1,5 +1,4 @@
 use Rattle.inspect.proofs.Laws.{index_empty, index_none, index_some}
-use borrow.Author.Rules.{rules}
 use Rattle.inspect.proofs.read_index.Goals as goal
 
 pub returns-then-elements-eq0 : goal.returns-then-elements-eq0

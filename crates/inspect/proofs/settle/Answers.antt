@@ -1,7 +1,6 @@
 use native.Mathlib.Omega.{arith}
 use Rattle.marks.proofs.Laws.{length_marks}
 use Rattle.inspect.proofs.Laws.{settle_words, settle_blocks, settle_sound, settle_laws}
-use borrow.Author.Rules.{rules}
 use Rattle.inspect.proofs.settle.Goals as goal
 
 pub returns-then-d-blocks : goal.returns-then-d-blocks

@@ -1,5 +1,4 @@
 use Rattle.list.proofs.Room.{first_bytes}
-use borrow.Author.Rules.{rules}
 use Rattle.list.proofs.print_list.Goals as goal
 
 pub slice_bounds-write_all-end-2 : goal.slice_bounds-write_all-end-2

@@ -1,7 +1,6 @@
 use native.Mathlib.Omega.{arith}
 use Rattle.inspect.proofs.Accepted.{accepted_index, accepted_blocks, accepted_area, accepted_width, accepted_inside}
 use Rattle.listing.proofs.Images.{listed_room, listed_end, listed_printed}
-use borrow.Author.Rules.{rules}
 use Rattle.listing.proofs.accepted_lines.Goals as goal
 
 pub overflow_add-from : goal.overflow_add-from

@@ -1,9 +1,8 @@
 -- The lines of the runs still to come, stored in what stands there now, are the lines of all runs.
-use Rattle.spec.specs.Order.{below_of}
 use native.Mathlib.Omega.{arith}
 use borrow.Author.Rules.{rules}
 use Rattle.index.proofs.Laws.{inside_start}
-use Rattle.listing.proofs.Runs.{Walking, walking_start, walking_end, walking_broken, walking_inside, walking_some, walking_room, walking_next}
+use Rattle.listing.proofs.Runs.{walking_start, walking_end, walking_broken, walking_inside, walking_some, walking_room, walking_next}
 use Rattle.listing.proofs.all_lines.Goals as goal
 
 pub loop-left-init : goal.loop-left-init

@@ -1,6 +1,4 @@
-use native.Mathlib.Omega.{arith}
 use Rattle.listing.proofs.Lines.{column_by}
-use borrow.Author.Rules.{rules}
 use Rattle.listing.proofs.column.Goals as goal
 
 pub returns-clause-out_after : goal.returns-clause-out_after

@@ -1,7 +1,4 @@
-use mathlib.Core.Path.{refl}
-use native.Mathlib.Omega.{arith}
 use Rattle.listing.proofs.Lines.{fields_by}
-use borrow.Author.Rules.{rules}
 use Rattle.listing.proofs.entry_line.Goals as goal
 
 pub returns-clause-out_after : goal.returns-clause-out_after

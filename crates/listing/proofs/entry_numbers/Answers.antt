@@ -1,6 +1,4 @@
-use native.Mathlib.Omega.{arith}
 use Rattle.listing.proofs.Lines.{numbers_by}
-use borrow.Author.Rules.{rules}
 use Rattle.listing.proofs.entry_numbers.Goals as goal
 
 pub returns-clause-out_after : goal.returns-clause-out_after

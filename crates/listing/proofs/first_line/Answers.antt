@@ -1,7 +1,5 @@
 use mathlib.Core.Path.{refl}
-use native.Mathlib.Omega.{arith}
 use Rattle.listing.proofs.Lines.{first_length, first_by}
-use borrow.Author.Rules.{rules}
 use Rattle.listing.proofs.first_line.Goals as goal
 
 pub returns-clause-value : goal.returns-clause-value

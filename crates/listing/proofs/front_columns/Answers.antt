@@ -1,11 +1,7 @@
 -- The columns still to be stored, stored in what stands there now, are all of them.
-use Prim.Native.Nat.{◌≤◌}
-use mathlib.Core.Path.{◌≡◌, refl}
-use mathlib.Core.Bool.{false}
+use mathlib.Core.Path.{refl}
 use native.Mathlib.Omega.{arith}
-use lib.ListN.{length, length-set}
-use Rattle.spec.specs.Bytes.{write}
-use Rattle.spec.specs.Listing.{digits}
+use lib.ListN.{length-set}
 use Rattle.listing.proofs.Lines.{columns_turn, columns_end}
 use Rattle.listing.proofs.front_columns.Goals as goal
 

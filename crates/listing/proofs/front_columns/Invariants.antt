@@ -1,12 +1,10 @@
 -- The columns still to be stored, stored in what stands there now, are all of them.
 use Prim.Native.Nat.{◌≤◌}
-use mathlib.Core.Path.{◌≡◌, refl}
+use mathlib.Core.Path.{◌≡◌}
 use mathlib.Core.Bool.{false}
-use native.Mathlib.Omega.{arith}
-use lib.ListN.{length, length-set}
+use lib.ListN.{length}
 use Rattle.spec.specs.Bytes.{write}
 use Rattle.spec.specs.Listing.{digits}
-use Rattle.listing.proofs.Lines.{columns_turn, columns_end}
 use Rattle.listing.proofs.front_columns.Given as goal
 
 abbrev pub invariant-loop-left : goal.invariant-loop-left

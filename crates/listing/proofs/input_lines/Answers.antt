@@ -1,6 +1,5 @@
 use native.Mathlib.Omega.{arith}
 use Rattle.listing.proofs.Images.{list_long, list_broken, list_header, list_blocks, list_image, list_end, list_stored}
-use borrow.Author.Rules.{rules}
 use Rattle.listing.proofs.input_lines.Goals as goal
 
 pub returns-then-image-gt65536-clause-value : goal.returns-then-image-gt65536-clause-value

@@ -1,7 +1,6 @@
 -- `listing` meets its contract.
 use native.Mathlib.Omega.{arith}
 use Rattle.listing.proofs.Images.{listed_short, listed_whole, list_end, list_stored}
-use borrow.Author.Rules.{rules}
 use Rattle.listing.proofs.listing.Goals as goal
 
 pub returns-then-out-lt4000000 : goal.returns-then-out-lt4000000

@@ -1,6 +1,5 @@
 use native.Mathlib.Omega.{arith}
 use Rattle.listing.proofs.Lines.{refused_length, refused_by}
-use borrow.Author.Rules.{rules}
 use Rattle.listing.proofs.refused_line.Goals as goal
 
 pub returns-clause-value : goal.returns-clause-value

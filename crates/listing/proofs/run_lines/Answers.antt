@@ -1,20 +1,7 @@
 -- The lines of the entries still to come, stored in what stands there now, are all lines of the run.
-use Prim.Native.Nat.{◌-◌}
 use native.Mathlib.Omega.{arith}
-use lib.ListN.{length}
 use borrow.Author.Rules.{rules}
-use Rattle.spec.specs.Order.{below_of}
-use Rattle.listing.proofs.Entries.{
-  Printing,
-  printing_start,
-  printing_broken,
-  printing_end,
-  printing_less,
-  printing_fits,
-  printing_word,
-  printing_room,
-  printing_next,
-}
+use Rattle.listing.proofs.Entries.{printing_start, printing_broken, printing_end, printing_less, printing_fits, printing_word, printing_room, printing_next}
 use Rattle.listing.proofs.run_lines.Goals as goal
 
 pub loop-length-init : goal.loop-length-init

@@ -1,5 +1,4 @@
 use Rattle.listing.proofs.Lines.{shown_none, shown_digit}
-use borrow.Author.Rules.{rules}
 use Rattle.listing.proofs.shown.Goals as goal
 
 pub returns-then-n-eq0 : goal.returns-then-n-eq0

@@ -1,14 +1,8 @@
 -- `best_fit` meets its contract.
-use Prim.Native.Nat.{◌-◌, ◌≤◌}
-use mathlib.Core.Path.{◌≡◌}
-use mathlib.Core.Logic.{⊎_elim}
 use native.Mathlib.Omega.{arith}
 use borrow.Author.Rules.{rules}
 use borrow.Author.Tests.{leb-true, leb-false}
-use lib.ListN.{take, drop}
-use Rattle.spec.specs.Blocks.{best_fit}
-use Rattle.marks.specs.Marks.{marks}
-use Rattle.marks.proofs.Fit.{found, fit_start, fit_take, fit_short, fit_long, fit_end, fit_exact, fit_less}
+use Rattle.marks.proofs.Fit.{fit_start, fit_take, fit_short, fit_long, fit_end, fit_exact, fit_less}
 use Rattle.marks.proofs.best_fit.Goals as goal
 use Rattle.marks.proofs.best_fit.Goals.{else-n-size-via-then-n-size+else-size-limit, else-n-size-via-else-n-size}
 

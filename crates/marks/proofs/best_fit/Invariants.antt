@@ -1,14 +1,10 @@
 -- `best_fit` meets its contract.
 use Prim.Native.Nat.{◌-◌, ◌≤◌}
 use mathlib.Core.Path.{◌≡◌}
-use mathlib.Core.Logic.{⊎_elim}
-use native.Mathlib.Omega.{arith}
-use borrow.Author.Rules.{rules}
-use borrow.Author.Tests.{leb-true, leb-false}
 use lib.ListN.{take, drop}
 use Rattle.spec.specs.Blocks.{best_fit}
 use Rattle.marks.specs.Marks.{marks}
-use Rattle.marks.proofs.Fit.{found, fit_start, fit_take, fit_short, fit_long, fit_end, fit_exact, fit_less}
+use Rattle.marks.proofs.Fit.{found}
 use Rattle.marks.proofs.best_fit.Given as goal
 
 abbrev pub invariant-loop-from : goal.invariant-loop-from

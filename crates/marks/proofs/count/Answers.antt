@@ -1,11 +1,6 @@
 -- `count` meets its contract.
-use Prim.Native.Nat.{◌+◌, ◌*◌, ◌-◌, ◌≤◌}
-use mathlib.Core.Path.{◌≡◌}
 use native.Mathlib.Omega.{arith}
 use borrow.Author.Rules.{rules}
-use lib.ListN.{length, drop}
-use Rattle.spec.specs.Blocks.{count_marks}
-use Rattle.marks.specs.Marks.{marks}
 use Rattle.marks.proofs.Laws.{count_next, count_end}
 use Rattle.marks.proofs.count.Goals as goal
 

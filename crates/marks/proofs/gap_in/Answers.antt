@@ -1,10 +1,7 @@
 -- `gap_in` meets its contract.
-use Prim.Native.Nat.{◌+◌, ◌*◌, ◌≤◌, ◌<◌}
 use native.Mathlib.Omega.{arith}
 use borrow.Author.Rules.{rules}
-use lib.ListN.{length}
-use Rattle.marks.specs.Marks.{marks}
-use Rattle.marks.proofs.Laws.{Seeks, seek_start, seek_found, seek_on, seek_end}
+use Rattle.marks.proofs.Laws.{seek_start, seek_found, seek_on, seek_end}
 use Rattle.marks.proofs.gap_in.Goals as goal
 
 pub loop-left-init : goal.loop-left-init

@@ -1,10 +1,8 @@
 -- `gap_in` meets its contract.
 use Prim.Native.Nat.{◌+◌, ◌*◌, ◌≤◌, ◌<◌}
-use native.Mathlib.Omega.{arith}
-use borrow.Author.Rules.{rules}
 use lib.ListN.{length}
 use Rattle.marks.specs.Marks.{marks}
-use Rattle.marks.proofs.Laws.{Seeks, seek_start, seek_found, seek_on, seek_end}
+use Rattle.marks.proofs.Laws.{Seeks}
 use Rattle.marks.proofs.gap_in.Given as goal
 
 abbrev pub invariant-loop-left : goal.invariant-loop-left

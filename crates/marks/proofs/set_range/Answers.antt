@@ -1,10 +1,8 @@
 -- `set_range` meets its contract.
-use Prim.Native.Nat.{◌+◌, ◌*◌, ◌≤◌, ◌<◌}
-use mathlib.Core.Path.{◌≡◌, refl}
+use mathlib.Core.Path.{refl}
 use native.Mathlib.Omega.{arith}
 use borrow.Author.Rules.{rules}
-use lib.ListN.{length, length-set}
-use Rattle.marks.specs.Marks.{marks, with_range}
+use lib.ListN.{length-set}
 use Rattle.marks.proofs.Laws.{range_start, range_turn, range_end}
 use Rattle.marks.proofs.set_range.Goals as goal
 

@@ -1,11 +1,8 @@
 -- `set_range` meets its contract.
 use Prim.Native.Nat.{◌+◌, ◌*◌, ◌≤◌, ◌<◌}
-use mathlib.Core.Path.{◌≡◌, refl}
-use native.Mathlib.Omega.{arith}
-use borrow.Author.Rules.{rules}
-use lib.ListN.{length, length-set}
+use mathlib.Core.Path.{◌≡◌}
+use lib.ListN.{length}
 use Rattle.marks.specs.Marks.{marks, with_range}
-use Rattle.marks.proofs.Laws.{range_start, range_turn, range_end}
 use Rattle.marks.proofs.set_range.Given as goal
 
 abbrev pub invariant-loop-left : goal.invariant-loop-left

@@ -1,7 +1,6 @@
 -- `zeros_in` meets its contract.
 use native.Mathlib.Omega.{arith}
 use lib.Count.{trailing_le}
-use borrow.Author.Rules.{rules}
 use Rattle.marks.proofs.zeros_in.Goals as goal
 
 pub overflow_cast-result : goal.overflow_cast-result

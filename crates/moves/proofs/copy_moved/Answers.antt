@@ -1,10 +1,8 @@
 -- `copy_moved` meets its contract.
-use Prim.Native.Nat.{◌-◌, ◌≤◌}
-use mathlib.Core.Path.{◌≡◌, refl}
-use lib.ListN.{length}
+use mathlib.Core.Path.{refl}
 use native.Mathlib.Omega.{arith}
 use borrow.Author.Rules.{rules}
-use Rattle.moves.proofs.Laws.{Copying, copy_start, copy_ready, copy_turn, copy_end}
+use Rattle.moves.proofs.Laws.{copy_start, copy_ready, copy_turn, copy_end}
 use Rattle.moves.proofs.copy_moved.Goals as goal
 
 pub loop-b-init : goal.loop-b-init

@@ -1,5 +1,4 @@
 -- `copy_one` meets its contract.
-use mathlib.Core.Path.{refl}
 use native.Mathlib.Omega.{arith}
 use borrow.Author.Rules.{rules}
 use Rattle.moves.proofs.Laws.{copy_none, copy_run, ready_run}

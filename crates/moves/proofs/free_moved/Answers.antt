@@ -1,11 +1,8 @@
 -- `free_moved` meets its contract.
-use Prim.Native.Nat.{◌-◌, ◌≤◌}
-use mathlib.Core.Path.{◌≡◌, refl}
-use lib.ListN.{length}
-use Rattle.marks.specs.Marks.{marks}
+use mathlib.Core.Path.{refl}
 use native.Mathlib.Omega.{arith}
 use borrow.Author.Rules.{rules}
-use Rattle.moves.proofs.Laws.{Freeing, free_start, free_turn, free_end}
+use Rattle.moves.proofs.Laws.{free_start, free_turn, free_end}
 use Rattle.moves.proofs.free_moved.Goals as goal
 
 pub loop-b-init : goal.loop-b-init

@@ -1,11 +1,9 @@
 -- `free_moved` meets its contract.
 use Prim.Native.Nat.{◌-◌, ◌≤◌}
-use mathlib.Core.Path.{◌≡◌, refl}
+use mathlib.Core.Path.{◌≡◌}
 use lib.ListN.{length}
 use Rattle.marks.specs.Marks.{marks}
-use native.Mathlib.Omega.{arith}
-use borrow.Author.Rules.{rules}
-use Rattle.moves.proofs.Laws.{Freeing, free_start, free_turn, free_end}
+use Rattle.moves.proofs.Laws.{Freeing}
 use Rattle.moves.proofs.free_moved.Given as goal
 
 abbrev pub invariant-loop-b : goal.invariant-loop-b

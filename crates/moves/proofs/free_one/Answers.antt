@@ -1,6 +1,4 @@
 -- `free_one` meets its contract.
-use mathlib.Core.Path.{refl}
-use native.Mathlib.Omega.{arith}
 use borrow.Author.Rules.{rules}
 use Rattle.moves.proofs.Laws.{free_none, free_run}
 use Rattle.moves.proofs.free_one.Goals as goal

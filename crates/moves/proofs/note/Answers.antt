@@ -1,5 +1,4 @@
 -- `note` meets its contract.
-use mathlib.Core.Path.{refl}
 use lib.ListN.{length-set}
 use borrow.Author.Rules.{rules}
 use Rattle.moves.proofs.Laws.{note_below, note_above}

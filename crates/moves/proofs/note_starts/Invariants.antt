@@ -1,12 +1,9 @@
 -- `note_starts` meets its contract.
-use mathlib.Core.Path.{◌≡◌, refl}
+use mathlib.Core.Path.{◌≡◌}
 use lib.ListN.{length}
 use Rattle.index.specs.Elements.{elements_at, Inside}
-use Rattle.index.proofs.Laws.{inside_start, inside_end, here_next}
-use native.Mathlib.Omega.{arith}
 use Rattle.moves.specs.Moved.{noted}
-use borrow.Author.Rules.{rules}
-use Rattle.moves.proofs.Laws.{blocks, note_turn, note_end}
+use Rattle.moves.proofs.Laws.{blocks}
 use Rattle.moves.proofs.note_starts.Given as goal
 
 abbrev pub invariant-loop-left : goal.invariant-loop-left

@@ -1,11 +1,8 @@
 -- `place_moved` meets its contract.
-use Prim.Native.Nat.{◌-◌, ◌≤◌}
-use mathlib.Core.Path.{◌≡◌, refl}
-use lib.ListN.{length}
-use Rattle.marks.specs.Marks.{marks}
+use mathlib.Core.Path.{refl}
 use native.Mathlib.Omega.{arith}
 use borrow.Author.Rules.{rules}
-use Rattle.moves.proofs.Laws.{Placing, place_start, place_turn, place_over, place_end}
+use Rattle.moves.proofs.Laws.{place_start, place_turn, place_over, place_end}
 use Rattle.moves.proofs.place_moved.Goals as goal
 
 pub loop-b-init : goal.loop-b-init

@@ -1,11 +1,9 @@
 -- `place_moved` meets its contract.
 use Prim.Native.Nat.{◌-◌, ◌≤◌}
-use mathlib.Core.Path.{◌≡◌, refl}
+use mathlib.Core.Path.{◌≡◌}
 use lib.ListN.{length}
 use Rattle.marks.specs.Marks.{marks}
-use native.Mathlib.Omega.{arith}
-use borrow.Author.Rules.{rules}
-use Rattle.moves.proofs.Laws.{Placing, place_start, place_turn, place_over, place_end}
+use Rattle.moves.proofs.Laws.{Placing}
 use Rattle.moves.proofs.place_moved.Given as goal
 
 abbrev pub invariant-loop-b : goal.invariant-loop-b

@@ -1,6 +1,5 @@
 -- `size_at` meets its contract.
 use native.Mathlib.Omega.{arith}
-use borrow.Author.Rules.{rules}
 use Rattle.moves.proofs.Laws.{size_broken, size_by, size_bounds}
 use Rattle.moves.proofs.size_at.Goals as goal
 

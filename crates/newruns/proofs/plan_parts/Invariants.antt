@@ -1,16 +1,12 @@
 -- `plan_parts` meets its contract.
 use Prim.Native.Nat.{◌+◌, ◌*◌, ◌≤◌}
-use mathlib.Core.Path.{◌≡◌, refl}
-use native.Mathlib.Omega.{arith}
-use borrow.Author.Rules.{rules}
+use mathlib.Core.Path.{◌≡◌}
 use lib.ListN.{length}
 use Rattle.marks.specs.Marks.{marks}
 use Rattle.encoder.specs.Limits.{longest_run}
 use Rattle.parts.specs.Room.{part_room}
 use Rattle.parts.specs.Merge.{todo, changed_entries, CursorOk}
-use Rattle.parts.proofs.Laws.{none_zero, begun_todo}
-use Rattle.newruns.proofs.Laws.{Planning, planning_start, planning_more, planned, planned_over}
-use Rattle.parts.proofs.PartLaws.{none_left, fewer_left}
+use Rattle.newruns.proofs.Laws.{Planning}
 use Rattle.newruns.proofs.plan_parts.Given as goal
 
 abbrev pub invariant-loop-form : goal.invariant-loop-form

@@ -1,22 +1,14 @@
 -- `write_parts` meets its contract.
-use Prim.Native.Nat.{◌+◌, ◌-◌, ◌*◌, ◌≤◌}
-use mathlib.Core.Path.{◌≡◌, refl, sym, ◌∙◌}
-use native.Mathlib.Omega.{arith}
-use borrow.Author.Rules.{rules}
-use borrow.Rule.Slice.PartMut.{put_mid}
-use mathlib.Core.List.{[]}
-use lib.ListN.{length, take, drop}
+use Prim.Native.Nat.{◌+◌, ◌*◌, ◌≤◌}
+use mathlib.Core.Path.{◌≡◌}
+use lib.ListN.{length}
 use Rattle.marks.specs.Marks.{marks}
 use Rattle.spec.specs.Header.{block_position}
-use Rattle.spec.specs.Place.{first_headword}
 use Rattle.encoder.specs.Limits.{longest_run}
 use Rattle.parts.specs.Room.{part_room}
-use Rattle.parts.specs.Part.{part_of}
 use Rattle.parts.specs.Merge.{todo, changed_entries, CursorOk}
-use Rattle.parts.proofs.PartLaws.{none_left, used_some, fewer_left}
-use Rattle.parts.proofs.Laws.{first_bytes, none_zero, begun_todo, todo_short}
 use Rattle.newruns.specs.Laid.{laid, elements_long}
-use Rattle.newruns.proofs.Laws.{Writing, planning_under, planning_more, writing_start, writing_more, written_image, written_size, written_free, length_lent, run_room, element_fits, element_past, head_stands, part_stored}
+use Rattle.newruns.proofs.Laws.{Writing}
 use Rattle.newruns.proofs.write_parts.Given as goal
 
 abbrev pub invariant-loop-form : goal.invariant-loop-form

@@ -1,6 +1,5 @@
 -- The number of blocks by the two cases of the code.
 use Rattle.pack.proofs.Laws.{need_laws}
-use borrow.Author.Rules.{rules}
 use Rattle.pack.proofs.need.Goals as goal
 
 pub returns-then-elements-eq0 : goal.returns-then-elements-eq0

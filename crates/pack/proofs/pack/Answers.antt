@@ -1,17 +1,14 @@
 -- The stores of the code are the plan that the specification writes, and what it gives up zeroed.
 use Prim.Native.Nat.{ℕ, ◌+◌, ◌<◌, ◌≤◌}
 use mathlib.Core.Path.{◌≡◌, ◌∙◌}
-use mathlib.Core.List.{List}
 use native.Mathlib.Omega.{arith}
 use lib.ListN.{length, get_or}
 use Rattle.spec.specs.Header.{block_position}
-use Rattle.spec.specs.Index.{Element, elements_bytes}
+use Rattle.spec.specs.Index.{elements_bytes}
 use Rattle.index.specs.Elements.{elements_at}
-use Rattle.header.specs.declared.Form.{Form}
 use Rattle.header.specs.Form.{index_start, area_start, index_cut}
 use Rattle.inspect.proofs.Accepted.{accepted_blocks, accepted_width, accepted_area, accepted_inside}
 use Rattle.pack.proofs.Optimised.{old_whole, end_short, index_fewer, index_holds, runs_fit, blocks_counted, blocks_fewer, packed_length, packed_image}
-use borrow.Author.Rules.{rules}
 use Rattle.pack.proofs.pack.Goals as goal
 
 pub position-start-requires : goal.position-start-requires

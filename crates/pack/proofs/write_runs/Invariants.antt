@@ -1,15 +1,12 @@
 -- What is left, written where the code stands, is the whole written.
-use Prim.Native.Nat.{ℕ, ◌+◌, ◌*◌, ◌≤◌}
+use Prim.Native.Nat.{ℕ, ◌+◌, ◌≤◌}
 use mathlib.Core.Path.{◌≡◌}
 use lib.ListN.{length}
 use Rattle.spec.specs.Header.{block_position}
 use Rattle.spec.specs.Index.{elements_bytes}
 use Rattle.index.specs.Elements.{elements_at, Inside}
 use Rattle.pack.specs.Packing.{RunsFit}
-use Rattle.pack.proofs.Laws.{Underway, underway_start, underway_broken, run_inside, run_fits, element_fits, underway_turn, underway_out, underway_end, write_laws}
-use borrow.Author.Rules.{rules}
-use Rattle.index.proofs.Laws.{here_next}
-use native.Mathlib.Omega.{arith}
+use Rattle.pack.proofs.Laws.{Underway}
 use Rattle.pack.proofs.write_runs.Given as goal
 
 abbrev pub invariant-loop-left : goal.invariant-loop-left

@@ -1,7 +1,5 @@
 -- `is_second` meets its contract.
-use native.Mathlib.Omega.{arith}
-use borrow.Author.Rules.{rules}
-use Rattle.pairs.proofs.Laws.{LeadsBack, back_none, back_all, back_stop, back_more}
+use Rattle.pairs.proofs.Laws.{back_none, back_all, back_stop, back_more}
 use Rattle.pairs.proofs.is_second.Goals as goal
 
 pub loop-i-init : goal.loop-i-init

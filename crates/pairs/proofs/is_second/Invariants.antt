@@ -1,7 +1,5 @@
 -- `is_second` meets its contract.
-use native.Mathlib.Omega.{arith}
-use borrow.Author.Rules.{rules}
-use Rattle.pairs.proofs.Laws.{LeadsBack, back_none, back_all, back_stop, back_more}
+use Rattle.pairs.proofs.Laws.{LeadsBack}
 use Rattle.pairs.proofs.is_second.Given as goal
 
 abbrev pub invariant-loop-i : goal.invariant-loop-i

@@ -1,6 +1,4 @@
 -- `whole_front` meets its contract.
-use native.Mathlib.Omega.{arith}
-use borrow.Author.Rules.{rules}
 use Rattle.pairs.proofs.Laws.{front_all, front_shorter, front_same, front_some}
 use Rattle.pairs.proofs.whole_front.Goals as goal
 

@@ -1,6 +1,5 @@
 -- `advance` meets its contract.
 use Rattle.parts.proofs.Laws.{broken_ahead, end_ahead, entry_ahead, entry_cursor, end_cursor}
-use borrow.Author.Rules.{rules}
 use Rattle.parts.proofs.advance.Goals as goal
 
 pub returns-in-Broken-clause-result_after : goal.returns-in-Broken-clause-result_after

@@ -6,7 +6,6 @@ use mathlib.Core.Path.{◌≡◌}
 use mathlib.Core.Logic.{◌⊎◌, inl, inr, ⊎_elim}
 use Rattle.encoder.specs.Limits.{longest_entry}
 use Rattle.parts.proofs.Laws.{first_bytes, append_full, append_done, last_renewed}
-use borrow.Author.Rules.{rules}
 use Rattle.parts.proofs.append.Goals as goal
 use Rattle.parts.proofs.append.Goals.{then-used-gt0+else-limit-whole, else-used-gt0}
 

@@ -1,31 +1,11 @@
 -- `encode_part` meets its contract.
 use Prim.Native.Nat.{◌+◌, ◌≤◌}
-use mathlib.Core.Path.{◌≡◌, refl, ◌∙◌}
+use mathlib.Core.Path.{refl, ◌∙◌}
 use native.Mathlib.Omega.{arith}
-use lib.ListN.{length, take}
 use Rattle.spec.proofs.RunLaws.{head_bounds}
-use Rattle.encoder.specs.Limits.{longest_headword, longest_entry}
-use Rattle.parts.specs.Merge.{ahead, todo, CursorOk, Met}
-use Rattle.parts.proofs.PartLaws.{Filling, filling_start}
-use Rattle.parts.proofs.Laws.{
-  first_bytes,
-  work,
-  part_done,
-  part_skips,
-  part_full_old,
-  part_keeps,
-  part_full_new,
-  part_enters,
-  skip_less,
-  old_less,
-  new_less,
-  old_length,
-  word_few,
-  body_few,
-  cursor_taken,
-}
+use Rattle.parts.proofs.PartLaws.{filling_start}
+use Rattle.parts.proofs.Laws.{first_bytes, part_done, part_skips, part_full_old, part_keeps, part_full_new, part_enters, skip_less, old_less, new_less, old_length, word_few, body_few, cursor_taken}
 use Rattle.parts.proofs.MetLaws.{met_start, met_skip, met_old, met_new, met_done, full_some}
-use borrow.Author.Rules.{rules}
 use Rattle.parts.proofs.encode_part.Goals as goal
 
 pub loop-found-init : goal.loop-found-init

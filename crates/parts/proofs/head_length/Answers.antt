@@ -1,6 +1,5 @@
 -- `head_length` meets its contract.
 use Rattle.parts.proofs.Laws.{head_measured}
-use borrow.Author.Rules.{rules}
 use Rattle.parts.proofs.head_length.Goals as goal
 
 pub returns-clause-value : goal.returns-clause-value

@@ -1,17 +1,12 @@
 -- `measure` meets its contract.
 use Prim.Native.Nat.{◌≤◌}
-use mathlib.Core.Path.{◌≡◌, refl, ◌∙◌}
-use native.Mathlib.Omega.{arith}
+use mathlib.Core.Path.{◌≡◌}
 use lib.ListN.{length}
 use mathlib.Core.List.{[]}
 use Rattle.spec.specs.Order.{below_of}
 use Rattle.parts.specs.Merge.{entries_left, ahead, todo, changed_entries, CursorOk, Met}
 use Rattle.parts.specs.Room.{part_room}
-use Rattle.parts.proofs.MeasureLaws.{parts_in, bytes_in, blocks_in, Counting, counted, parts_more, bytes_more, blocks_more}
-use Rattle.parts.proofs.PartLaws.{used_some, fewer_left}
-use Rattle.parts.proofs.Laws.{none_zero, todo_short, measure_start, measure_bounds}
-use Rattle.parts.proofs.MetLaws.{met_begun, met_part, met_all}
-use borrow.Author.Rules.{rules}
+use Rattle.parts.proofs.MeasureLaws.{parts_in, bytes_in, blocks_in, Counting}
 use Rattle.parts.proofs.measure.Given as goal
 
 abbrev pub invariant-loop-form : goal.invariant-loop-form

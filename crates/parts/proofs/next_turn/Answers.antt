@@ -1,7 +1,6 @@
 -- `next_turn` meets its contract.
 use native.Mathlib.Omega.{arith}
 use Rattle.parts.proofs.Laws.{first_bytes, last_new, last_done, below_old, same_skip, above_new, above_old}
-use borrow.Author.Rules.{rules}
 use Rattle.parts.proofs.next_turn.Goals as goal
 
 pub returns-then-fresh : goal.returns-then-fresh

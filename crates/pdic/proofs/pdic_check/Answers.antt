@@ -1,6 +1,5 @@
 -- `pdic_check` meets its contract.
 use Rattle.pdic.proofs.Laws.{check_refused, check_counted}
-use borrow.Author.Rules.{rules}
 use Rattle.pdic.proofs.pdic_check.Goals as goal
 
 pub returns-in-Refused : goal.returns-in-Refused

@@ -1,6 +1,5 @@
 -- `pdic_create` meets its contract.
 use Rattle.pdic.proofs.Laws.{create_refused, create_done}
-use borrow.Author.Rules.{rules}
 use Rattle.pdic.proofs.pdic_create.Goals as goal
 
 pub returns-in-Refused : goal.returns-in-Refused

@@ -1,6 +1,5 @@
 -- `pdic_delete` meets its contract.
 use Rattle.pdic.proofs.Laws.{delete_refused, delete_absent, delete_removed}
-use borrow.Author.Rules.{rules}
 use Rattle.pdic.proofs.pdic_delete.Goals as goal
 
 pub returns-in-Refused : goal.returns-in-Refused

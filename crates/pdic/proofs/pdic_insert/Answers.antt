@@ -1,6 +1,5 @@
 -- `pdic_insert` meets its contract.
 use Rattle.pdic.proofs.Laws.{change_refused, change_done}
-use borrow.Author.Rules.{rules}
 use Rattle.pdic.proofs.pdic_insert.Goals as goal
 
 pub returns-in-Refused : goal.returns-in-Refused

@@ -1,6 +1,5 @@
 -- `pdic_look_up` meets its contract.
 use Rattle.pdic.proofs.Laws.{look_up_refused, look_up_absent, look_up_found}
-use borrow.Author.Rules.{rules}
 use Rattle.pdic.proofs.pdic_look_up.Goals as goal
 
 pub returns-in-Refused : goal.returns-in-Refused

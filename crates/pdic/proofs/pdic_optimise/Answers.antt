@@ -1,6 +1,5 @@
 -- `pdic_optimise` meets its contract.
 use Rattle.pdic.proofs.Laws.{change_refused, change_done, optimise_number, optimise_zero}
-use borrow.Author.Rules.{rules}
 use Rattle.pdic.proofs.pdic_optimise.Goals as goal
 
 pub returns-in-Refused : goal.returns-in-Refused

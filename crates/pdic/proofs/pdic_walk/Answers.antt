@@ -1,6 +1,5 @@
 -- `pdic_walk` meets its contract.
 use Rattle.pdic.proofs.Laws.{walk_refused, walk_absent, walk_found}
-use borrow.Author.Rules.{rules}
 use Rattle.pdic.proofs.pdic_walk.Goals as goal
 
 pub returns-in-Refused : goal.returns-in-Refused

@@ -1,6 +1,5 @@
 -- `place` meets its contract.
 use native.Mathlib.Omega.{arith}
-use borrow.Author.Rules.{rules}
 use Rattle.placing.proofs.SpreadLaws.{best_fit_from}
 use Rattle.placing.proofs.place.Goals as goal
 

@@ -1,5 +1,4 @@
 use Rattle.reader.proofs.Found.{entry_long, entry_short, entry_given}
-use borrow.Author.Rules.{rules}
 use Rattle.reader.proofs.give_entry.Goals as goal
 
 pub returns-then-out-headword : goal.returns-then-out-headword

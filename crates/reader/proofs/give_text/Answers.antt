@@ -1,5 +1,4 @@
 use Rattle.reader.proofs.Found.{text_short, text_given}
-use borrow.Author.Rules.{rules}
 use Rattle.reader.proofs.give_text.Goals as goal
 
 pub returns-then-text-long : goal.returns-then-text-long

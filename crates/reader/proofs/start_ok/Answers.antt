@@ -1,5 +1,4 @@
 use Rattle.reader.proofs.Found.{start_long, start_clear}
-use borrow.Author.Rules.{rules}
 use Rattle.reader.proofs.start_ok.Goals as goal
 
 pub returns-then-h-gt-LONGEST_HEADWORD : goal.returns-then-h-gt-LONGEST_HEADWORD

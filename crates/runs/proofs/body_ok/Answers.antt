@@ -1,5 +1,4 @@
 use Rattle.runs.proofs.Returns.{body_attribute, body_long, body_clear}
-use borrow.Author.Rules.{rules}
 use Rattle.runs.proofs.body_ok.Goals as goal
 
 pub returns-then-not-attribute_ok : goal.returns-then-not-attribute_ok

@@ -1,5 +1,4 @@
 use Rattle.runs.proofs.Returns.{field_short, field_end, field_past, field_here, no_field, no_field_end, field_inside}
-use borrow.Author.Rules.{rules}
 use Rattle.runs.proofs.field_at.Goals as goal
 
 pub returns-then-left-lt2-clause-field_told : goal.returns-then-left-lt2-clause-field_told

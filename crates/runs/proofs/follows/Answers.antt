@@ -1,5 +1,4 @@
 use Rattle.runs.proofs.Returns.{front_long, word_long, prev_shared, rest_none, first_differs, tails_told}
-use borrow.Author.Rules.{rules}
 use Rattle.runs.proofs.follows.Goals as goal
 
 pub returns-then-prev-front : goal.returns-then-prev-front

@@ -1,5 +1,4 @@
 use Rattle.runs.proofs.Returns.{head_empty, head_long, head_clear}
-use borrow.Author.Rules.{rules}
 use Rattle.runs.proofs.headword_ok.Goals as goal
 
 pub returns-then-h-eq0 : goal.returns-then-h-eq0

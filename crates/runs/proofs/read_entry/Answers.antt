@@ -1,5 +1,4 @@
 use Rattle.runs.proofs.Returns.{broken_kept, end_kept, none_inside, none_inside_end, step_broken, step_end, step_field}
-use borrow.Author.Rules.{rules}
 use Rattle.runs.proofs.read_entry.Goals as goal
 
 pub entry_in-requires-clause-at_bound : goal.entry_in-requires-clause-at_bound

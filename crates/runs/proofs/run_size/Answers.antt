@@ -1,5 +1,4 @@
 use Rattle.runs.proofs.SizeLaws.{broken_size, size_number, size_none, size_top, size_past, size_good, size_inside}
-use borrow.Author.Rules.{rules}
 use Rattle.runs.proofs.run_size.Goals as goal
 
 pub returns-then-d-b-clause-value : goal.returns-then-d-b-clause-value

@@ -1,5 +1,4 @@
 use Rattle.runs.proofs.Returns.{text_long, text_clear}
-use borrow.Author.Rules.{rules}
 use Rattle.runs.proofs.text_ok.Goals as goal
 
 pub returns-then-t-gt-LONGEST_TEXT : goal.returns-then-t-gt-LONGEST_TEXT

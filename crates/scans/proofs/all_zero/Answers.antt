@@ -1,9 +1,5 @@
 -- The bytes passed are zero.
-use Prim.Native.Nat.{◌-◌, ◌≤◌}
-use mathlib.Core.Path.{◌≡◌}
-use mathlib.Core.Bool.{true}
 use native.Mathlib.Omega.{arith}
-use Rattle.spec.specs.Bytes.{bytes_at, all_zero}
 use Rattle.scans.proofs.Scans.{zero_none, zero_more, zero_not, zero_last}
 use Rattle.scans.proofs.all_zero.Goals as goal
 

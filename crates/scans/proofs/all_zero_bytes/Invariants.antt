@@ -1,9 +1,7 @@
 -- The bytes left decide.
 use Prim.Native.Nat.{◌-◌, ◌≤◌}
-use mathlib.Core.Path.{◌≡◌, refl}
-use native.Mathlib.Omega.{arith}
+use mathlib.Core.Path.{◌≡◌}
 use Rattle.spec.specs.Bytes.{bytes_at, all_zero}
-use Rattle.scans.proofs.Scans.{zero_next, zero_here, zero_end}
 use Rattle.scans.proofs.all_zero_bytes.Given as goal
 
 abbrev pub invariant-loop-i : goal.invariant-loop-i

@@ -1,10 +1,6 @@
 -- The bits so far and the bytes left decide.
-use Prim.Native.Nat.{◌-◌, ◌≤◌}
-use mathlib.Core.Path.{◌≡◌, refl}
-use mathlib.Core.Bool.{◌&&◌}
+use mathlib.Core.Path.{refl}
 use native.Mathlib.Omega.{arith}
-use lib.Dec.{eqb}
-use Rattle.spec.specs.Bytes.{bytes_at, all_zero}
 use Rattle.scans.proofs.Scans.{bits_next, bits_end}
 use Rattle.scans.proofs.all_zero_flat.Goals as goal
 

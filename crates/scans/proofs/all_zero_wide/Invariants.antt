@@ -2,9 +2,7 @@
 use Prim.Native.Nat.{◌-◌, ◌≤◌}
 use mathlib.Core.Path.{◌≡◌}
 use mathlib.Core.Bool.{true}
-use native.Mathlib.Omega.{arith}
 use Rattle.spec.specs.Bytes.{bytes_at, all_zero}
-use Rattle.scans.proofs.Scans.{zero_none, part_more, part_not, part_rest}
 use Rattle.scans.proofs.all_zero_wide.Given as goal
 
 abbrev pub invariant-loop-i : goal.invariant-loop-i

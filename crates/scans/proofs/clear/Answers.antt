@@ -1,9 +1,6 @@
 -- The first i bytes are zero, the others as they were.
-use Prim.Native.Nat.{◌-◌, ◌≤◌}
-use mathlib.Core.Path.{◌≡◌, refl}
+use mathlib.Core.Path.{refl}
 use native.Mathlib.Omega.{arith}
-use lib.ListN.{length}
-use Rattle.spec.specs.Bytes.{write, zeros}
 use Rattle.scans.proofs.Clears.{cleared_none, cleared_more, cleared_whole}
 use Rattle.scans.proofs.clear.Goals as goal
 

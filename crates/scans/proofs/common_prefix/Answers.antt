@@ -1,9 +1,6 @@
 -- The first i bytes are equal.
-use Prim.Native.Nat.{◌-◌, ◌≤◌}
-use mathlib.Core.Path.{◌≡◌, refl}
+use mathlib.Core.Path.{refl}
 use native.Mathlib.Omega.{arith}
-use borrow.Author.Rules.{rules}
-use lib.ListN.{take}
 use Rattle.scans.proofs.Fronts.{prefix_short, prefix_here, prefix_more, prefix_last}
 use Rattle.scans.proofs.common_prefix.Goals as goal
 

@@ -1,11 +1,9 @@
 -- The common front is as long as i and what is left of it from i on.
 use Prim.Native.Nat.{◌+◌, ◌-◌, ◌≤◌}
 use mathlib.Core.Path.{◌≡◌}
-use native.Mathlib.Omega.{arith}
 use lib.ListN.{take}
 use Rattle.spec.specs.Bytes.{bytes_at}
 use Rattle.spec.specs.Order.{common_prefix}
-use Rattle.scans.proofs.Fronts.{prefix_start, prefix_next, prefix_stop, prefix_end}
 use Rattle.scans.proofs.common_prefix_bytes.Given as goal
 
 abbrev pub invariant-loop-i : goal.invariant-loop-i

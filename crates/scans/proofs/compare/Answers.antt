@@ -1,5 +1,4 @@
 use Rattle.scans.proofs.Fronts.{compare_same, compare_short, compare_long, compare_less, compare_more}
-use borrow.Author.Rules.{rules}
 use Rattle.scans.proofs.compare.Goals as goal
 
 pub returns-then-b-n : goal.returns-then-b-n

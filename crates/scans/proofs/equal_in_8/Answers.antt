@@ -1,7 +1,6 @@
 use mathlib.Core.Path.{◌∙◌}
 use native.Mathlib.Omega.{arith}
 use Rattle.scans.proofs.Words.{equal_eight}
-use borrow.Author.Rules.{rules}
 use Rattle.scans.proofs.equal_in_8.Goals as goal
 
 pub returns-clause-value : goal.returns-clause-value

@@ -1,5 +1,4 @@
 use native.Mathlib.Omega.{arith}
-use borrow.Author.Rules.{rules}
 use Rattle.scans.proofs.Scans.{first_in_24}
 use Rattle.scans.proofs.first_zero.Goals as goal
 

@@ -1,9 +1,6 @@
 -- The way to the first zero byte is as far as i and what is left of it from i on.
-use Prim.Native.Nat.{◌+◌, ◌-◌, ◌≤◌}
-use mathlib.Core.Path.{◌≡◌, refl}
+use mathlib.Core.Path.{refl}
 use native.Mathlib.Omega.{arith}
-use Rattle.spec.specs.Bytes.{bytes_at}
-use Rattle.scans.specs.Scan.{zero_offset}
 use Rattle.scans.proofs.Scans.{first_next, first_here, first_end}
 use Rattle.scans.proofs.first_zero_bytes.Goals as goal
 

@@ -2,9 +2,7 @@
 use Prim.Native.Nat.{◌-◌, ◌≤◌}
 use mathlib.Core.Path.{◌≡◌}
 use mathlib.Core.Bool.{true}
-use native.Mathlib.Omega.{arith}
 use Rattle.spec.specs.Bytes.{bytes_at, no_zero}
-use Rattle.scans.proofs.Scans.{clear_none, clear_more, first_inside, first_last}
 use Rattle.scans.proofs.first_zero_long.Given as goal
 
 abbrev pub invariant-loop-i : goal.invariant-loop-i

@@ -1,6 +1,5 @@
 use native.Mathlib.Omega.{arith}
 use Rattle.scans.proofs.Scans.{short_here, short_last}
-use borrow.Author.Rules.{rules}
 use Rattle.scans.proofs.first_zero_short.Goals as goal
 
 pub returns-then-n-lt8-clause-value : goal.returns-then-n-lt8-clause-value

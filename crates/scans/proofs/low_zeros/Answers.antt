@@ -1,5 +1,4 @@
 use native.Mathlib.Omega.{arith}
-use mathlib.Core.Path.{refl}
 use lib.Count.{trailing_le}
 use Rattle.scans.proofs.low_zeros.Goals as goal
 

@@ -1,4 +1,3 @@
-use borrow.Author.Rules.{rules}
 use Rattle.scans.proofs.Scans.{short_clear}
 use Rattle.scans.proofs.no_zero.Goals as goal
 

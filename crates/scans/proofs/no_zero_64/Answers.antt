@@ -1,5 +1,4 @@
 use native.Mathlib.Omega.{arith}
-use borrow.Author.Rules.{rules}
 use Rattle.scans.proofs.Scans.{clear_four}
 use Rattle.scans.proofs.no_zero_64.Goals as goal
 

@@ -1,10 +1,6 @@
 -- `clear` says whether the bytes passed hold no zero byte.
-use Prim.Native.Nat.{◌-◌, ◌≤◌}
-use mathlib.Core.Path.{◌≡◌, refl}
-use mathlib.Core.Bool.{◌&&◌}
-use mathlib.Core.Logic.{⊎_elim}
+use mathlib.Core.Path.{refl}
 use native.Mathlib.Omega.{arith}
-use Rattle.spec.specs.Bytes.{bytes_at, no_zero}
 use Rattle.scans.proofs.Scans.{clear_next, clear_here, clear_end}
 use Rattle.scans.proofs.no_zero_flat.Goals as goal
 use Rattle.scans.proofs.no_zero_flat.Goals.{then-s-i-eq0, else-s-i-eq0}

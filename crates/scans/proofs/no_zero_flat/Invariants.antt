@@ -1,11 +1,8 @@
 -- `clear` says whether the bytes passed hold no zero byte.
 use Prim.Native.Nat.{◌-◌, ◌≤◌}
-use mathlib.Core.Path.{◌≡◌, refl}
+use mathlib.Core.Path.{◌≡◌}
 use mathlib.Core.Bool.{◌&&◌}
-use mathlib.Core.Logic.{⊎_elim}
-use native.Mathlib.Omega.{arith}
 use Rattle.spec.specs.Bytes.{bytes_at, no_zero}
-use Rattle.scans.proofs.Scans.{clear_next, clear_here, clear_end}
 use Rattle.scans.proofs.no_zero_flat.Given as goal
 
 abbrev pub invariant-loop-i : goal.invariant-loop-i

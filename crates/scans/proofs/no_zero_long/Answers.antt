@@ -1,9 +1,5 @@
 -- The bytes passed hold no zero byte.
-use Prim.Native.Nat.{◌-◌, ◌≤◌}
-use mathlib.Core.Path.{◌≡◌}
-use mathlib.Core.Bool.{true}
 use native.Mathlib.Omega.{arith}
-use Rattle.spec.specs.Bytes.{bytes_at, no_zero}
 use Rattle.scans.proofs.Scans.{clear_none, clear_more, clear_not, clear_last}
 use Rattle.scans.proofs.no_zero_long.Goals as goal
 

@@ -1,5 +1,4 @@
 use Rattle.scans.proofs.Scans.{zero_two}
-use borrow.Author.Rules.{rules}
 use Rattle.scans.proofs.zero_16.Goals as goal
 
 pub returns : goal.returns

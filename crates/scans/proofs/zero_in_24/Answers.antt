@@ -1,8 +1,6 @@
 use Prim.Native.Nat.{◌+◌, ◌≤◌}
 use mathlib.Core.Path.{◌≡◌, ◌∙◌}
-use mathlib.Core.Logic.{⊎_elim}
 use native.Mathlib.Omega.{arith}
-use borrow.Author.Rules.{rules}
 use Rattle.spec.specs.Bytes.{bytes_at}
 use Rattle.scans.specs.Scan.{zero_offset}
 use Rattle.scans.proofs.Words.{zero_eight}

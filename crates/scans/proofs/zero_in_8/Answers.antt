@@ -1,7 +1,6 @@
 use mathlib.Core.Path.{◌∙◌}
 use native.Mathlib.Omega.{arith}
 use Rattle.scans.proofs.Words.{zero_eight}
-use borrow.Author.Rules.{rules}
 use Rattle.scans.proofs.zero_in_8.Goals as goal
 
 pub returns-clause-value : goal.returns-clause-value

@@ -1,6 +1,5 @@
 use native.Mathlib.Omega.{arith}
 use lib.Bits.{and_le_r}
-use borrow.Author.Rules.{rules}
 use Rattle.scans.proofs.zero_marks.Goals as goal
 
 pub overflow_add-result : goal.overflow_add-result

@@ -1,6 +1,5 @@
 -- `delete` meets its contract.
 use Rattle.script.proofs.Laws.{delete_refused, delete_absent, delete_done}
-use borrow.Author.Rules.{rules}
 use Rattle.script.proofs.delete.Goals as goal
 
 pub returns-in-Refused : goal.returns-in-Refused

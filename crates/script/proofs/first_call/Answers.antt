@@ -1,6 +1,5 @@
 -- `first_call` meets its contract.
 use Rattle.script.proofs.Turns.{size_short, size_kind, size_past, size_whole}
-use borrow.Author.Rules.{rules}
 use Rattle.script.proofs.first_call.Goals as goal
 
 pub returns-then-s-lt5 : goal.returns-then-s-lt5

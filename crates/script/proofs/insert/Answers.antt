@@ -1,6 +1,5 @@
 -- `insert` meets its contract.
 use Rattle.script.proofs.Laws.{insert_refused, insert_done}
-use borrow.Author.Rules.{rules}
 use Rattle.script.proofs.insert.Goals as goal
 
 pub returns-in-Refused : goal.returns-in-Refused

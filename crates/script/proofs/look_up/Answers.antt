@@ -1,6 +1,5 @@
 -- `look_up` meets its contract.
 use Rattle.script.proofs.Laws.{look_up_refused, look_up_absent, look_up_found}
-use borrow.Author.Rules.{rules}
 use Rattle.script.proofs.look_up.Goals as goal
 
 pub returns-in-Refused : goal.returns-in-Refused

@@ -1,6 +1,5 @@
 -- `optimise` meets its contract.
 use Rattle.script.proofs.Laws.{optimise_refused, optimise_done}
-use borrow.Author.Rules.{rules}
 use Rattle.script.proofs.optimise.Goals as goal
 
 pub returns-in-Refused : goal.returns-in-Refused

@@ -3,7 +3,6 @@ use mathlib.Core.Path.{◌≡◌}
 use native.Mathlib.Omega.{arith}
 use lib.ListN.{get_or}
 use Rattle.script.proofs.ByKind.{performed_0, performed_1, performed_2, performed_3, performed_4, performed_5}
-use borrow.Author.Rules.{rules}
 use Rattle.script.proofs.perform.Goals as goal
 
 pub returns-then-kind-eq0 : goal.returns-then-kind-eq0

@@ -1,10 +1,6 @@
 -- `play` meets its contract.
-use Prim.Native.Nat.{◌-◌, ◌≤◌}
-use mathlib.Core.Path.{◌≡◌, refl}
+use mathlib.Core.Path.{refl}
 use native.Mathlib.Omega.{arith}
-use lib.ListN.{length, drop}
-use borrow.Author.Rules.{rules}
-use Rattle.script.specs.Script.{calls_of, played_from, played}
 use Rattle.script.proofs.Turns.{size_told, size_inside, played_start, played_end, played_turn}
 use Rattle.script.proofs.Claim.{script_claimed}
 use Rattle.script.proofs.play.Goals as goal

@@ -1,12 +1,8 @@
 -- `play` meets its contract.
 use Prim.Native.Nat.{◌-◌, ◌≤◌}
-use mathlib.Core.Path.{◌≡◌, refl}
-use native.Mathlib.Omega.{arith}
+use mathlib.Core.Path.{◌≡◌}
 use lib.ListN.{length, drop}
-use borrow.Author.Rules.{rules}
 use Rattle.script.specs.Script.{calls_of, played_from, played}
-use Rattle.script.proofs.Turns.{size_told, size_inside, played_start, played_end, played_turn}
-use Rattle.script.proofs.Claim.{script_claimed}
 use Rattle.script.proofs.play.Given as goal
 
 abbrev pub invariant-loop-size : goal.invariant-loop-size

@@ -1,7 +1,6 @@
 -- `put_code` meets its contract.
 use mathlib.Core.Path.{sym}
 use lib.Seq.{set_out}
-use borrow.Author.Rules.{rules}
 use Rattle.script.proofs.put_code.Goals as goal
 
 pub returns-else-n-codes : goal.returns-else-n-codes

@@ -1,6 +1,5 @@
 -- `walk` meets its contract.
 use Rattle.script.proofs.Laws.{walk_refused, walk_absent, walk_found}
-use borrow.Author.Rules.{rules}
 use Rattle.script.proofs.walk.Goals as goal
 
 pub returns-in-Refused : goal.returns-in-Refused

@@ -1,10 +1,7 @@
-use Prim.Native.Nat.{◌-◌}
-use lib.ListN.{length}
 use borrow.Author.Rules.{rules}
-use Rattle.spec.specs.Order.{below_of}
 use Rattle.runs.proofs.Laws.{step_less, inside_rest, inside_body, inside_run, inside_short, entry_room, entry_front}
 use Rattle.runs.proofs.Returns.{none_inside_end}
-use Rattle.seek.proofs.Returns.{Passing, passing_start, find_broken, find_end, find_entry, find_turn, inside_from}
+use Rattle.seek.proofs.Returns.{passing_start, find_broken, find_end, find_entry, find_turn, inside_from}
 use Rattle.seek.proofs.find_in_run.Goals as goal
 
 pub loop-length-init : goal.loop-length-init

@@ -1,5 +1,4 @@
 use Rattle.seek.proofs.Returns.{takes_empty, takes_above, takes_from}
-use borrow.Author.Rules.{rules}
 use Rattle.seek.proofs.takes.Goals as goal
 
 pub returns-then-h-eq0 : goal.returns-then-h-eq0

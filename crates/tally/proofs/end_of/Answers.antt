@@ -1,6 +1,5 @@
 use Rattle.index.proofs.Laws.{inside_at}
 use Rattle.tally.proofs.RunsLaws.{carried_none, carried_some, number_inside}
-use borrow.Author.Rules.{rules}
 use Rattle.tally.proofs.end_of.Goals as goal
 
 pub returns-then-left-eq0-clause-carried : goal.returns-then-left-eq0-clause-carried

@@ -1,6 +1,5 @@
 use native.Mathlib.Omega.{arith}
 use Rattle.tally.proofs.RunsLaws.{ends_none, ends_next, zero_behind}
-use borrow.Author.Rules.{rules}
 use Rattle.tally.proofs.ends_below.Goals as goal
 
 pub returns-then-left-eq0 : goal.returns-then-left-eq0

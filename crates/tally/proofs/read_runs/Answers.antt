@@ -1,11 +1,5 @@
-use Prim.Native.Nat.{◌+◌, ◌-◌, ◌*◌, ◌≤◌}
-use mathlib.Core.Path.{◌≡◌}
 use native.Mathlib.Omega.{arith}
-use lib.ListN.{length}
-use Rattle.spec.specs.Order.{below_of}
-use Rattle.marks.specs.Marks.{marks}
-use Rattle.tally.specs.Tally.{Carried}
-use Rattle.tally.proofs.RunsLaws.{Walking, Underway, walk_reading, walk_turn, walk_behind, walk_on, walk_high, number_inside, zero_behind, zero_inside, runs_laws}
+use Rattle.tally.proofs.RunsLaws.{walk_reading, walk_turn, walk_behind, walk_on, walk_high, number_inside, zero_behind, zero_inside, runs_laws}
 use borrow.Author.Rules.{rules}
 use Rattle.tally.proofs.read_runs.Goals as goal
 
