@@ -8,7 +8,7 @@ mandir = $(PREFIX)/share/man
 engine = target/staticlib/libpdic.a
 library = target/lib/libpdic.a target/lib/$(shared)
 programs = target/programs/fill target/programs/glossary
-proved = crates.txt $(shell find crates -name '*.rt' -o -name '*.antt')
+proved = crates.txt $(shell find crates -name out -prune -o \( -name '*.rt' -o -name '*.antt' \) -print)
 sources = include/pdic.h $(wildcard lib/* programs/*)
 shared = $(word 2,$(shell lib/version.sh))
 man1 = fill.1 glossary.1 pdic-list.1
@@ -32,7 +32,7 @@ all: $(library) $(programs) target/bin/list
 
 $(engine): $(proved)
 	@tools/setup.sh demo
-	@echo 'The engine is proved, then compiled. The first time takes about five minutes on two processors.'
+	@echo 'The engine is proved, then compiled. The first time takes many minutes: each crate is proved from nothing.'
 	@tools/engine.sh
 
 target/bin/list: $(engine)
