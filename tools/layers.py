@@ -11,7 +11,8 @@ def levels():
         name, colon, uses = line.partition(':')
         if not colon or line.startswith('#'):
             continue
-        level[name.strip()] = max((level[use] + 1 for use in uses.split() if use in level), default=0)
+        # (the word staticlib may follow the name)
+        level[name.split()[0]] = max((level[use] + 1 for use in uses.split() if use in level), default=0)
     return level
 
 

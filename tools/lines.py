@@ -11,6 +11,8 @@ IMPORT = re.compile(r'(old: |new: )?(ghost )?use ')
 def main():
     wrong = []
     for path in sorted(path for kind in ('antt', 'rt', 'edit') for path in glob.glob(f'crates/**/*.{kind}', recursive=True)):
+        if path.split('/')[2] == 'out':
+            continue
         for number, line in enumerate(open(path, encoding='utf-8'), 1):
             columns = len(line.rstrip('\n'))
             if columns > LIMIT and not IMPORT.match(line):

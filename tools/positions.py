@@ -1,5 +1,5 @@
 #!/usr/bin/env python3
-"""positions.py: only header::position, and in the specification block-position, add a header, an index and blocks. In the code and in
+"""positions.py: only header::position, and in the specification block_position, add a header, an index and blocks. In the code and in
 every definition each other sum with the header's bytes has the extended header alone beside them, which is where the index starts; and
 each other sum with blocks has only blocks and a small number, which is an offset inside a lent data area. The sums that are neither are
 listed here with what they are."""
@@ -9,15 +9,15 @@ import sys
 
 POSITION = {
     'crates/header/src/lib.rt': ['HEADER', 'extended', 'index * 256', '256 * b'],
-    'crates/spec/specs/Header.antt': ['256', 'extended', 'index-blocks * 256', '256 * b'],
+    'crates/spec/specs/Header.antt': ['256', 'extended', 'index_blocks * 256', '256 * b'],
 }
 
 NEITHER = {
     ('crates/byteops/src/lib.rt', 'low + 256 * high'): 'a number of two bytes',
-    ('crates/spec/specs/Bytes.antt', 'b + 256 * from-little-endian bs'): 'a number of any bytes',
+    ('crates/spec/specs/Bytes.antt', 'b + 256 * from_little_endian bs'): 'a number of any bytes',
     ('crates/seek/src/lib.rt', 'start + 256 * size'): 'inside the data area: start is 256 * b',
-    ('crates/spec/specs/PositionForm.antt', 'data-start f + 256 * b'): 'the law of position',
-    ('crates/spec/specs/PositionForm.antt', '256 * § + f .format .extended'): "the law of L: document 01's sum",
+    ('crates/spec/specs/PositionForm.antt', 'data_start f + 256 * b'): 'the law of position',
+    ('crates/spec/specs/PositionForm.antt', '256 * § + f.format.extended'): "the law of L: document 01's sum",
 }
 
 
