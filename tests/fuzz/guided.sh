@@ -3,7 +3,7 @@
 #
 #   tests/fuzz/guided.sh [SECONDS]     default 1200; corpus, log and what is found stay in target/fuzz/guided
 #
-# The engine is compiled once more by `rt staticlib`, with a kit of links to the real one in which clang is a script
+# The engine is compiled once more by `rt lib`, in a copy of the crates, with a kit of links to the real one in which clang is a script
 # (instrument.sh): it adds edge coverage and the address sanitizer to the proved module, and compiles the module a second time
 # without optimisation, to tell by function what was reached (cover.c). target/staticlib stays as it is.
 set -eu
@@ -12,38 +12,38 @@ root=$PWD
 seconds=${1:-1200}
 sources=$root/tests/fuzz
 out=$root/target/fuzz/guided
-kit=${RATTLE_HOME:-$(dirname "$(dirname "$(readlink -f "$(command -v rt)")")")}
-own=on/$(uname -m)
+kit=$(dirname "$(rt doc)")
+work=$(mktemp -d)
+trap 'rm -rf "$work"' EXIT
 mkdir -p "$out/objects" "$out/corpus" "$out/found"
 runtime=$(clang-14 -print-file-name=libclang_rt.fuzzer-x86_64.a 2>/dev/null || true)
 [ -f "$runtime" ] || { apt-get update -qq && apt-get install -y -qq clang-14 libclang-rt-14-dev; }
 
-# links FROM TO EXCEPT: a folder of links to all that is in another, but one
+# links FROM TO EXCEPT..: a folder of links to all that is in another, but some
 links() {
-    mkdir -p "$2"
-    for from in "$1"/*; do
-        [ "$(basename "$from")" = "$3" ] || ln -sfn "$from" "$2/$(basename "$from")"
-    done
+    from=$1 to=$2
+    mkdir -p "$to"
+    ln -sfn "$from"/* "$to"
+    shift 2
+    for except; do rm -f "$to/$except"; done
 }
 
-# the kit of links
-rm -rf "$out/kit" "$out/root"
-links "$kit" "$out/kit" on
-links "$kit/$own" "$out/kit/$own" toolchain
-links "$kit/$own/toolchain" "$out/kit/$own/toolchain" bin
-links "$kit/$own/toolchain/bin" "$out/kit/$own/toolchain/bin" clang
-sed -e "s|@CLANG@|$kit/$own/toolchain/bin/clang|" -e "s|@PLAIN@|$out/plain.o|" "$sources/instrument.sh" \
-    >"$out/kit/$own/toolchain/bin/clang"
-chmod +x "$out/kit/$own/toolchain/bin/clang"
+# the kit of links; rt finds its kit by where it stands itself, so it is copied
+links "$kit" "$work/kit" bin toolchain
+links "$kit/bin" "$work/kit/bin" rt rtlib.py
+cp "$kit/bin/rt" "$kit/bin/rtlib.py" "$work/kit/bin"
+links "$kit/toolchain" "$work/kit/toolchain" bin
+links "$kit/toolchain/bin" "$work/kit/toolchain/bin" clang
+sed -e "s|@CLANG@|$kit/toolchain/bin/clang|" -e "s|@PLAIN@|$out/plain.o|" "$sources/instrument.sh" >"$work/kit/toolchain/bin/clang"
+chmod +x "$work/kit/toolchain/bin/clang"
 
-# a repository of links, so that the archive of the gate is not replaced; what is proved is not proved again
-rt staticlib pdic >"$out/staticlib.log" 2>&1
-links "$root/target" "$out/root/target" staticlib
-for own_folder in fuzz log; do rm -f "$out/root/target/$own_folder"; done
-ln -sfn "$root/crates" "$out/root/crates"
-ln -sfn "$root/crates.txt" "$out/root/crates.txt"
-(cd "$out/root" && RATTLE_HOME=$out/kit rt staticlib pdic) >>"$out/staticlib.log" 2>&1
-engine=$out/root/target/staticlib/libpdic.a
+# a copy of the crates, so that the archive of the gate is not replaced; what is proved is not proved again
+tools/engine.sh
+mkdir "$work/root"
+cp -a crates crates.txt "$work/root"
+(cd "$work/root/crates/pdic" && rm -f out/libpdic.a && "$work/kit/bin/rt" lib) >"$out/engine.log" 2>&1
+engine=$out/libpdic.a
+cp "$work/root/crates/pdic/out/libpdic.a" "$engine"
 nm "$engine" | grep -q __sanitizer_cov_8bit_counters_init || { echo "the engine is not instrumented"; exit 1; }
 
 # the fuzzer (its harness is not instrumented, so that coverage is the engine's), and the driver over the plain module
