@@ -24,7 +24,8 @@ use Rattle.spec.proofs.BytesLaws.{length_to_little_endian}
 use Rattle.spec.specs.Sound.{EntriesOk, Holds, Laid, SoundPlan}
 use Rattle.spec.proofs.CutLaws.{cut_is_cut, cut_joined, first_part, other_parts}
 use Rattle.spec.proofs.PlaceLaws.{place_all, grown_all, packed_all, entries_append, new_entries, place_entries, renumbered_entries, packed_entries}
-use Rattle.spec.proofs.LaidLaws.{Sized, once_laid, laid_without, plan_laid, packed_laid}
+use Rattle.spec.proofs.LaidLaws.{Sized, once_laid, laid_without, packed_laid}
+use Rattle.spec.proofs.GrownLaws.{plan_laid}
 use Rattle.spec.proofs.ReadLaws.{RunsAscend, FrameFits, frame_fits, image_told, runs_ascend, runs_inside}
 use Rattle.spec.proofs.SearchLaws.{entries_ascend}
 use Rattle.spec.proofs.SortedLaws.{ok_front, ok_back, replace_ok, remove_ok, replace_between, remove_between}
@@ -165,16 +166,6 @@ module _ (F : Format) (law : Lawful F) (s : List ℕ) (i : Image) (sound : Sound
   unfolding new_parts CutIsCut
   new_hold = parts_hold F law new_parts (cut_is_cut F.run_limit (change (target_run F.below h i.runs).entries)).1 (rw parts_joined parts_ok)
 
-  -- its entries are those
-  change_entries : all_entries (plan_change F i h change).runs ≡ whole
-  unfolding plan_change grown new_parts
-  change_entries =
-      entries_append _ _
-      ∙ ap₂ (λ (x y : List Entry). x ++ y) (entries_append _ _
-      ∙ ap₂ (λ (x y : List Entry). x ++ y) (renumbered_entries _ _ (target_run F.below h i.runs).before)
-      (place_entries 0 _ _ _ ∙ new_entries new_parts ∙ parts_joined)) (renumbered_entries _ _ (target_run F.below h i.runs).after)
-      ∙ changes
-
   -- by how much the index must grow, the other runs then, and the parts placed
   growth : ℕ
   growth = index_need F.number_width (map element_of ((target_run F.below h i.runs).before ++ map new_run new_parts ++ (target_run F.below h i.runs).after)) - i.frame.index_blocks
@@ -188,6 +179,17 @@ module _ (F : Format) (law : Lawful F) (s : List ℕ) (i : Image) (sound : Sound
   change_runs : (plan_change F i h change).runs ≡ rest.before ++ added.runs ++ rest.after
   unfolding plan_change growth rest added new_parts
   change_runs = refl
+
+  -- its entries are those
+  change_entries : all_entries (plan_change F i h change).runs ≡ whole
+  unfolding rest added grown new_parts
+  change_entries =
+      ap all_entries change_runs
+      ∙ entries_append _ _
+      ∙ ap₂ (λ (x y : List Entry). x ++ y) (entries_append _ _
+      ∙ ap₂ (λ (x y : List Entry). x ++ y) (renumbered_entries _ _ (target_run F.below h i.runs).before)
+      (place_entries 0 _ _ _ ∙ new_entries new_parts ∙ parts_joined)) (renumbered_entries _ _ (target_run F.below h i.runs).after)
+      ∙ changes
 
   -- a fact of runs wherever they stand holds of those of the plan, if it holds of the image's and of the parts
   pub change_all : (P : Run → Type 0) → ((b : ℕ) (r : Run) → P r → P (at_block b r)) → All P i.runs

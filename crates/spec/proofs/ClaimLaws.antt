@@ -34,7 +34,7 @@ use Rattle.spec.proofs.ReadLaws.{frame_fits, ImageTold, image_told, runs_inside,
 use Rattle.spec.proofs.SortedLaws.{ok_sorted, absent_stays}
 use Rattle.spec.proofs.StoredHeaderLaws.{slice_stored}
 use Rattle.spec.proofs.StoredIndexLaws.{empty_below}
-use Rattle.spec.proofs.AcceptedLaws.{accepted}
+use Rattle.spec.proofs.ImageFormLaws.{accepted}
 use Rattle.spec.proofs.ChangeLaws.{Sound, image_sound, image_ascends, insert_entries, insert_sound, delete_entries, delete_sound, optimise_entries, optimise_sound}
 use Rattle.spec.proofs.PlanLaws.{written_inside, plan_back, written_length, written_past, written_header, written_count}
 use Rattle.spec.proofs.WrittenLaws.{zeroed_length, zeroed_image, zeroed_past, zeroed_given_up, zeroed_front}

@@ -16,7 +16,8 @@ use Rattle.spec.specs.Claim.{optimise_placing}
 use Rattle.spec.specs.PackedForm.{NeedsNoMore, PackedNeedsNoMore, PackedNeverFull}
 use Rattle.spec.proofs.CountLaws.{covered_few}
 use Rattle.spec.proofs.StoredIndexLaws.{index_enough}
-use Rattle.spec.proofs.AcceptedLaws.{all_inside, made_up_length, accepted}
+use Rattle.spec.proofs.AcceptedLaws.{all_inside, made_up_length}
+use Rattle.spec.proofs.ImageFormLaws.{accepted}
 
 -- bytes that are made up as an image: its index has the blocks that its elements need, and its runs lie in its data blocks, none twice
 pub made_up_enough : (s : List ℕ) (i : Image) → IsImage s i → NeedsNoMore (length s) i (optimise_placing i)

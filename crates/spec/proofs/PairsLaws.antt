@@ -1,4 +1,4 @@
--- Pairs are read, and the front that is written is the largest that ends inside none, as document 02 words it. F-4.
+-- Pairs are read as document 02 words it, and fronts that end inside none. F-4.
 use Prim.Native.Nat.{ℕ, zero, suc, ◌+◌, ◌-◌, ◌<◌, ◌≤◌}
 use mathlib.Core.Path.{◌≡◌, refl, sym, ap, ◌∙◌}
 use mathlib.Core.Logic.{inl, inr}
@@ -6,15 +6,14 @@ use mathlib.Core.Bool.{Bool, true, false, ◌&&◌, and-false, false≢true}
 use mathlib.Core.List.{List, [], ◌∷◌, ◌++◌}
 use native.Mathlib.Omega.{arith}
 use lib.ListN.{length, get_or, take, length-append}
-use lib.Seq.{take-suc, take-append-add, take-take}
+use lib.Seq.{take-suc, take-append-add}
 use lib.Dec.{leb, ltb}
 use borrow.Author.Tests.{leb-true, le-leb, ltb-true, lt-ltb}
 use Rattle.spec.specs.Order.{common_prefix}
 use Rattle.spec.specs.Pairs.{is_lead, second_next, second_behind, ends_inside, whole_front}
 use Rattle.spec.specs.Entry.{shared_front}
-use Rattle.spec.specs.FrontForm.{BeginsPair, Characters, EndsInside, PairsRead, FrontIsFront, OneFront}
+use Rattle.spec.specs.FrontForm.{BeginsPair, Characters, EndsInside, PairsRead}
 use Rattle.spec.proofs.ListsLaws.{and_left, and_right, or_cases, or_right}
-use Rattle.spec.proofs.OrderLaws.{prefix_common, prefix_longest}
 
 -- ---- bytes that begin a pair
 -- the paper's are lead bytes
@@ -130,16 +129,16 @@ told h n e =
     found h n (ltb-true n (length h) (and_left (ltb n (length h)) second e)) (and_right (ltb n (length h)) second e)
 
 -- where there is such a pair, the scan finds it
-seen : (h : List ℕ) (n : ℕ) → EndsInside h n → ends_inside h n ≡ true
+pub seen : (h : List ℕ) (n : ℕ) → EndsInside h n → ends_inside h n ≡ true
 unfolding ends_inside second_behind second_next
 seen h n f =
     let whole : List ℕ = f.before ++ f.lead ∷ f.second ∷ f.rest in
     let long : length whole ≡ length f.before + (2 + length f.rest) = length-append f.before (f.lead ∷ f.second ∷ f.rest) ∙ omega arith in
     let front : take n whole ≡ f.before ++ f.lead ∷ [] = ap (λ (k : ℕ). take k whole) f.cut ∙ take-append-add f.before (f.lead ∷ f.second ∷ f.rest) 1 in
-    let at_lead : second_behind false (take n whole) ≡ true
+    let at-lead : second_behind false (take n whole) ≡ true
     = ap (second_behind false) front ∙ second_append false f.before (f.lead ∷ []) ∙ ap (λ (t : Bool). second_next t f.lead) (characters_end f.before f.characters)
     ∙ begins_lead f.lead f.begins in
-    rw (f.made_up, at_lead, lt-ltb n (length whole) (omega (arith, f.cut, long)))
+    rw (f.made_up, at-lead, lt-ltb n (length whole) (omega (arith, f.cut, long)))
 
 -- THE LAW: the scan reads pairs as document 02 words them
 pub pairs_read : PairsRead
@@ -181,7 +180,7 @@ pub front_kept : (h : List ℕ) (n : ℕ) → ends_inside h n ≡ false → whol
 front_kept h n e = front_by h n false e
 
 -- it has at most n bytes
-front_most : (h : List ℕ) (n : ℕ) → whole_front h n ≤ n
+pub front_most : (h : List ℕ) (n : ℕ) → whole_front h n ≤ n
 front_most h n = go (ends_inside h n) refl
   where
     go : (t : Bool) → ends_inside h n ≡ t → whole_front h n ≤ n
@@ -189,7 +188,7 @@ front_most h n = go (ends_inside h n) refl
     go false e = rw (front_kept h n e) (omega arith)
 
 -- it ends inside no pair
-front_whole : (h : List ℕ) (n : ℕ) → ends_inside h (whole_front h n) ≡ false
+pub front_whole : (h : List ℕ) (n : ℕ) → ends_inside h (whole_front h n) ≡ false
 front_whole h n = go n (ends_inside h n) refl
   where
     go : (m : ℕ) (t : Bool) → ends_inside h m ≡ t → ends_inside h (whole_front h m) ≡ false
@@ -200,7 +199,7 @@ front_whole h n = go n (ends_inside h n) refl
         rw (front_cut h (suc m) e, less) (inside_shorter h m e)
 
 -- and no longer one up to n does
-front_largest : (h : List ℕ) (n m : ℕ) → m ≤ n → ends_inside h m ≡ false → m ≤ whole_front h n
+pub front_largest : (h : List ℕ) (n m : ℕ) → m ≤ n → ends_inside h m ≡ false → m ≤ whole_front h n
 front_largest h n m p q = go (ends_inside h n) refl
   where
     go : (t : Bool) → ends_inside h n ≡ t → m ≤ whole_front h n
@@ -209,39 +208,15 @@ front_largest h n m p q = go (ends_inside h n) refl
         let other : m ≡ n → ⊥ = λ w. false≢true (sym q ∙ ap (ends_inside h) w ∙ e) in
         rw (front_cut h n e) (omega arith)
 
--- ---- the front that is written
 -- a front that ends inside no pair of the paper ends inside none by the scan
-not_inside : (h : List ℕ) (n : ℕ) → (EndsInside h n → ⊥) → ends_inside h n ≡ false
+pub not_inside : (h : List ℕ) (n : ℕ) → (EndsInside h n → ⊥) → ends_inside h n ≡ false
 not_inside h n p = go (ends_inside h n) refl
   where
     go : (t : Bool) → ends_inside h n ≡ t → ends_inside h n ≡ false
     go false e = e
     go true e = absurd (p (told h n e))
 
--- THE LAW: it is the largest, up to the common one, that ends inside no pair of the later headword
-pub front_is_front : FrontIsFront
-unfolding FrontIsFront shared_front
-front_is_front prev h =
-    let n : ℕ = common_prefix prev h in
-    let f : ℕ = whole_front h n in
-    let short : f ≤ n = front_most h n in
-    let (in_prev, in_h, same) = prefix_common prev h in
-    record {
-      common = record {
-        in_earlier = omega arith;
-        in_later = omega arith;
-        same = sym (take-take f n prev short) ∙ ap (take f) same ∙ take-take f n h short;
-      };
-      whole = λ p. false≢true (sym (front_whole h n) ∙ seen h f p);
-      largest = λ m c p. front_largest h n m (prefix_longest m prev h c.same c.in_earlier c.in_later) (not_inside h m p);
-    }
-
--- there is one such front
-pub one_front : OneFront
-unfolding OneFront
-one_front prev h n m p q = omega (arith, q.largest n p.common p.whole, p.largest m q.common q.whole)
-
--- of a run's first entry it is 0
+-- of a run's first entry the front that is written is 0
 pub front_none : (h : List ℕ) → shared_front [] h ≡ 0
-unfolding FrontIsFront
-front_none h = omega (arith, (front_is_front [] h).common.in_earlier)
+unfolding shared_front common_prefix
+front_none h = omega (arith, front_most)

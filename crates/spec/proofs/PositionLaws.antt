@@ -11,7 +11,8 @@ use Rattle.spec.specs.Run.{Run}
 use Rattle.spec.specs.Check.{Image, position_in, data_start, data_area}
 use Rattle.spec.specs.ImageForm.{StoredRuns, StoredFreeList, IsImage, Accepted}
 use Rattle.spec.specs.PositionForm.{NumberedFrom0, SameInTheArea, LengthIsPosition, RunsAtPositions, LinksAt, LinksAtPositions}
-use Rattle.spec.proofs.AcceptedLaws.{made_up_length, made_up_area, accepted}
+use Rattle.spec.proofs.AcceptedLaws.{made_up_length, made_up_area}
+use Rattle.spec.proofs.ImageFormLaws.{accepted}
 
 -- THE LAW: block b stands b blocks behind the first
 pub numbered_from_0 : NumberedFrom0
