@@ -40,7 +40,7 @@ tell() {
 mkdir -p target/staticlib target/bin
 { prove && echo 'engine.sh: done'; } | tee "$log" | tell
 if ! tail -n 1 "$log" | grep -qx 'engine.sh: done'; then
-    grep -vE ': proved$|^checked |^(library|statements|axioms|crate) |^logic |^rt: chose ' "$log" | tail -n 20 | cut -c 1-240
+    grep -vE ': proved$|^checked |^(library|statements|axioms|crate) |^logic |^rt: (chose|[a-z_0-9]+: begins) ' "$log" | tail -n 20 | cut -c 1-240
     echo "$goal is not proved; all that rt said stands in $log"
     exit 1
 fi
