@@ -223,8 +223,8 @@ fn optimise_tested(image: &mut [u8], len: usize, work: &mut [u8]) -> LengthAnswe
 pub fn optimise(image: &mut [u8], len: usize, work: &mut [u8]) -> LengthAnswer
     ensures work_after { record { answer = length_answer result; image = image.new; work = work.new }
         ≡ optimise image.old len work.old }
-    ensures no { No (length_answer result ≡ refused 15) }
-    ensures by_index { (n : ℕ) → length_answer result ≡ refused n → n ∈ change_numbers }
+    ensures never_fifteen { No (length_answer result ≡ refused 15) }
+    ensures known_number { (n : ℕ) → length_answer result ≡ refused n → n ∈ change_numbers }
 {
     if !header::slice_ok(image, len) {
         return LengthAnswer::Refused(1);

@@ -21,7 +21,7 @@ pub fn read_free_list(
     requires d_bound { (d ≤ 64 * length used.old) × (d ≤ 64 * length free.old) }
     ensures value { result ≡ has_length count (free_list_from d d first area.now) }
     ensures marked { result ≡ true → Marked (free_list_from d d first area.now) (marks used.old) (marks used.new) }
-    ensures marked_2 { result ≡ true → Marked (free_list_from d d first area.now) (marks free.old) (marks free.new) }
+    ensures marks_free { result ≡ true → Marked (free_list_from d d first area.now) (marks free.old) (marks free.new) }
 {
     let mut b = first;
     let mut left = count;

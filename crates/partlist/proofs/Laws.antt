@@ -87,9 +87,9 @@ module _ (s : List ℕ) (at : ℕ) where
   -- the last byte is, if it is 0x80
   pub ends_last : length s ≡ at + 1 → eqb (get_or s at 0) 0x80 ≡ list_ends (drop at s)
   ends_last e =
-      let past-last : length s ≤ suc at = omega arith in
-      let none-behind : drop (suc at) s ≡ [] = drop_of_length-le s past-last in
-      sym (ap list_ends (drop-cons s at 0 (omega arith) ∙ ap (λ (l : List ℕ). get_or s at 0 ∷ l) none-behind) ∙ ends_one (get_or s at 0))
+      let past_last : length s ≤ suc at = omega arith in
+      let none_behind : drop (suc at) s ≡ [] = drop_of_length-le s past_last in
+      sym (ap list_ends (drop-cons s at 0 (omega arith) ∙ ap (λ (l : List ℕ). get_or s at 0 ∷ l) none_behind) ∙ ends_one (get_or s at 0))
 
 -- ---- a part
 -- a part that is broken has no end

@@ -186,10 +186,10 @@ pub fn encode_part(
         ≡ length (entries_bytes [] (part_of form.limit 0 [] (todo form.order run.now word.old h.now body.now start))) }
     ensures cursor_after { todo form.order run.now word.new h.now body.now result.cursor
         ≡ past_part form.limit 0 [] (todo form.order run.now word.old h.now body.now start) }
-    ensures cursor_ok_2 { CursorOk run.now word.new result.cursor }
+    ensures next_cursor_ok { CursorOk run.now word.new result.cursor }
     ensures used_le_longest_entry { (result.used ≤ longest_entry) × (length part.new ≡ length part.old) × (length word.new ≡ length word.old) }
     ensures met { Met h.now (ahead form.order run.now word.old start) result.found (ahead form.order run.now word.new result.cursor) }
-    ensures cursor_after_2 { result.used ≡ 0 → ahead form.order run.now word.new result.cursor ≡ [] }
+    ensures none_ahead { result.used ≡ 0 → ahead form.order run.now word.new result.cursor ≡ [] }
 {
     let order = form.order;
     let limit = form.limit;

@@ -206,8 +206,8 @@ pub extern "C" fn pdic_optimise(
       new_length = new_len.new;
     }
         ≡ change_lent (optimise image.old len work.old) new_len.old }
-    ensures no { No (result ≡ 15) }
-    ensures fact { result ∈ 0 ∷ change_numbers }
+    ensures never_fifteen { No (result ≡ 15) }
+    ensures known_number { result ∈ 0 ∷ change_numbers }
 {
     let r = editor::optimise(image, len, work);
     match r {

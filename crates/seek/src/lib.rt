@@ -48,7 +48,7 @@ fn takes(order: usize, above: bool, h: &[u8], headword: &[u8]) -> bool
 // The first entry of a run that a walk from `h` may answer.
 fn find_in_run(order: usize, run: &[u8], above: bool, h: &[u8], word: &mut [u8]) -> Step
     requires { (2 ≤ length run.now) × (248 ≤ length word.old) }
-    ensures by_index { (fuel : ℕ) (es : List Entry) → entries_from (below_of order) fuel [] (drop 2 run.now) ≡ ok es
+    ensures as_read { (fuel : ℕ) (es : List Entry) → entries_from (below_of order) fuel [] (drop 2 run.now) ≡ ok es
         → step_found run.now word.new result ≡ successor (below_of order) above h.now es }
     ensures inside { step.Inside 2 run.now result }
     ensures word_len_unchanged { length word.new ≡ length word.old }
@@ -91,7 +91,7 @@ fn find_at(
 ) -> Spot
     requires width { Width form.width × (at + form.width ≤ length index.now) }
     requires area_len_bound { (length area.now ≤ 4294967040) × (248 ≤ length word.old) }
-    ensures by_index { (D : ℕ) → 256 * D ≡ length area.now → (next : Option (List ℕ)) (q : Run)
+    ensures as_read { (D : ℕ) → 256 * D ≡ length area.now → (next : Option (List ℕ)) (q : Run)
         → run_from (below_of form.order) D area.now (element_at form.width index.now at) next ≡ ok q
         → spot_entry area.now word.new result ≡ successor (below_of form.order) above h.now q.entries }
     ensures spot_inside { SpotInside area.now result }
@@ -133,7 +133,7 @@ fn find_next(
 ) -> Spot
     requires width { Width form.width × (1 ≤ from.left) × Inside form.width index.now from.at from.left }
     requires area_len_bound { (length area.now ≤ 4294967040) × (248 ≤ length word.old) }
-    ensures by_index { (D : ℕ) → 256 * D ≡ length area.now → (rs : List Run)
+    ensures as_read { (D : ℕ) → 256 * D ≡ length area.now → (rs : List Run)
         → runs_from (below_of form.order) D area.now
         (elements_at form.width index.now (element_end form.width index.now from.at + 1) (from.left - 1)) ≡ ok rs
         → spot_entry area.now word.new result ≡ successor (below_of form.order) above h.now (first_entries rs) }
@@ -159,7 +159,7 @@ pub fn seek(
 ) -> Spot
     requires width { Width form.width × Inside form.width index.now 0 elements }
     requires area_len_bound { (length area.now ≤ 4294967040) × (248 ≤ length word.old) }
-    ensures by_index { (D : ℕ) → 256 * D ≡ length area.now → (rs : List Run)
+    ensures as_read { (D : ℕ) → 256 * D ≡ length area.now → (rs : List Run)
         → runs_from (below_of form.order) D area.now (elements_at form.width index.now 0 elements) ≡ ok rs
         → spot_entry area.now word.new result ≡ successor (below_of form.order) above h.now (all_entries rs) }
     ensures spot_inside { SpotInside area.now result }

@@ -19,7 +19,7 @@ front_is_front prev h =
     let n : ℕ = common_prefix prev h in
     let f : ℕ = whole_front h n in
     let short : f ≤ n = front_most h n in
-    let (in-prev, in-h, same) = prefix_common prev h in
+    let (in_prev, in_h, same) = prefix_common prev h in
     record {
       common = record {
         in_earlier = omega arith;

@@ -135,10 +135,10 @@ seen h n f =
     let whole : List ℕ = f.before ++ f.lead ∷ f.second ∷ f.rest in
     let long : length whole ≡ length f.before + (2 + length f.rest) = length-append f.before (f.lead ∷ f.second ∷ f.rest) ∙ omega arith in
     let front : take n whole ≡ f.before ++ f.lead ∷ [] = ap (λ (k : ℕ). take k whole) f.cut ∙ take-append-add f.before (f.lead ∷ f.second ∷ f.rest) 1 in
-    let at-lead : second_behind false (take n whole) ≡ true
+    let at_lead : second_behind false (take n whole) ≡ true
     = ap (second_behind false) front ∙ second_append false f.before (f.lead ∷ []) ∙ ap (λ (t : Bool). second_next t f.lead) (characters_end f.before f.characters)
     ∙ begins_lead f.lead f.begins in
-    rw (f.made_up, at-lead, lt-ltb n (length whole) (omega (arith, f.cut, long)))
+    rw (f.made_up, at_lead, lt-ltb n (length whole) (omega (arith, f.cut, long)))
 
 -- THE LAW: the scan reads pairs as document 02 words them
 pub pairs_read : PairsRead

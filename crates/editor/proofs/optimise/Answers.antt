@@ -9,13 +9,13 @@ pub returns-then-not-slice_ok : goal.returns-then-not-slice_ok
 returns-then-not-slice_ok c =
     let whole =
     optimise_promised c.args.image.now c.args.len c.args.work.now (λ k. omega (arith, c.slice_known-1.given k)) _ _ _ (search optimise_slice) in
-    record { work_after = whole.0; no = whole.1.0; by_index = whole.1.1 }
+    record { work_after = whole.0; never_fifteen = whole.1.0; known_number = whole.1.1 }
 
 pub returns-then-work-image : goal.returns-then-work-image
 returns-then-work-image c =
     let whole =
     optimise_promised c.args.image.now c.args.len c.args.work.now (λ k. omega (arith, c.slice_known-1.given k)) _ _ _ (search optimise_short) in
-    record { work_after = whole.0; no = whole.1.0; by_index = whole.1.1 }
+    record { work_after = whole.0; never_fifteen = whole.1.0; known_number = whole.1.1 }
 
 pub optimise_tested-r-requires : goal.optimise_tested-r-requires
 optimise_tested-r-requires c = now_tested c.args.image.now c.args.len c.args.work.now _ c.slice_ok.ensures (search) c.if-work-image.false
@@ -28,4 +28,4 @@ returns c =
     optimise_promised c.args.image.now c.args.len c.args.work.now small _ _ _ (optimise_whole c.args.image.now c.args.len c.args.work.now _
     c.slice_ok.ensures (search) c.if-work-image.false small call.new.work _ call.ensures.work_len_unchanged c.clear.ensures.dst_after _ _
     call.ensures.result_value call.ensures.image_after) in
-    record { work_after = whole.0; no = whole.1.0; by_index = whole.1.1 }
+    record { work_after = whole.0; never_fifteen = whole.1.0; known_number = whole.1.1 }

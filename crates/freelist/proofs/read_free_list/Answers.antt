@@ -13,8 +13,8 @@ returns-then-d-b-clause-value c = search list_off
 pub returns-then-d-b-clause-marked : goal.returns-then-d-b-clause-marked
 returns-then-d-b-clause-marked c = λ e. absurd (false≢true e)
 
-pub returns-then-d-b-clause-marked_2 : goal.returns-then-d-b-clause-marked_2
-returns-then-d-b-clause-marked_2 c = λ e. absurd (false≢true e)
+pub returns-then-d-b-clause-marks_free : goal.returns-then-d-b-clause-marks_free
+returns-then-d-b-clause-marks_free c = λ e. absurd (false≢true e)
 
 pub returns-then-read_u16-ne0-clause-value : goal.returns-then-read_u16-ne0-clause-value
 returns-then-read_u16-ne0-clause-value c = search list_full
@@ -22,8 +22,8 @@ returns-then-read_u16-ne0-clause-value c = search list_full
 pub returns-then-read_u16-ne0-clause-marked : goal.returns-then-read_u16-ne0-clause-marked
 returns-then-read_u16-ne0-clause-marked c = λ e. absurd (false≢true e)
 
-pub returns-then-read_u16-ne0-clause-marked_2 : goal.returns-then-read_u16-ne0-clause-marked_2
-returns-then-read_u16-ne0-clause-marked_2 c = λ e. absurd (false≢true e)
+pub returns-then-read_u16-ne0-clause-marks_free : goal.returns-then-read_u16-ne0-clause-marks_free
+returns-then-read_u16-ne0-clause-marks_free c = λ e. absurd (false≢true e)
 
 pub loop-left-preserved : goal.loop-left-preserved
 loop-left-preserved c = search (list_next, rules)
@@ -34,5 +34,5 @@ returns-clause-value c = search list_end
 pub returns-clause-marked : goal.returns-clause-marked
 returns-clause-marked c = search list_used
 
-pub returns-clause-marked_2 : goal.returns-clause-marked_2
-returns-clause-marked_2 c = search list_free
+pub returns-clause-marks_free : goal.returns-clause-marks_free
+returns-clause-marks_free c = search list_free

@@ -36,4 +36,4 @@ returns c =
     settle_sound _ _ _ _ c.requires.runs_read (search) _ c.empty_block2-first.ensures.value _ c.position-start.ensures _ read.value (search)
     _ read.marked _ (length_marks _) c.requires.d_value.2 _
     c.next_unmarked.ensures.0 c.if-next_unmarked-d.false _ c.nword.ensures.value (search) _ c.nblock2.ensures.value
-    (search) _ _ _ c.requires.free_value c.requires.d_value.3 read.marked_2
+    (search) _ _ _ c.requires.free_value c.requires.d_value.3 read.marks_free

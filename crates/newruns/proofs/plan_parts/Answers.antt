@@ -57,7 +57,7 @@ pub loop-form-preserved : goal.loop-form-preserved
 loop-form-preserved c = (
   omega arith,
   omega arith,
-  c.encode_part-p.ensures.cursor_ok_2,
+  c.encode_part-p.ensures.next_cursor_ok,
   omega arith,
   omega arith,
   omega arith,

@@ -228,7 +228,7 @@ loop-form-preserved c =
     (omega arith) in (
       c.encode_part-p.ensures.used_le_longest_entry.2 ∙ c.loop-form.invariant.0,
       c.encode_part-p.ensures.used_le_longest_entry.1 ∙ c.loop-form.invariant.1,
-      c.encode_part-p.ensures.cursor_ok_2,
+      c.encode_part-p.ensures.next_cursor_ok,
       c.put_element-out.ensures.dst_len_unchanged ∙ run-kept ∙ c.loop-form.invariant.3,
       c.place-b.ensures.free_len_unchanged ∙ c.loop-form.invariant.4,
       omega (arith, c.larger-last.ensures, c.loop-form.invariant.5),

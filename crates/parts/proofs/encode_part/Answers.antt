@@ -19,10 +19,10 @@ returns-in-Done c =
       part_after = f.whole;
       used_value = f.size;
       cursor_after = f.behind;
-      cursor_ok_2 = l.5;
+      next_cursor_ok = l.5;
       used_le_longest_entry = (l.1, l.4, l.3);
       met = l.7;
-      cursor_after_2 = λ z. met_done _ _ _ _ _ _ c.next_turn-t.ensures c.in-Done.is;
+      none_ahead = λ z. met_done _ _ _ _ _ _ c.next_turn-t.ensures c.in-Done.is;
     }
 
 pub advance-cur-requires-clause-at_in_bounds : goal.advance-cur-requires-clause-at_in_bounds
@@ -98,10 +98,10 @@ returns-in-Full c =
       part_after = f.whole;
       used_value = f.size;
       cursor_after = f.behind;
-      cursor_ok_2 = l.5;
+      next_cursor_ok = l.5;
       used_le_longest_entry = (l.1, a.part_len_unchanged.0 ∙ l.4, l.3);
       met = l.7;
-      cursor_after_2 = λ z. absurd (full_some _ _ _ _ _ _ _ _ a.appended c.in-Full.is z);
+      none_ahead = λ z. absurd (full_some _ _ _ _ _ _ _ _ a.appended c.in-Full.is z);
     }
 
 pub advance-cur-requires-in-Used-clause-at_in_bounds : goal.advance-cur-requires-in-Used-clause-at_in_bounds
@@ -153,10 +153,10 @@ returns-in-Full-fit c =
       part_after = f.whole;
       used_value = f.size;
       cursor_after = f.behind;
-      cursor_ok_2 = l.5;
+      next_cursor_ok = l.5;
       used_le_longest_entry = (l.1, a.part_len_unchanged.0 ∙ l.4, l.3);
       met = l.7;
-      cursor_after_2 = λ z. absurd (full_some _ _ _ _ _ _ _ _ a.appended c.in-Full-fit.is z);
+      none_ahead = λ z. absurd (full_some _ _ _ _ _ _ _ _ a.appended c.in-Full-fit.is z);
     }
 
 pub loop-found-smaller : goal.loop-found-smaller

@@ -40,7 +40,7 @@ returns-then-p-eq0 c =
     record {
       measured = counted _ _ _ _ _ _ _ _ k.3 p.used_value c.if-p-eq0.true;
       parts_bound = (omega (arith, k.3.parts_all, k.4), omega (arith, k.3.bytes_all, k.5), omega (arith, k.3.blocks_all, k.6));
-      found_value = met_all _ _ _ _ (met_part _ _ _ _ _ _ k.7 p.met) (p.cursor_after_2 c.if-p-eq0.true);
+      found_value = met_all _ _ _ _ (met_part _ _ _ _ _ _ k.7 p.met) (p.none_ahead c.if-p-eq0.true);
     }
 
 pub overflow_add-long : goal.overflow_add-long
@@ -97,7 +97,7 @@ pub loop-form-preserved : goal.loop-form-preserved
 loop-form-preserved c = (
   c.encode_part-p.ensures.used_le_longest_entry.2 ∙ c.loop-form.invariant.0,
   c.encode_part-p.ensures.used_le_longest_entry.1 ∙ c.loop-form.invariant.1,
-  c.encode_part-p.ensures.cursor_ok_2,
+  c.encode_part-p.ensures.next_cursor_ok,
   record {
     parts_all = parts_more _ _ _ _ _ _ _ _ c.loop-form.invariant.3 c.encode_part-p.ensures.used_value
         c.if-p-eq0.false _ c.encode_part-p.ensures.cursor_after;

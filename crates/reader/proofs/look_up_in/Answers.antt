@@ -25,14 +25,14 @@ give_text-requires c = (search spot_body, search spot_area)
 pub returns-in-Absent : goal.returns-in-Absent
 returns-in-Absent c =
     look_up_absent _ _ _ _ c.requires.accepted_image c.requires.in_bounds.1 _ c.headword_ok.ensures (search) _ c.position-start.ensures _
-    c.nindex2-elements.ensures.value _ _ c.seek-found.ensures.by_index (search)
+    c.nindex2-elements.ensures.value _ _ c.seek-found.ensures.as_read (search)
 
 pub returns-then-is_equal : goal.returns-then-is_equal
 returns-then-is_equal c i o =
     look_up_same _ _ _ _ c.requires.accepted_image c.requires.in_bounds.1 _ c.headword_ok.ensures (search) _ c.position-start.ensures _
-    c.nindex2-elements.ensures.value _ _ c.seek-found.ensures.by_index i o _ _ _ c.in-At.is _ c.is_equal.ensures (search) _ _ c.give_text.ensures
+    c.nindex2-elements.ensures.value _ _ c.seek-found.ensures.as_read i o _ _ _ c.in-At.is _ c.is_equal.ensures (search) _ _ c.give_text.ensures
 
 pub returns-else-is_equal : goal.returns-else-is_equal
 returns-else-is_equal c i o =
     look_up_other _ _ _ _ c.requires.accepted_image c.requires.in_bounds.1 _ c.headword_ok.ensures (search) _ c.position-start.ensures _
-    c.nindex2-elements.ensures.value _ _ c.seek-found.ensures.by_index i o _ _ _ c.in-At.is _ c.is_equal.ensures (search)
+    c.nindex2-elements.ensures.value _ _ c.seek-found.ensures.as_read i o _ _ _ c.in-At.is _ c.is_equal.ensures (search)

@@ -25,9 +25,9 @@ give_entry-requires c = (search spot_body, search spot_area)
 pub returns-in-Absent : goal.returns-in-Absent
 returns-in-Absent c =
     walk_absent _ _ _ _ _ c.requires.accepted_image c.requires.in_bounds.1 _ _ c.start_ok.ensures (search) _ c.position-start.ensures _
-    c.nindex2-elements.ensures.value _ _ c.seek-found.ensures.by_index (search)
+    c.nindex2-elements.ensures.value _ _ c.seek-found.ensures.as_read (search)
 
 pub returns-in-At : goal.returns-in-At
 returns-in-At c =
     walk_found _ _ _ _ _ c.requires.accepted_image c.requires.in_bounds.1 _ _ c.start_ok.ensures (search) _ c.position-start.ensures _
-    c.nindex2-elements.ensures.value _ _ c.seek-found.ensures.by_index _ _ _ c.in-At.is _ _ _ c.give_entry.ensures
+    c.nindex2-elements.ensures.value _ _ c.seek-found.ensures.as_read _ _ _ c.in-At.is _ _ _ c.give_entry.ensures

@@ -15,8 +15,8 @@ use Rattle.seek.proofs.Returns.{
 use borrow.Author.Rules.{rules}
 use Rattle.seek.proofs.find_at.Goals as goal
 
-pub returns-in_default-clause-by_index : goal.returns-in_default-clause-by_index
-returns-in_default-clause-by_index c = search at_unplaced
+pub returns-in_default-clause-as_read : goal.returns-in_default-clause-as_read
+returns-in_default-clause-as_read c = search at_unplaced
 
 pub returns-in_default-clause-spot_inside : goal.returns-in_default-clause-spot_inside
 returns-in_default-clause-spot_inside c = search absent_inside
@@ -39,20 +39,20 @@ overflow_add-body c = search at_zero_fits
 pub overflow_add-behind : goal.overflow_add-behind
 overflow_add-behind c = search at_next_fits
 
-pub returns-in-Broken-clause-by_index : goal.returns-in-Broken-clause-by_index
-returns-in-Broken-clause-by_index c = search at_broken
+pub returns-in-Broken-clause-as_read : goal.returns-in-Broken-clause-as_read
+returns-in-Broken-clause-as_read c = search at_broken
 
 pub returns-in-Broken-clause-spot_inside : goal.returns-in-Broken-clause-spot_inside
 returns-in-Broken-clause-spot_inside c = search absent_inside
 
-pub returns-in-End-clause-by_index : goal.returns-in-End-clause-by_index
-returns-in-End-clause-by_index c = search at_end
+pub returns-in-End-clause-as_read : goal.returns-in-End-clause-as_read
+returns-in-End-clause-as_read c = search at_end
 
 pub returns-in-End-clause-spot_inside : goal.returns-in-End-clause-spot_inside
 returns-in-End-clause-spot_inside c = search absent_inside
 
-pub returns-in-Entry-clause-by_index : goal.returns-in-Entry-clause-by_index
-returns-in-Entry-clause-by_index c = search at_entry
+pub returns-in-Entry-clause-as_read : goal.returns-in-Entry-clause-as_read
+returns-in-Entry-clause-as_read c = search at_entry
 
 pub returns-in-Entry-clause-spot_inside : goal.returns-in-Entry-clause-spot_inside
 returns-in-Entry-clause-spot_inside c = search at_inside

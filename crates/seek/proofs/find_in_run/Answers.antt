@@ -10,14 +10,14 @@ loop-length-init c = search (passing_start, rules)
 pub read_entry-st-requires-clause-in_bounds : goal.read_entry-st-requires-clause-in_bounds
 read_entry-st-requires-clause-in_bounds c = (search rules, search rules, search rules)
 
-pub returns-in-Broken-clause-by_index : goal.returns-in-Broken-clause-by_index
-returns-in-Broken-clause-by_index c = search find_broken
+pub returns-in-Broken-clause-as_read : goal.returns-in-Broken-clause-as_read
+returns-in-Broken-clause-as_read c = search find_broken
 
 pub returns-in-Broken-clause-inside : goal.returns-in-Broken-clause-inside
 returns-in-Broken-clause-inside c = search none_inside_end
 
-pub returns-in-End-clause-by_index : goal.returns-in-End-clause-by_index
-returns-in-End-clause-by_index c = search find_end
+pub returns-in-End-clause-as_read : goal.returns-in-End-clause-as_read
+returns-in-End-clause-as_read c = search find_end
 
 pub returns-in-End-clause-inside : goal.returns-in-End-clause-inside
 returns-in-End-clause-inside c = search none_inside_end
@@ -28,8 +28,8 @@ slice_bounds-takes-end c = search entry_room
 pub slice_bounds-takes-end-in-Entry : goal.slice_bounds-takes-end-in-Entry
 slice_bounds-takes-end-in-Entry c = search entry_front
 
-pub returns-then-takes-clause-by_index : goal.returns-then-takes-clause-by_index
-returns-then-takes-clause-by_index c = search find_entry
+pub returns-then-takes-clause-as_read : goal.returns-then-takes-clause-as_read
+returns-then-takes-clause-as_read c = search find_entry
 
 pub returns-then-takes-clause-inside : goal.returns-then-takes-clause-inside
 returns-then-takes-clause-inside c = search (inside_from, rules)

@@ -4,8 +4,8 @@ use Rattle.index.proofs.Laws.{inside_start}
 use borrow.Author.Rules.{rules}
 use Rattle.seek.proofs.seek.Goals as goal
 
-pub returns-then-elements-eq0-clause-by_index : goal.returns-then-elements-eq0-clause-by_index
-returns-then-elements-eq0-clause-by_index c = search seek_none
+pub returns-then-elements-eq0-clause-as_read : goal.returns-then-elements-eq0-clause-as_read
+returns-then-elements-eq0-clause-as_read c = search seek_none
 
 pub returns-then-elements-eq0-clause-spot_inside : goal.returns-then-elements-eq0-clause-spot_inside
 returns-then-elements-eq0-clause-spot_inside c = search absent_inside
@@ -13,12 +13,12 @@ returns-then-elements-eq0-clause-spot_inside c = search absent_inside
 pub find_at-found-requires-clause-width : goal.find_at-found-requires-clause-width
 find_at-found-requires-clause-width c = (search rules, search inside_start)
 
-pub returns-in-At-clause-by_index : goal.returns-in-At-clause-by_index
-returns-in-At-clause-by_index c = search seek_here
+pub returns-in-At-clause-as_read : goal.returns-in-At-clause-as_read
+returns-in-At-clause-as_read c = search seek_here
 
 pub returns-in-At-clause-spot_inside : goal.returns-in-At-clause-spot_inside
 returns-in-At-clause-spot_inside c = search spot_inside
 
-pub returns-in-Absent-clause-by_index : goal.returns-in-Absent-clause-by_index
-returns-in-Absent-clause-by_index c =
-    seek_next _ _ _ _ _ _ _ (search) _ (search) (search) _ _ c.find_next.ensures.by_index _ _ c.find_at-found.ensures.by_index (search)
+pub returns-in-Absent-clause-as_read : goal.returns-in-Absent-clause-as_read
+returns-in-Absent-clause-as_read c =
+    seek_next _ _ _ _ _ _ _ (search) _ (search) (search) _ _ c.find_next.ensures.as_read _ _ c.find_at-found.ensures.as_read (search)
