@@ -13,7 +13,7 @@ pub slice_bounds-entry_size-end-2 : goal.slice_bounds-entry_size-end-2
 slice_bounds-entry_size-end-2 c = first_bytes _ _ (omega arith)
 
 pub returns-then-limit-whole-clause-appended : goal.returns-then-limit-whole-clause-appended
-returns-then-limit-whole-clause-appended c = search append_full
+returns-then-limit-whole-clause-appended c = append_full _ _ c.entry_size-size.result _ _ _ _ c.args.part.now _ c.entry_size-size.ensures.value (omega arith) (omega arith)
 
 pub slice_bounds-put_entry-end-2 : goal.slice_bounds-put_entry-end-2
 slice_bounds-put_entry-end-2 c = first_bytes _ _ (omega arith)
@@ -23,11 +23,9 @@ put_entry-requires-clause-headword_len_bound c = (omega arith, omega arith)
 
 pub put_entry-requires-clause-body_in_bounds : goal.put_entry-requires-clause-body_in_bounds
 put_entry-requires-clause-body_in_bounds c =
-    let room : (c.args.used ≡ 0) ⊎ (c.args.used + c.entry_size-size.result + 4 ≤ c.args.limit) =
+    let room : (c.args.used ≡ 0) ⊎ (c.args.used + c.entry_size-size.result ≤ c.args.limit) =
     elim c.if-used-gt0.branch [ then-used-gt0+else-limit-whole w ↦ inr (omega arith) | else-used-gt0 w ↦ inl (omega arith) ] in
-    let short : c.args.used + c.entry_size-size.result ≤ longest_entry =
-    ⊎_elim (λ w. omega arith) (λ w. omega arith) room in
-    omega (arith, short)
+    ⊎_elim (λ w. omega arith) (λ w. omega arith) room
 
 pub returns : goal.returns
 returns c =

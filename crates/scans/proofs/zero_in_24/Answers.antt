@@ -8,19 +8,13 @@ use Rattle.scans.proofs.Scans.{by_first, by_second, by_third}
 use Rattle.scans.proofs.zero_in_24.Goals as goal
 use Rattle.scans.proofs.zero_in_24.Goals.{then-a-ne0, else-a-ne0, then-b-ne0, else-b-ne0}
 
-pub overflow_add-result : goal.overflow_add-result
-overflow_add-result c =
-    elim c.if-a-ne0.branch [
-      | then-a-ne0 w ↦ omega (arith, w.n-is)
-      | else-a-ne0 w ↦ elim c.if-b-ne0.branch [ then-b-ne0 v ↦ omega (arith, w.n-is, v.n-is) | else-b-ne0 v ↦ omega (arith, w.n-is, v.n-is) ]
-    ]
-
 -- in which of the three words the first zero byte is
-both : (c : goal.After-row_known-1) → (c.if-a-ne0.n + c.low_zeros.result ≡ zero_offset (bytes_at c.args.at 24 c.args.s.now)) × (c.if-a-ne0.n + c.low_zeros.result ≤ 24)
-both c =
+pub returns : goal.returns
+returns c =
     let first = zero_eight c.args.s.now c.args.at _ _ (λ k. omega (arith, c.type_inv.s k)) (omega arith) c.read_u64.ensures c.zero_marks-a.ensures in
     let second = zero_eight c.args.s.now (c.args.at + 8) _ _ (λ k. omega (arith, c.type_inv.s k)) (omega arith) c.read_u64-2.ensures c.zero_marks-b.ensures in
     let third = zero_eight c.args.s.now (c.args.at + 16) _ _ (λ k. omega (arith, c.type_inv.s k)) (omega arith) c.read_u64-3.ensures c.zero_marks-m.ensures in
+    let whole : (c.if-a-ne0.n + c.low_zeros.result ≡ zero_offset (bytes_at c.args.at 24 c.args.s.now)) × (c.if-a-ne0.n + c.low_zeros.result ≤ 24) =
     elim c.if-a-ne0.branch [
       | then-a-ne0 w ↦
           by_first c.args.s.now c.args.at c.zero_marks-a.result c.zero_marks-b.result c.zero_marks-m.result _ _ _ c.requires
@@ -34,9 +28,5 @@ both c =
                 by_third c.args.s.now c.args.at c.zero_marks-a.result c.zero_marks-b.result c.zero_marks-m.result _ _ _ c.requires
                 first c.low_zeros.ensures.value w.if-a-ne0.false second v.if-b-ne0.false third (w.m-is ∙ v.m-is) (w.n-is ∙ v.n-is) (omega arith)
           ]
-    ]
-
-pub returns : goal.returns
-returns c =
-    let whole = both c in
+    ] in
     record { value = whole.0; upper_bound = whole.1 }
