@@ -12,7 +12,7 @@ git mv crates/target crates/targetx
 name() { find crates crates.txt -name '*.rt' -o -name '*.antt' -o -name crates.txt | xargs perl -CSD -Mutf8 -pi -e "$1"; }
 name 's/Rattle·target(?=[·.])/Rattle·targetx/g; s/\btarget::/targetx::/g; s/^target:/targetx:/; s/(?<=[ :])target(?= |$)/targetx/g if $ARGV eq "crates.txt"'
 git commit -qam 'the crate target under another name'
-python3 /opt/rattle/port/port.py
+python3 "$(dirname "$(rt doc)")/port/port.py"
 name 's/Rattle\.targetx(?=\.)/Rattle.target/g; s/Rattle·targetx(?=[·.])/Rattle·target/g; s/\btargetx::/target::/g'
 rm -rf "$top/crates/target"
 cp -r crates/targetx "$top/crates/target"
