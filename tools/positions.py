@@ -13,7 +13,6 @@ POSITION = {
 }
 
 NEITHER = {
-    ('crates/byteops/src/lib.rt', 'low + 256 * high'): 'a number of two bytes',
     ('crates/spec/specs/Bytes.antt', 'b + 256 * from_little_endian bs'): 'a number of any bytes',
     ('crates/seek/src/lib.rt', 'start + 256 * size'): 'inside the data area: start is 256 * b',
     ('crates/spec/specs/PositionForm.antt', 'data_start f + 256 * b'): 'the law of position',

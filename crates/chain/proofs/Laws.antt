@@ -210,8 +210,5 @@ module _ (extended index : ℕ) where
   chain_end ws image r g d b inv few h =
       sym (take-append-drop start image) ∙ rw (numbers_none (take d (marks ws)) (b - g) b (omega (arith, marks_few ws d few))) at inv
 
--- every need of link
-pub ruleset link_laws = (link_below, link_end, rules)
-
 -- every need of write_free_list, but its turn
 pub ruleset chain_laws = (gap_next, chain_start, chain_first, chain_end, rules)

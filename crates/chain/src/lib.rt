@@ -14,10 +14,8 @@ fn link(b: usize, g: usize, d: usize) -> usize
     requires { g ≤ b }
     ensures { result ≡ link_to b g d }
 {
-    if b < d {
-        return b - g;
-    }
-    LIST_END
+    // Kept: the number of the end is the format's own (docs/FORMAT.md, a free block).
+    if b < d { b - g } else { LIST_END }
 }
 
 // Writes the list of the marked blocks among g to d - 1, block g being number 0: each link at its block's position in the image, behind
@@ -38,6 +36,7 @@ pub fn write_free_list(
 {
     let first = marks::next_marked(free, g, d);
     let mut b = first;
+    // Kept: a walk from marked block to marked block, which counts nothing.
     while b < d {
         let next = marks::next_marked(free, b + 1, d);
         let at = header::position(extended, index, b - g);

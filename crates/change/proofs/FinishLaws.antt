@@ -1,6 +1,7 @@
 -- The start of a change and its end, as code takes them.
 use Prim.Native.Nat.{ℕ, ◌+◌, ◌-◌, ◌*◌, ◌≤◌, ◌<◌}
 use mathlib.Core.Path.{◌≡◌, refl, sym, ap, subst, ◌∙◌}
+use mathlib.Core.Logic.{⊎_elim}
 use mathlib.Core.Bool.{Bool, true, false}
 use mathlib.Core.List.{List, [], ◌++◌, map}
 use native.Mathlib.Omega.{arith}
@@ -9,7 +10,9 @@ use lib.Seq.{length-take-le}
 use lib.Dec.{eqb}
 use Rattle.spec.specs.Order.{HeadwordOrder, below_of}
 use Rattle.spec.specs.Outcome.{ok}
-use Rattle.spec.specs.Bytes.{blocks_for}
+use Rattle.std.specs.Prelude.{Ok, Err}
+use Rattle.spec.specs.declared.Refusal.{Refusal}
+use Rattle.spec.specs.Bytes.{write, bytes_at, blocks_for}
 use Rattle.spec.specs.Header.{block_position, get}
 use Rattle.spec.specs.Entry.{headword_ok}
 use Rattle.spec.specs.Run.{Run}
@@ -39,45 +42,43 @@ use Rattle.target.specs.Told.{entries_start, entries_part, TargetTold}
 use Rattle.target.proofs.Laws.{told_blocks}
 use Rattle.encoder.specs.Limits.{longest_body}
 use Rattle.parts.specs.Part.{Measured}
+use Rattle.parts.proofs.PartLaws.{copied_front}
 use Rattle.parts.specs.Merge.{entries_left, changed_entries}
 use Rattle.plan.specs.Growing.{Growing}
 use Rattle.newruns.specs.Laid.{laid}
 use Rattle.change.specs.declared.Outline.{Outline}
 use Rattle.change.specs.declared.Draft.{Draft}
-use Rattle.change.specs.declared.Ending.{Ending}
 use Rattle.change.specs.Ready.{growth, planned, laid_parts, old_length, most_with, Displaced, Ready, Roomy, Written, Changed}
-use Rattle.change.specs.Drafted.{PlannedEnd, Drafted, PlanCounted, Begun}
+use Rattle.change.specs.Drafted.{PlannedEnd, Fitted, Fitting, Drafted, PlanCounted, Begun}
 use Rattle.change.proofs.Laws.{run_cut, blocks_full, length_full, not_full, new_length}
 use Rattle.change.proofs.FoundLaws.{whole_found}
 use Rattle.change.proofs.ReadyLaws.{blocks_counted, still, grows, grows_over, index_full, moved_full, ready}
 
 -- ---- plan_end
 -- the end by the copied marks is that by the marks
-pub end_planned : (o : List ℕ) (v : Outline) (ws ws₁ : List ℕ) (h body : List ℕ) (start from r : ℕ) (ms : List Bool) → start ≡ area_start v.old.form v.old.n
-    → ws₁ ≡ ws → from ≡ entries_start v.target.block v.target.size
-    → Within (most_with v.old v.g) (laid v.old.form.limit v.g v.end (marks ws₁) (changed_entries v.old.form.order
-    (take (256 * (v.target.block + v.target.size) - from) (drop from (data_cut o start))) h body v.fresh)) r ms
+pub end_planned : (o : List ℕ) (v : Outline) (ws ws₁ : List ℕ) (h body : List ℕ) (start from r : ℕ) (ms : List Bool) → start ≡ area_start v.draft.old.form v.draft.old.n
+    → ws₁ ≡ ws → from ≡ entries_start v.draft.target.block v.draft.target.size
+    → Within (most_with v.draft.old v.draft.g) (laid v.draft.old.form.limit v.draft.g v.end (marks ws₁) (changed_entries v.draft.old.form.order
+    (take (256 * (v.draft.target.block + v.draft.target.size) - from) (drop from (data_cut o start))) h body v.draft.fresh)) r ms
     → PlannedEnd o v (marks ws) h body r
 end_planned o v ws ws₁ h body start from r ms here e f w =
-    let t : Target = v.target in
-    let area : List ℕ = data_part v.old.form o v.old.n in
+    let t : Target = v.draft.target in
+    let area : List ℕ = data_part v.draft.old.form o v.draft.old.n in
     let k : take (256 * (t.block + t.size) - from) (drop from area) ≡ entries_part area t.block t.size = run_cut area t.block t.size from f in
     let w₁ = subst
-    (λ (x : List ℕ). Within (most_with v.old v.g) (laid v.old.form.limit v.g v.end (marks ws₁) (changed_entries v.old.form.order x h body v.fresh)) r ms) k (rw here at w) in
-    let w₂ = subst (λ (x : List ℕ). Within (most_with v.old v.g) (laid_parts o v (marks x) h body) r ms) e w₁ in
+    (λ (x : List ℕ). Within (most_with v.draft.old v.draft.g) (laid v.draft.old.form.limit v.draft.g v.end (marks ws₁) (changed_entries v.draft.old.form.order x h body v.draft.fresh)) r ms) k
+    (rw here at w) in
+    let w₂ = subst (λ (x : List ℕ). Within (most_with v.draft.old v.draft.g) (laid_parts o v (marks x) h body) r ms) e w₁ in
     (λ p. (w₂.0 p).0, w₂.1)
 
 -- the image at the front of a slice, by the number of its bytes as code works it out: it is as long
 pub front_long : (s : List ℕ) (x : Overview) (len : ℕ) → len ≡ old_length x → old_length x ≤ length s → old_length x ≡ length (take len s)
 front_long s x len there inside = rw there (sym (length-take-le (old_length x) s inside))
 
--- its end is planned, and a change of it is ready
-module _ (s : List ℕ) (v : Outline) (ms : List Bool) (h body : List ℕ) (len : ℕ) (there : len ≡ old_length v.old) where
-  pub front_planned : (r : ℕ) → PlannedEnd (take len s) v ms h body r → PlannedEnd (take (old_length v.old) s) v ms h body r
-  front_planned r = subst (λ (k : ℕ). PlannedEnd (take k s) v ms h body r) there
-
-  pub front_ready : (T : List ℕ) → Ready (take len s) v T ms h body → Ready (take (old_length v.old) s) v T ms h body
-  front_ready T = subst (λ (k : ℕ). Ready (take k s) v T ms h body) there
+-- a change of the image at the front of a slice is ready, by the number of its bytes as code works it out
+pub front_ready : (s : List ℕ) (v : Outline) (ms : List Bool) (h body : List ℕ) (len : ℕ) → len ≡ old_length v.draft.old → (T : List ℕ) → Ready (take len s) v T ms h body
+    → Ready (take (old_length v.draft.old) s) v T ms h body
+front_ready s v ms h body len there T = subst (λ (k : ℕ). Ready (take k s) v T ms h body) there
 
 -- ---- finish
 -- the marks of 2,560 words
@@ -86,27 +87,27 @@ marks_long ws e = omega (arith, length_marks ws)
 
 module _ (o : List ℕ) (v : Outline) (T : List ℕ) (ms : List Bool) (h body : List ℕ) (r : Ready o v T ms h body) where
   -- the blocks end behind those that the index takes
-  pub end_behind : v.g ≤ v.end
+  pub end_behind : v.draft.g ≤ v.end
   end_behind = omega (arith, r.under.end_is)
 
   -- the form is one that the code takes
-  pub ready_form : GoodForm v.old.form
+  pub ready_form : GoodForm v.draft.old.form
   ready_form = r.accepted.good
 
   -- and the image has no more data blocks than row 5 allows
-  pub ready_few : v.old.d ≤ most_of v.old.form.width
-  ready_few = accepted_blocks o v.old r.accepted
+  pub ready_few : v.draft.old.d ≤ most_of v.draft.old.form.width
+  ready_few = accepted_blocks o v.draft.old r.accepted
 
 module _ (s : List ℕ) (L : ℕ) (v : Outline) (T : List ℕ) (ms : List Bool) (h body : List ℕ) (r : Ready (take L s) v T ms h body) where
   abbrev o : List ℕ
   o = take L s
 
   abbrev fresh : Bool
-  fresh = v.fresh
+  fresh = v.draft.fresh
 
   -- where an image ends that has so many blocks, counted with the g that become the index's
   abbrev end_of : ℕ → ℕ
-  end_of last = block_position v.old.form.extended v.old.n last
+  end_of last = block_position v.draft.old.form.extended v.draft.old.n last
 
   abbrev image : Image
   image = r.accepted.image
@@ -116,46 +117,42 @@ module _ (s : List ℕ) (L : ℕ) (v : Outline) (T : List ℕ) (ms : List Bool) 
   same_plan i e = ap (λ (x : Image). planned x h body fresh) (same_value i image (sym e ∙ r.accepted.is))
 
   -- row 15
-  full : plan_full s (planned image h body fresh) ≡ true → Changed s L h body fresh Ending.Full s
-  full p i e = (ap (plan_full s) (same_plan i e) ∙ p, refl)
+  pub finish_full : (k : Refusal) → Fitting s o v ms h body (Err k) → length ms ≡ 163_840 → Changed s L h body fresh (Err k) s
+  finish_full k (z, q) long =
+      let f : plan_full s (planned image h body fresh) ≡ true
+      = ⊎_elim (λ p. blocks_full o v T ms h body r s long p) (λ (few, p). length_full o v T ms h body r s long few p) q in
+      (z, λ i e. (ap (plan_full s) (same_plan i e) ∙ f, refl))
 
-  module _ (last : ℕ) (at : PlannedEnd o v ms h body last) (long : length ms ≡ 163_840) where
-    -- too many blocks
-    pub finish_blocks : most_with v.old v.g < last → Changed s L h body fresh Ending.Full s
-    finish_blocks p = full (blocks_full o v T ms h body r s long (at.1 p))
+  module _ (last : ℕ) (at : Fitted s o v ms h body last) (long : length ms ≡ 163_840) (inside : L ≤ length s) (o' : List ℕ) (copied : o' ≡ o) where
+    -- from a copy of the old image the change is ready, there is room, and the blocks end there
+    pub copy_ready : Ready o' v T ms h body × Roomy s o' v ms h body × (last ≡ (laid_parts o' v ms h body).end)
+    copy_ready =
+        let l : length o ≡ L = length-take-le L s inside in
+        subst (λ (x : List ℕ). Ready x v T ms h body × Roomy s x v ms h body × (last ≡ (laid_parts x v ms h body).end)) (sym copied) (
+          r,
+          record {
+            copy = ap (λ (k : ℕ). take k s) l;
+            shorter = omega (arith, l);
+            end_few = omega (arith, at.end_is, at.few);
+            room = omega (arith, at.end_is, at.room);
+            long = long;
+          },
+          at.end_is,
+        )
 
-    module _ (few : last ≤ most_with v.old v.g) where
-      last_is : last ≡ (laid_parts o v ms h body).end
-      last_is = at.0 few
+    -- the change is written
+    pub finish_done : (s' : List ℕ) → Written s s' o' h body fresh → (new : ℕ) → new ≡ end_of last → Changed s L h body fresh (Ok new) s'
+    finish_done s' w new en i e =
+        let z : new ≡ end_of (laid_parts o v ms h body).end = omega (arith, en, at.end_is) in
+        let few : (laid_parts o v ms h body).end ≤ most_with v.draft.old v.draft.g = omega (arith, at.end_is, at.few) in (
+          ap (plan_full s) (same_plan i e) ∙ not_full o v T ms h body r s long few (omega (arith, at.end_is, at.room)),
+          z ∙ new_length o v T ms h body r s long few ∙ ap plan_length (sym (same_plan i e)),
+          w i (ap image_from copied ∙ e),
+        )
 
-      -- the slice is too short
-      pub finish_length : length s < end_of last → Changed s L h body fresh Ending.Full s
-      finish_length p = full (length_full o v T ms h body r s long (omega (arith, last_is)) (omega (arith, last_is)))
-
-      module _ (room : end_of last ≤ length s) (inside : L ≤ length s) (o' : List ℕ) (copied : o' ≡ o) where
-        -- from the copy of the old image the change is ready
-        pub copy_ready : Ready o' v T ms h body
-        copy_ready = subst (λ (x : List ℕ). Ready x v T ms h body) (sym copied) r
-
-        -- and there is room
-        pub copy_roomy : Roomy s o' v ms h body
-        copy_roomy =
-            let l : length o ≡ L = length-take-le L s inside in
-            subst (λ (x : List ℕ). Roomy s x v ms h body) (sym copied)
-            (record { copy = ap (λ (k : ℕ). take k s) l; shorter = omega (arith, l); end_few = omega (arith, last_is); room = omega (arith, last_is); long = long })
-
-        -- the blocks end there
-        pub copy_last : last ≡ (laid_parts o' v ms h body).end
-        copy_last = last_is ∙ ap (λ (x : List ℕ). (laid_parts x v ms h body).end) (sym copied)
-
-        -- the change is written
-        pub finish_done : (s' : List ℕ) → Written s s' o' h body fresh → (new : ℕ) → new ≡ end_of last → Changed s L h body fresh (Ending.Done new) s'
-        finish_done s' w new en i e =
-            let z : new ≡ end_of (laid_parts o v ms h body).end = omega (arith, en, last_is) in (
-              ap (plan_full s) (same_plan i e) ∙ not_full o v T ms h body r s long (omega (arith, last_is)) (omega (arith, last_is)),
-              z ∙ new_length o v T ms h body r s long (omega (arith, last_is)) ∙ ap plan_length (sym (same_plan i e)),
-              w i (ap image_from copied ∙ e),
-            )
+-- the old image copied to the front of the working slice, by the number of its bytes as code works it out
+pub copied_image : (s w w' : List ℕ) (x : Overview) (len : ℕ) → len ≡ old_length x → old_length x ≤ length s → w' ≡ write 0 (bytes_at 0 len s) w → take len w' ≡ take (old_length x) s
+copied_image s w w' x len there inside e = copied_front s w w' len e (omega (arith, there)) ∙ ap (λ (k : ℕ). take k s) there
 
 -- ---- measure_change
 -- the elements of an accepted image end early
@@ -235,13 +232,12 @@ module _ (o : List ℕ) (x : Overview) (a : AcceptedImage o x) (start : ℕ) (he
 
 -- ---- change
 -- row 15: an index of too many blocks
-pub change_index : (s : List ℕ) (L : ℕ) (h body : List ℕ) (p : Draft) → Drafted (take L s) h body p → 32_767 < p.old.n + p.g → Changed s L h body p.fresh Ending.Full s
-change_index s L h body p k q i e =
+pub change_index : (s : List ℕ) (L : ℕ) (h body : List ℕ) (p : Draft) → Drafted (take L s) h body p → 32_767 < p.old.n + p.g → Changed s L h body p.fresh (Err Refusal.Full) s
+change_index s L h body p k q =
     let a : AcceptedImage (take L s) p.old = k.accepted in
-    let x : i ≡ a.image = same_value i a.image (sym e ∙ a.is) in
     let f : plan_full s (planned a.image h body p.fresh) ≡ true
     = index_full (take L s) p.old a h p.target (k.told a.image a.is) body p.fresh k.parts k.bytes k.run_blocks k.measured s p.g k.growth_is q in
-    (ap (λ (y : Image). plan_full s (planned y h body p.fresh)) x ∙ f, refl)
+    (refl, λ i e. (ap (λ (y : Image). plan_full s (planned y h body p.fresh)) (same_value i a.image (sym e ∙ a.is)) ∙ f, refl))
 
 -- what a change begins with
 pub begins : (s : List ℕ) (h body : List ℕ) (words : ℕ) (p : Draft) (free free' : List Bool) → old_length p.old ≤ length s → Drafted (take (old_length p.old) s) h body p
@@ -341,7 +337,7 @@ module _ (o : List ℕ) (p : Draft) (ms : List Bool) (h body : List ℕ) (words 
 
   -- a change as it is written, by so many elements and blocks
   abbrev outlined : ℕ → ℕ → ℕ → ℕ → Outline
-  outlined g end elements blocks = record { old = x; target = t; fresh = p.fresh; g = g; end = end; words = words; elements = elements; blocks = blocks }
+  outlined g end elements blocks = record { draft = record { old = x; target = t; fresh = p.fresh; found = p.found; g = g; elements = elements; blocks = blocks }; end = end; words = words }
 
   -- ready by the elements and blocks of the draft
   by_draft : (g end : ℕ) (T : List ℕ) (ms' : List Bool) → Ready o (outlined g end (t.before + t.after + k.parts) (get (layout_named o).nblock2 o - t.size + k.run_blocks)) T ms' h body
@@ -351,25 +347,34 @@ module _ (o : List ℕ) (p : Draft) (ms : List Bool) (h body : List ℕ) (words 
       (subst (λ (y : ℕ). Ready o (outlined g end y (get (layout_named o).nblock2 o - t.size + k.run_blocks)) T ms' h body) (sym k.elements_are) r)
 
   -- an index that does not grow
-  pub still_ready : (T : List ℕ) → p.g ≡ 0 → Ready o (outlined 0 x.d p.elements p.blocks) T ms h body
-  still_ready T z =
-      let growing : Growing area x.d 0 c.before c.after 163_840 T x.d ms
-      = subst (Growing area x.d 0 c.before c.after 163_840 T x.d) (sym b.marked) (still o x a h t told_here free free_is free_long few k.inside T) in
-      by_draft 0 x.d T ms
-      (ready o x a h t told_here body p.fresh k.parts k.bytes k.run_blocks k.measured 0 x.d words T ms b.whole b.headword b.body_short
-      k.inside (sym z ∙ k.growth_is) (omega (arith, b.few_index)) (omega arith) (omega (arith, few))
-      (subst (λ (y : ℕ). Growing area x.d 0 c.before c.after y T x.d ms) (sym long) growing) b.sound b.words_are)
+  pub still_ready : p.g ≡ 0 → Ready o (outlined p.g x.d p.elements p.blocks) [] ms h body
+  still_ready z =
+      let growing : Growing area x.d 0 c.before c.after 163_840 [] x.d ms
+      = subst (Growing area x.d 0 c.before c.after 163_840 [] x.d) (sym b.marked) (still o x a h t told_here free free_is free_long few k.inside []) in
+      subst (λ (y : ℕ). Ready o (outlined y x.d p.elements p.blocks) [] ms h body) (sym z) (
+      by_draft 0 x.d [] ms
+      (ready o x a h t told_here body p.fresh k.parts k.bytes k.run_blocks k.measured p.found 0 x.d words [] ms b.whole b.headword b.body_short
+      k.inside (sym z ∙ k.growth_is) (omega (arith, b.few_index)) refl (omega (arith, few))
+      (subst (λ (y : ℕ). Growing area x.d 0 c.before c.after y [] x.d ms) (sym long) growing) b.sound b.words_are)
+      )
 
-  module _ (one : 1 ≤ p.g) (end : ℕ) (T : List ℕ) (ms' : List Bool) (start : ℕ) (here : start ≡ area_start fm x.n)
-      (displaced : Displaced x (index_cut fm o start) (data_cut o start) p.g t (replicate 32_768 0) ms end T ms') where
-    moved : Displaced x index area p.g t (replicate 32_768 0) ms end T ms'
-    moved = subst (λ (k : ℕ). Displaced x (index_cut fm o k) (data_cut o k) p.g t (replicate 32_768 0) ms end T ms') here displaced
-
+  module _ (one : 1 ≤ p.g) (end : ℕ) (U T : List ℕ) (none : U ≡ replicate p.g 0) (ms' : List Bool) (start : ℕ) (here : start ≡ area_start fm x.n)
+      (displaced : Displaced w (data_cut o start) x.d (elements_at w (index_cut fm o start) 0 t.before) (elements_at w (index_cut fm o start) t.end t.after)
+      (length U) U ms end T ms') where
     abbrev g : ℕ
     g = p.g
 
+    -- the data area and the index are those of the image, and the table has no run at any block
+    moved : Displaced w area x.d (elements_at w index 0 t.before) (elements_at w index t.end t.after) g (replicate g 0) ms end T ms'
+    moved =
+        let cut : Displaced w area x.d (elements_at w index 0 t.before) (elements_at w index t.end t.after) (length U) U ms end T ms'
+        = subst (λ (k : ℕ). Displaced w (data_cut o k) x.d (elements_at w (index_cut fm o k) 0 t.before) (elements_at w (index_cut fm o k) t.end t.after)
+        (length U) U ms end T ms') here displaced in
+        subst (λ (k : ℕ). Displaced w area x.d (elements_at w index 0 t.before) (elements_at w index t.end t.after) k (replicate g 0) ms end T ms') (length-replicate g 0)
+        (subst (λ (y : List ℕ). Displaced w area x.d (elements_at w index 0 t.before) (elements_at w index t.end t.after) (length y) y ms end T ms') none cut)
+
     abbrev T₀ : List ℕ
-    T₀ = noted g (map (λ e. e.block) (elements_at w index t.end t.after)) (noted g (map (λ e. e.block) (elements_at w index 0 t.before)) (replicate 32_768 0))
+    T₀ = noted g (map (λ e. e.block) (elements_at w index t.end t.after)) (noted g (map (λ e. e.block) (elements_at w index 0 t.before)) (replicate g 0))
 
     abbrev ms₁ : List Bool
     ms₁ = freed area x.d (starts 0 g T₀) ms
@@ -378,23 +383,22 @@ module _ (o : List ℕ) (p : Draft) (ms : List Bool) (h body : List ℕ) (words 
     freed_is = ap (freed area x.d (starts 0 g T₀)) b.marked
 
     -- row 15: too many data blocks when the displaced runs are placed
-    pub grow_full : (s : List ℕ) (L : ℕ) → o ≡ take L s → most_with x g < end → Changed s L h body p.fresh Ending.Full s
-    grow_full s L eo q i e =
-        let y : i ≡ a.image = same_value i a.image (sym e ∙ ap image_from (sym eo) ∙ a.is) in
+    pub grow_full : (s : List ℕ) (L : ℕ) → o ≡ take L s → most_with x g < end → Changed s L h body p.fresh (Err Refusal.Full) s
+    grow_full s L eo q =
         let over : most_of w < (grown g x.d c.before c.after).data_blocks
         = grows_over o x a h t told_here free free_is free_long few k.inside g one (omega (arith, b.few_index)) T₀ ms₁ refl freed_is ((moved T₀ ms₁ refl refl).0.1 q) in
         let f : plan_full s (planned a.image h body p.fresh) ≡ true
         = moved_full o x a h t told_here body p.fresh k.parts k.bytes k.run_blocks k.measured s g k.growth_is over in
-        (ap (λ (z : Image). plan_full s (planned z h body p.fresh)) y ∙ f, refl)
+        (refl, λ i e. (ap (λ (z : Image). plan_full s (planned z h body p.fresh)) (same_value i a.image (sym e ∙ ap image_from (sym eo) ∙ a.is)) ∙ f, refl))
 
     -- the displaced runs are placed
-    pub grow_ready : end ≤ most_with x g → g ≤ length T → length ms' ≡ 163_840 → Ready o (outlined g end p.elements p.blocks) T ms' h body
+    pub grow_ready : end ≤ most_with x g → length T ≡ g → length ms' ≡ 163_840 → Ready o (outlined g end p.elements p.blocks) T ms' h body
     grow_ready q table long' =
         let v = moved T₀ ms₁ refl refl in
         let growing : Growing area x.d g c.before c.after 163_840 T end ms'
         = grows o x a h t told_here free free_is free_long few k.inside g one (omega (arith, b.few_index)) T₀ T ms₁ ms' end refl freed_is
         (v.0.0 q).0 (v.0.0 q).1 (v.1 q) (omega (arith, b.few_index)) in
         by_draft g end T ms'
-        (ready o x a h t told_here body p.fresh k.parts k.bytes k.run_blocks k.measured g end words T ms' b.whole b.headword
+        (ready o x a h t told_here body p.fresh k.parts k.bytes k.run_blocks k.measured p.found g end words T ms' b.whole b.headword
         b.body_short k.inside k.growth_is b.few_index table q
         (subst (λ (y : ℕ). Growing area x.d g c.before c.after y T end ms') (sym long') growing) b.sound b.words_are)

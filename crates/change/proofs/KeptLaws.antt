@@ -1,12 +1,14 @@
 -- A change by which the index does not grow: what is saved, and that the writing gives the plan's index and blocks.
-use Prim.Native.Nat.{ℕ, zero, suc, ◌+◌, ◌-◌, ◌*◌, ◌≤◌, ◌<◌}
+use Prim.Native.Nat.{ℕ, zero, suc, ◌+◌, ◌-◌, ◌*◌, ◌≤◌, ◌<◌, min}
 use mathlib.Core.Path.{◌≡◌, refl, sym, ap, ap₂, subst, ◌∙◌}
 use mathlib.Core.Logic.{◌⊎◌, inl, inr}
-use mathlib.Core.Bool.{Bool, true}
-use mathlib.Core.List.{List, [], ◌∷◌, ◌++◌, map, append_assoc}
+use mathlib.Core.Bool.{Bool, true, false}
+use mathlib.Core.List.{List, [], ◌∷◌, ◌++◌, map, append_assoc, append-nil}
 use native.Mathlib.Omega.{arith}
 use lib.ListN.{length, take, drop, get_or, length-drop, take-append-drop, replicate-append-replicate}
 use lib.Seq.{length-take-le, take_all, take_at, drop_at, take-take, take-append-le, take-append-add, drop-drop}
+use lib.Dec.{leb}
+use borrow.Author.Tests.{leb-true, leb-false}
 use Rattle.marks.specs.Marks.{marks}
 use Rattle.marks.proofs.Laws.{drop_take}
 use Rattle.spec.specs.Bytes.{bytes_at, write, zeros}
@@ -46,12 +48,10 @@ use Rattle.parts.specs.Room.{largest_limit}
 use Rattle.parts.specs.Merge.{changed_entries}
 use Rattle.plan.specs.Written.{part_runs, parts_written}
 use Rattle.change.specs.declared.Outline.{Outline}
-use Rattle.change.specs.Ready.{parts_of, laid_parts, old_length, most_with, Ready, Roomy, new_start, Areas}
-use Rattle.change.specs.Drafted.{PlannedEnd}
+use Rattle.change.specs.Ready.{parts_of, Ready, Roomy, new_start, Areas}
 use Rattle.change.specs.Kept.{fitted, Saved}
 use Rattle.change.proofs.Laws.{run_cut, areas_done}
 use Rattle.change.proofs.AreasLaws.{parts_asks, index_end}
-use Rattle.change.proofs.FinishLaws.{marks_long, copy_roomy, copy_last}
 
 -- ---- bytes cut or filled
 -- zeros one behind the other
@@ -77,42 +77,52 @@ fitted_zeros n a z h =
     ∙ ap (λ (x : List ℕ). a ++ x) (zeros_front k (z + n) (omega arith))
 
 -- ---- put_rest
--- more bytes than there is room for
-pub put_cut : (d d₁ l : List ℕ) (at room n : ℕ) → d₁ ≡ write at (bytes_at 0 room l) d → n ≡ length l → room < n → d₁ ≡ write at (fitted room l) d
-unfolding fitted bytes_at
-put_cut d d₁ l at room n e k h = e ∙ ap (λ (x : List ℕ). write at x d) (sym (take-append-le room l (zeros room) (omega arith)))
+-- bytes cut or filled are their first k, as many as there are and there is room for, then zeros
+fitted_cut : (room : ℕ) (l : List ℕ) (k : ℕ) → k ≡ min (length l) room → fitted room l ≡ take k l ++ zeros (room - k)
+unfolding fitted zeros
+fitted_cut room l k e = go (leb (length l) room) refl
+  where
+    go : (t : Bool) → leb (length l) room ≡ t → take room (l ++ zeros room) ≡ take k l ++ zeros (room - k)
+    go true q =
+        let p : length l ≤ room = leb-true (length l) room q in
+        let r : room ≡ length l + (room - k) = omega (arith, e, p) in
+        ap (λ (x : ℕ). take x (l ++ zeros room)) r
+        ∙ take-append-add l (zeros room) (room - k)
+        ∙ ap (λ (x : List ℕ). l ++ x) (zeros_front (room - k) room (omega arith))
+        ∙ ap (λ (x : List ℕ). x ++ zeros (room - k)) (sym (take_all k l (omega (arith, e, p))))
+    go false q =
+        let p : room < length l = leb-false (length l) room q in
+        let n : room ≡ k = omega (arith, e, p) in
+        let z : 0 ≡ room - k = omega arith in
+        take-append-le room l (zeros room) (omega (arith, p)) ∙ ap (λ (x : ℕ). take x l) n ∙ sym (append-nil (take k l)) ∙ ap (λ (x : ℕ). take k l ++ zeros x) z
 
--- no more
-pub put_filled : (d d₁ d₂ l : List ℕ) (at room n : ℕ) → d₁ ≡ write at (bytes_at 0 n l) d → d₂ ≡ write (at + n) (zeros (room - n)) d₁
-    → n ≡ length l → n ≤ room → at ≤ length d → d₂ ≡ write at (fitted room l) d
-unfolding fitted bytes_at
-put_filled d d₁ d₂ l at room n e₁ e₂ k h q =
-    let a : bytes_at 0 n l ≡ l = take_all n l (omega arith) in
-    let b : d₁ ≡ write at l d = e₁ ∙ ap (λ (x : List ℕ). write at x d) a in
-    let r : room ≡ length l + (room - n) = omega arith in
-    let f : take room (l ++ zeros room) ≡ l ++ zeros (room - n)
-    = ap (λ (x : ℕ). take x (l ++ zeros room)) r ∙ take-append-add l (zeros room) (room - n) ∙ ap (λ (x : List ℕ). l ++ x) (zeros_front (room - n) room (omega arith)) in
-    written_behind d d₁ d₂ l (zeros (room - n)) at (at + n) q (omega arith) b e₂ ∙ ap (λ (x : List ℕ). write at x d) (sym f)
+-- and so they are written
+pub put_fitted : (d d₁ d₂ l : List ℕ) (at room k : ℕ) → k ≡ min (length l) room → d₁ ≡ write at (bytes_at 0 k l) d → d₂ ≡ write (at + k) (zeros (room - k)) d₁ → at ≤ length d
+    → d₂ ≡ write at (fitted room l) d
+unfolding bytes_at
+put_fitted d d₁ d₂ l at room k e e₁ e₂ q =
+    written_behind d d₁ d₂ (take k l) (zeros (room - k)) at (at + k) q (omega (arith, length-take-le k l (omega (arith, e)))) e₁ e₂
+    ∙ ap (λ (x : List ℕ). write at x d) (sym (fitted_cut room l k e))
 
 -- ---- save_old
 -- both copies stand in the working slice
-pub saved : (s w w₁ w₂ : List ℕ) (v : Outline) (start from size : ℕ) → let t : Target = v.target in
-    start ≡ area_start v.old.form v.old.n → from ≡ entries_start t.block t.size → size ≡ 256 * (t.block + t.size) - from
+pub saved : (s w w₁ w₂ : List ℕ) (v : Outline) (start from size : ℕ) → let t : Target = v.draft.target in
+    start ≡ area_start v.draft.old.form v.draft.old.n → from ≡ entries_start t.block t.size → size ≡ 256 * (t.block + t.size) - from
     → w₁ ≡ write 0 (bytes_at from size (data_cut s start)) w
-    → w₂ ≡ write size (bytes_at (index_start v.old.form + t.end) (256 * v.old.n - t.end) s) w₁
-    → start + from + size ≤ length s → t.end ≤ 256 * v.old.n → size + (256 * v.old.n - t.end) ≤ length w → Saved s v size w₂
+    → w₂ ≡ write size (bytes_at (index_start v.draft.old.form + t.end) (256 * v.draft.old.n - t.end) s) w₁
+    → start + from + size ≤ length s → t.end ≤ 256 * v.draft.old.n → size + (256 * v.draft.old.n - t.end) ≤ length w → Saved s v size w₂
 saved s w w₁ w₂ v start from size here ef es e₁ e₂ fits inside room =
-    let t : Target = v.target in
+    let t : Target = v.draft.target in
     let x : List ℕ = bytes_at from size (data_cut s start) in
     let la : length (data_cut s start) ≡ length s - start = length-take-le (length s - start) (drop start s) (omega (arith, length-drop start s)) in
-    let y : List ℕ = bytes_at (index_start v.old.form + t.end) (256 * v.old.n - t.end) s in
+    let y : List ℕ = bytes_at (index_start v.draft.old.form + t.end) (256 * v.draft.old.n - t.end) s in
     let lx : length x ≡ size = length_bytes_at (data_cut s start) from size (omega arith) in
-    let ly : length y ≡ 256 * v.old.n - t.end = length_bytes_at s (index_start v.old.form + t.end) (256 * v.old.n - t.end) (omega arith) in
+    let ly : length y ≡ 256 * v.draft.old.n - t.end = length_bytes_at s (index_start v.draft.old.form + t.end) (256 * v.draft.old.n - t.end) (omega arith) in
     let l₁ : length w₁ ≡ length w = ap length e₁ ∙ length_write 0 x w (omega (arith, lx)) in
     let k : size + length y ≤ length w₁ = omega (arith, ly, l₁) in
     let a : take size w₂ ≡ x = ap (take size) e₂ ∙ take_write size y w₁ k size (omega arith) ∙ ap (take size) e₁ ∙ written_front x w size lx in
-    let b : bytes_at size (256 * v.old.n - t.end) w₂ ≡ y
-    = ap (bytes_at size (256 * v.old.n - t.end)) e₂ ∙ ap (λ (q : ℕ). bytes_at size q (write size y w₁)) (sym ly) ∙ bytes_at_write size y w₁ k in
+    let b : bytes_at size (256 * v.draft.old.n - t.end) w₂ ≡ y
+    = ap (bytes_at size (256 * v.draft.old.n - t.end)) e₂ ∙ ap (λ (q : ℕ). bytes_at size q (write size y w₁)) (sym ly) ∙ bytes_at_write size y w₁ k in
     (es ∙ ap (λ (q : ℕ). 256 * (t.block + t.size) - q) ef, a ∙ ap₂ (λ (q u : ℕ). bytes_at q size (data_cut s u)) ef here, b)
 
 -- ---- the index
@@ -163,27 +173,27 @@ rest_cut at n w = let e : at + n - at ≡ n = omega arith in ap (λ (x : ℕ). t
 
 -- ---- write_kept
 module _ (o : List ℕ) (v : Outline) (T : List ℕ) (ws : List ℕ) (h body : List ℕ) (r : Ready o v T (marks ws) h body)
-    (s : List ℕ) (q : Roomy s o v (marks ws) h body) (still : v.g ≡ 0) (small : (k : ℕ) → get_or s k 0 < 256) where
+    (s : List ℕ) (q : Roomy s o v (marks ws) h body) (still : v.draft.g ≡ 0) (small : (k : ℕ) → get_or s k 0 < 256) where
   abbrev fm : Form
-  fm = v.old.form
+  fm = v.draft.old.form
 
   abbrev w : ℕ
   w = fm.width
 
   abbrev t : Target
-  t = v.target
+  t = v.draft.target
 
   abbrev front : ℕ
   front = index_start fm
 
   abbrev start : ℕ
-  start = area_start fm v.old.n
+  start = area_start fm v.draft.old.n
 
   abbrev index : List ℕ
-  index = index_part fm o v.old.n
+  index = index_part fm o v.draft.old.n
 
   abbrev area : List ℕ
-  area = data_part fm o v.old.n
+  area = data_part fm o v.draft.old.n
 
   abbrev count : ℕ
   count = get (layout_named o).nindex2 o
@@ -196,57 +206,57 @@ module _ (o : List ℕ) (v : Outline) (T : List ℕ) (ws : List ℕ) (h body : L
   A = elements_bytes w (elements_at w index t.end t.after)
 
   -- the index in the slice
-  index_there : index ≡ bytes_at front (256 * v.old.n) s
+  index_there : index ≡ bytes_at front (256 * v.draft.old.n) s
   unfolding bytes_at
   index_there =
-      let k : start - front ≡ 256 * v.old.n = omega arith in
+      let k : start - front ≡ 256 * v.draft.old.n = omega arith in
       ap (λ (x : ℕ). take x (drop front o)) k
-      ∙ ap (λ (x : List ℕ). take (256 * v.old.n) (drop front x)) (sym q.copy)
-      ∙ ap (take (256 * v.old.n)) (drop_take front (length o) s)
-      ∙ take-take (256 * v.old.n) (length o - front) (drop front s) (omega (arith, r.whole))
+      ∙ ap (λ (x : List ℕ). take (256 * v.draft.old.n) (drop front x)) (sym q.copy)
+      ∙ ap (take (256 * v.draft.old.n)) (drop_take front (length o) s)
+      ∙ take-take (256 * v.draft.old.n) (length o - front) (drop front s) (omega (arith, r.whole))
 
-  index_long : length index ≡ 256 * v.old.n
-  index_long = ap length index_there ∙ length_bytes_at s front (256 * v.old.n) (omega (arith, r.whole, q.shorter))
+  index_long : length index ≡ 256 * v.draft.old.n
+  index_long = ap length index_there ∙ length_bytes_at s front (256 * v.draft.old.n) (omega (arith, r.whole, q.shorter))
 
   -- its bytes are bytes
   index_bytes : Small index
-  index_bytes = subst Small (sym index_there) (small_part s small (256 * v.old.n) front)
+  index_bytes = subst Small (sym index_there) (small_part s small (256 * v.draft.old.n) front)
 
   -- the element of the run concerned ends inside the index
-  pub end_inside : t.end ≤ 256 * v.old.n
+  pub end_inside : t.end ≤ 256 * v.draft.old.n
   end_inside = omega (arith, inside_at w index t.end t.after r.told.after_inside, index_long)
 
   -- and starts there
-  pub at_inside : t.at ≤ 256 * v.old.n
+  pub at_inside : t.at ≤ 256 * v.draft.old.n
   at_inside = omega (arith, r.told.at_is, elements_length w index 0 t.before r.told.before_inside, ends_inside w index 0 t.before r.told.before_inside, index_long)
 
   -- nothing is moved
-  nothing_moved : s ≡ take start s ++ moved_written area v.old.d T (starts 0 v.g T) (drop start s)
+  nothing_moved : s ≡ take start s ++ moved_written area v.draft.old.d T (starts 0 v.draft.g T) (drop start s)
   unfolding starts moved_written
   nothing_moved = rw still (sym (take-append-drop start s))
 
   -- no number is renewed
-  as_they_are : (es : List Element) → map (renewed T v.g) es ≡ es
+  as_they_are : (es : List Element) → map (renewed T v.draft.g) es ≡ es
   as_they_are es = ap (λ (g : ℕ). map (renewed T g) es) still ∙ renewed_none_all T es
 
   -- the elements before stand there
-  before_there : s ≡ write front (elements_bytes w (map (renewed T v.g) (elements_at w index 0 t.before))) s
+  before_there : s ≡ write front (elements_bytes w (map (renewed T v.draft.g) (elements_at w index 0 t.before))) s
   before_there =
       let i : Inside w index 0 t.before = r.told.before_inside in
       let l : elements_end w index 0 t.before ≡ 0 + length B = elements_length w index 0 t.before i in
       let k : elements_end w index 0 t.before - 0 ≡ length B = omega arith in
       let b : bytes_at 0 (length B) index ≡ B = ap (λ (x : ℕ). bytes_at 0 x index) (sym k) ∙ elements_stand w index 0 t.before (λ x. small_get index x index_bytes) i in
       let z : front + 0 ≡ front = omega arith in
-      let p : 0 + length B ≤ 256 * v.old.n = omega (arith, ends_inside w index 0 t.before i, index_long) in
+      let p : 0 + length B ≤ 256 * v.draft.old.n = omega (arith, ends_inside w index 0 t.before i, index_long) in
       let c : bytes_at front (length B) s ≡ B
-      = sym (ap (bytes_at 0 (length B)) index_there ∙ bytes_at_within front (256 * v.old.n) 0 (length B) s p ∙ ap (λ (x : ℕ). bytes_at x (length B) s) z) ∙ b in
+      = sym (ap (bytes_at 0 (length B)) index_there ∙ bytes_at_within front (256 * v.draft.old.n) 0 (length B) s p ∙ ap (λ (x : ℕ). bytes_at x (length B) s) z) ∙ b in
       sym (ap (λ (es : List Element). write front (elements_bytes w es) s) (as_they_are (elements_at w index 0 t.before)) ∙ write_same front B s c)
 
   -- the index holds the elements in front of zeros
   stored : StoredIndex w (elements_at w index 0 count) index
   stored =
-      let e : index_from w (below_of fm.order) v.old.n count index ≡ ok (elements_at w index 0 count) = accepted_elements o v.old r.accepted in
-      ((index_stored w (below_of fm.order) (order_of fm.order) v.old.n count index (bytes_of index index_bytes) index_long (elements_at w index 0 count)).0 e).stored
+      let e : index_from w (below_of fm.order) v.draft.old.n count index ≡ ok (elements_at w index 0 count) = accepted_elements o v.draft.old r.accepted in
+      ((index_stored w (below_of fm.order) (order_of fm.order) v.draft.old.n count index (bytes_of index index_bytes) index_long (elements_at w index 0 count)).0 e).stored
 
   -- behind the element of the run concerned stand those after it, then zeros
   rest_told : (z : ℕ) × (drop t.end index ≡ A ++ zeros z)
@@ -254,7 +264,7 @@ module _ (o : List ℕ) (v : Outline) (T : List ℕ) (ws : List ℕ) (h body : L
   rest_told = go stored
     where
       all_inside : Inside w index 0 count
-      all_inside = accepted_inside o v.old r.accepted start refl count refl
+      all_inside = accepted_inside o v.draft.old r.accepted start refl count refl
 
       total : length (elements_bytes w (elements_at w index 0 count)) ≡ t.end + length A
       total = omega (arith, elements_length w index 0 count all_inside, r.told.end_is)
@@ -273,19 +283,19 @@ module _ (o : List ℕ) (v : Outline) (T : List ℕ) (ws : List ℕ) (h body : L
 
   -- the parts of the plan
   abbrev ps : List (List Entry)
-  ps = parts_of v.old o v.target h body v.fresh
+  ps = parts_of v.draft.old o v.draft.target h body v.draft.fresh
 
   -- parts placed on the marks
   abbrev placed : List (List Entry) → Spread
-  placed cs = spread v.g v.end (marks ws) (map run_size cs)
+  placed cs = spread v.draft.g v.end (marks ws) (map run_size cs)
 
   -- the bytes that their elements take
   abbrev room : List (List Entry) → ℕ
-  room cs = length (elements_bytes w (map element_of (part_runs v.g (placed cs).places cs)))
+  room cs = length (elements_bytes w (map element_of (part_runs v.draft.g (placed cs).places cs)))
 
   -- and they written over a slice
   abbrev written : List (List Entry) → List ℕ → List ℕ
-  written cs = parts_written w fm.extended v.old.n v.g (front + t.at) (placed cs).places cs
+  written cs = parts_written w fm.extended v.draft.old.n v.draft.g (front + t.at) (placed cs).places cs
 
   module _ (size : ℕ) (kept : List ℕ) (sv : Saved s v size kept) where
     -- the entries as they were saved
@@ -298,10 +308,10 @@ module _ (o : List ℕ) (v : Outline) (T : List ℕ) (ws : List ℕ) (h body : L
 
     -- the parts of the changed run
     abbrev cs : List (List Entry)
-    cs = cut fm.limit (changed_entries fm.order (take size kept) h body v.fresh)
+    cs = cut fm.limit (changed_entries fm.order (take size kept) h body v.draft.fresh)
 
     parts_same : cs ≡ ps
-    parts_same = ap (λ (x : List ℕ). cut fm.limit (changed_entries fm.order x h body v.fresh)) (run_saved ∙ run_cut area t.block t.size (entries_start t.block t.size) refl)
+    parts_same = ap (λ (x : List ℕ). cut fm.limit (changed_entries fm.order x h body v.draft.fresh)) (run_saved ∙ run_cut area t.block t.size (entries_start t.block t.size) refl)
 
     -- where their elements start
     at_there : front + t.at ≡ front + length B
@@ -310,17 +320,17 @@ module _ (o : List ℕ) (v : Outline) (T : List ℕ) (ws : List ℕ) (h body : L
     -- what writing the parts asks
     pub kept_asks : (l : ℕ) → l ≡ length s
         → ((headword_ok h ≡ true) × (length body ≤ longest_body) × (length (take size kept) ≤ 8388608))
-        × ((Width w × (fm.limit ≤ largest_limit) × (v.g ≤ v.end))
-        × ((((placed cs).end + longest_run ≤ 64 * length ws) × (block_position fm.extended v.old.n (placed cs).end ≤ l))
+        × ((Width w × (fm.limit ≤ largest_limit) × (v.draft.g ≤ v.end))
+        × ((((placed cs).end + longest_run ≤ 64 * length ws) × (block_position fm.extended v.draft.old.n (placed cs).end ≤ l))
         × (front + t.at + room cs ≤ l)))
     kept_asks l e =
         subst
         (λ (x : List ℕ).
         ((headword_ok h ≡ true) × (length body ≤ longest_body) × (length x ≤ 8388608))
-        × ((Width w × (fm.limit ≤ largest_limit) × (v.g ≤ v.end))
-        × ((((placed (cut fm.limit (changed_entries fm.order x h body v.fresh))).end + longest_run ≤ 64 * length ws)
-        × (block_position fm.extended v.old.n (placed (cut fm.limit (changed_entries fm.order x h body v.fresh))).end ≤ l))
-        × (front + t.at + room (cut fm.limit (changed_entries fm.order x h body v.fresh)) ≤ l))))
+        × ((Width w × (fm.limit ≤ largest_limit) × (v.draft.g ≤ v.end))
+        × ((((placed (cut fm.limit (changed_entries fm.order x h body v.draft.fresh))).end + longest_run ≤ 64 * length ws)
+        × (block_position fm.extended v.draft.old.n (placed (cut fm.limit (changed_entries fm.order x h body v.draft.fresh))).end ≤ l))
+        × (front + t.at + room (cut fm.limit (changed_entries fm.order x h body v.draft.fresh)) ≤ l))))
         (sym run_saved) (parts_asks o v T ws h body r s q start refl l (entries_start t.block t.size) (front + t.at) e refl at_there)
 
     -- the marks then
@@ -342,33 +352,20 @@ module _ (o : List ℕ) (v : Outline) (T : List ℕ) (ws : List ℕ) (h body : L
 
       -- THE LAW of the writing where the index does not grow
       pub kept_areas : (s₃ s₅ : List ℕ) (end : ℕ) → end ≡ start → s₃ ≡ written cs s
-          → length s₃ ≡ length s → s₅ ≡ write b (fitted (end - b) (take (size + (256 * v.old.n - t.end) - size) (drop size kept))) s₃ → Areas s s₅ o v h body
+          → length s₃ ≡ length s → s₅ ≡ write b (fitted (end - b) (take (size + (256 * v.draft.old.n - t.end) - size) (drop size kept))) s₃ → Areas s s₅ o v h body
       kept_areas s₃ s₅ end here e₃ l₃ e₅ =
           let z : ℕ = rest_told.0 in
-          let n : ℕ = 256 * v.old.n - t.end in
+          let n : ℕ = 256 * v.draft.old.n - t.end in
           let rest : List ℕ = take (size + n - size) (drop size kept) in
           let d : rest ≡ A ++ zeros z
-          = rest_cut size n kept ∙ sv.2 ∙ sym (bytes_at_within front (256 * v.old.n) t.end n s (omega (arith, end_inside)))
+          = rest_cut size n kept ∙ sv.2 ∙ sym (bytes_at_within front (256 * v.draft.old.n) t.end n s (omega (arith, end_inside)))
           ∙ ap (bytes_at t.end n) (sym index_there) ∙ rest_at index t.end n (omega (arith, index_long)) ∙ rest_told.1 in
           let f : fitted (start - b) rest ≡ A ++ zeros (start - b - length A) = ap (fitted (start - b)) d ∙ fitted_zeros (start - b) A z (omega (arith, all_end.0, still)) in
           let k : start - b - length A ≡ new_start v - (b + length A) = omega (arith, still) in
           let g : s₅ ≡ write (b + length A) (zeros (new_start v - (b + length A))) (write b A s₃)
           = e₅ ∙ ap (λ (x : ℕ). write b (fitted (x - b) rest) s₃) here ∙ ap (λ (x : List ℕ). write b x s₃) f ∙ sym (write_behind s₃ A (zeros (start - b - length A)) b (omega (arith, all_end, l₃)))
           ∙ ap (λ (x : ℕ). write (b + length A) (zeros x) (write b A s₃)) k in
-          let e₄ : write b A s₃ ≡ write b (elements_bytes w (map (renewed T v.g) (elements_at w index t.end t.after))) s₃
+          let e₄ : write b A s₃ ≡ write b (elements_bytes w (map (renewed T v.draft.g) (elements_at w index t.end t.after))) s₃
           = ap (λ (es : List Element). write b (elements_bytes w es) s₃) (sym (as_they_are (elements_at w index t.end t.after))) in
           let p : s₃ ≡ written ps s = subst (λ (x : List (List Entry)). s₃ ≡ written x s) parts_same e₃ in
           areas_done o v T (marks ws) h body r s q s s s₃ (write b A s₃) s₅ (front + t.at) b (b + length A) nothing_moved before_there at_there p new_end e₄ refl g
-
--- ---- keep
--- where there is room, the change is ready, and its new runs are placed
-pub kept_ready : (s : List ℕ) (v : Outline) (T ws : List ℕ) (h body : List ℕ) → let o : List ℕ = take (old_length v.old) s in
-    Ready o v T (marks ws) h body → (last : ℕ) → PlannedEnd o v (marks ws) h body last → length ws ≡ 2560 → last ≤ most_with v.old v.g
-    → block_position v.old.form.extended v.old.n last ≤ length s → old_length v.old ≤ length s
-    → Roomy s o v (marks ws) h body × (last ≡ (laid_parts o v (marks ws) h body).end)
-kept_ready s v T ws h body r last at long few room inside =
-    let L : ℕ = old_length v.old in
-    let l : length (marks ws) ≡ 163_840 = marks_long ws long in (
-      copy_roomy s L v T (marks ws) h body r last at l few room inside (take L s) refl,
-      copy_last s L v T (marks ws) h body r last at l few room inside (take L s) refl,
-    )

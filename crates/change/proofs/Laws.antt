@@ -101,21 +101,21 @@ pub run_short : (area : List ℕ) (b size from : ℕ) → from ≡ entries_start
 run_short area b size from e p = omega (arith, start_least b size, length-take (256 * (b + size) - from) (drop from area))
 
 -- for the run has no more blocks than a run can have
-pub run_few : (o : List ℕ) (v : Outline) (T : List ℕ) (ms : List Bool) (h body : List ℕ) → Ready o v T ms h body → v.target.size ≤ 32_767
+pub run_few : (o : List ℕ) (v : Outline) (T : List ℕ) (ms : List Bool) (h body : List ℕ) → Ready o v T ms h body → v.draft.target.size ≤ 32_767
 unfolding Check.image_from
-run_few o v T ms h body r = go (target_run (below_of v.old.form.order) h r.accepted.image.runs) r.told.run
+run_few o v T ms h body r = go (target_run (below_of v.draft.old.form.order) h r.accepted.image.runs) r.told.run
   where
-    holds : All (Holds (below_of v.old.form.order)) r.accepted.image.runs
+    holds : All (Holds (below_of v.draft.old.form.order)) r.accepted.image.runs
     holds =
-        let same : (format_of o).below ≡ below_of v.old.form.order = ap (λ (F : Format). F.below) (accepted_format o v.old r.accepted) in
+        let same : (format_of o).below ≡ below_of v.draft.old.form.order = ap (λ (F : Format). F.below) (accepted_format o v.draft.old r.accepted) in
         subst (λ (y : HeadwordOrder). All (Holds y) r.accepted.image.runs) same (image_sound (format_of o) o r.accepted.image r.accepted.is).holds
 
     go : (c : Place.Target)
-        → NoRun (data_part v.old.form o v.old.n) r.accepted.image.runs c v.target
-        ⊎ OneRun v.old.form.order (data_part v.old.form o v.old.n) r.accepted.image.runs c v.target → v.target.size ≤ 32_767
+        → NoRun (data_part v.draft.old.form o v.draft.old.n) r.accepted.image.runs c v.draft.target
+        ⊎ OneRun v.draft.old.form.order (data_part v.draft.old.form o v.draft.old.n) r.accepted.image.runs c v.draft.target → v.draft.target.size ≤ 32_767
     go c (inl x) = omega (arith, x.size)
     go c (inr x) =
-        let P : Run → Type 0 = Holds (below_of v.old.form.order) in
+        let P : Run → Type 0 = Holds (below_of v.draft.old.form.order) in
         let k : All P (c.before ++ x.run ∷ c.after) = subst (All P) x.among holds in
         omega (arith, (all_back P c.before (x.run ∷ c.after) k).0.few_blocks, x.size)
 
@@ -141,7 +141,7 @@ module _ (o : List ℕ) (v : Outline) (T : List ℕ) (ms : List Bool) (h body : 
   i = r.accepted.image
 
   abbrev fm : Form
-  fm = v.old.form
+  fm = v.draft.old.form
 
   abbrev F : Format
   F = format_by (layout_named o) fm
@@ -150,25 +150,25 @@ module _ (o : List ℕ) (v : Outline) (T : List ℕ) (ms : List Bool) (h body : 
   w = fm.width
 
   abbrev t : Target
-  t = v.target
+  t = v.draft.target
 
   abbrev fresh : Bool
-  fresh = v.fresh
+  fresh = v.draft.fresh
 
   abbrev c : Place.Target
   c = target_run (below_of fm.order) h i.runs
 
   abbrev ps : List (List Entry)
-  ps = parts_of v.old o t h body fresh
+  ps = parts_of v.draft.old o t h body fresh
 
   abbrev m : Grown
-  m = grown v.g v.old.d c.before c.after
+  m = grown v.draft.g v.draft.old.d c.before c.after
 
   abbrev p : Placed
   p = place 0 m.data_blocks (m.before ++ m.after) (map new_run ps)
 
   abbrev sp : Spread
-  sp = spread v.g v.end ms (map run_size ps)
+  sp = spread v.draft.g v.end ms (map run_size ps)
 
   -- the limit is one that the buffers hold
   limit_few : fm.limit ≤ largest_limit
@@ -176,29 +176,30 @@ module _ (o : List ℕ) (v : Outline) (T : List ℕ) (ms : List Bool) (h body : 
 
   -- the parts are those of the changed run concerned
   parts_are : cut fm.limit (edited (below_of fm.order) h body fresh c.entries) ≡ ps
-  parts_are = sym (parts_same v.old o t h body fresh i.runs _ r.told)
+  parts_are = sym (parts_same v.draft.old o t h body fresh i.runs _ r.told)
 
   pub small : All (λ q. run_size q ≤ longest_run) ps
   small =
-      let es : List Entry = new_entries v.old o t h body fresh in
+      let es : List Entry = new_entries v.draft.old o t h body fresh in
       cut_small fm.limit limit_few (length es) es (omega arith)
-      (changed_short fm.order (entries_part (data_part fm o v.old.n) t.block t.size) h body fresh r.headword r.body_short)
+      (changed_short fm.order (entries_part (data_part fm o v.draft.old.n) t.block t.size) h body fresh r.headword r.body_short)
 
   lawful : Lawful F
-  lawful = subst Lawful (accepted_format o v.old r.accepted) (lawful_format o)
+  lawful = subst Lawful (accepted_format o v.draft.old r.accepted) (lawful_format o)
 
   -- the plan by the format of the form
   planned_is : planned i h body fresh ≡ plan_change F i h (edited (below_of fm.order) h body fresh)
-  planned_is = ap (λ (G : Format). plan_change G i h (edited G.below h body fresh)) (image_format o v.old r.accepted)
+  planned_is = ap (λ (G : Format). plan_change G i h (edited G.below h body fresh)) (image_format o v.draft.old r.accepted)
 
   sound : SoundPlan F (planned i h body fresh)
-  sound = subst (λ (G : Format). SoundPlan G (planned i h body fresh)) (image_format o v.old r.accepted) r.sound
+  sound = subst (λ (G : Format). SoundPlan G (planned i h body fresh)) (image_format o v.draft.old r.accepted) r.sound
 
   -- the plan by its numbers
-  pub plan_known : planned i h body fresh ≡ plan_of F (v.old.n + v.g) p.data_blocks (m.before ++ p.runs ++ m.after)
+  pub plan_known : planned i h body fresh ≡ plan_of F (v.draft.old.n + v.draft.g) p.data_blocks (m.before ++ p.runs ++ m.after)
   plan_known =
       planned_is
-      ∙ plan_parts F i h (edited (below_of fm.order) h body fresh) v.old.n v.old.d v.g (accepted_n o v.old r.accepted) (accepted_d o v.old r.accepted) ps parts_are r.grows
+      ∙ plan_parts F i h (edited (below_of fm.order) h body fresh) v.draft.old.n v.draft.old.d v.draft.g (accepted_n o v.draft.old r.accepted) (accepted_d o v.draft.old r.accepted) ps parts_are
+      r.grows
 
   -- the runs of the plan
   abbrev all : List Run
@@ -209,118 +210,118 @@ module _ (o : List ℕ) (v : Outline) (T : List ℕ) (ms : List Bool) (h body : 
   all_laid = subst (λ (x : Plan). Laid x.frame.data_blocks x.runs) plan_known sound.laid
 
   -- and their elements have room in the index
-  pub all_need : index_need w (map element_of all) ≤ v.old.n + v.g
+  pub all_need : index_need w (map element_of all) ≤ v.draft.old.n + v.draft.g
   all_need = subst (λ (x : Plan). index_need w (map element_of x.runs) ≤ x.frame.index_blocks) plan_known sound.need
 
   -- the counts that the header takes
   pub all_counts : (first : ℕ) → first ≡ free_list_start (free_blocks all p.data_blocks)
-      → record { index_blocks = v.old.n + v.g; entries = v.words; first_free = first; elements = v.elements; run_blocks = v.blocks }
-      ≡ plan_counts (plan_of F (v.old.n + v.g) p.data_blocks all)
+      → record { index_blocks = v.draft.old.n + v.draft.g; entries = v.words; first_free = first; elements = v.draft.elements; run_blocks = v.draft.blocks }
+      ≡ plan_counts (plan_of F (v.draft.old.n + v.draft.g) p.data_blocks all)
   unfolding plan_counts
   all_counts first e =
       let a : v.words ≡ length (all_entries all) = r.words_are ∙ ap (λ (x : Plan). length (all_entries x.runs)) plan_known in
-      let b : v.elements ≡ length all = r.elements_are ∙ ap (λ (x : Plan). length x.runs) plan_known in
-      let d : v.blocks ≡ run_blocks all = r.blocks_are ∙ ap (λ (x : Plan). run_blocks x.runs) plan_known in
-      let counts : ℕ → ℕ → ℕ → ℕ → Counts = λ x y z u. record { index_blocks = v.old.n + v.g; entries = x; first_free = u; elements = y; run_blocks = z } in
-      ap₂ (λ (x y : ℕ). counts x y v.blocks first) a b ∙ ap₂ (λ (x y : ℕ). counts (length (all_entries all)) (length all) x y) d e
+      let b : v.draft.elements ≡ length all = r.elements_are ∙ ap (λ (x : Plan). length x.runs) plan_known in
+      let d : v.draft.blocks ≡ run_blocks all = r.blocks_are ∙ ap (λ (x : Plan). run_blocks x.runs) plan_known in
+      let counts : ℕ → ℕ → ℕ → ℕ → Counts = λ x y z u. record { index_blocks = v.draft.old.n + v.draft.g; entries = x; first_free = u; elements = y; run_blocks = z } in
+      ap₂ (λ (x y : ℕ). counts x y v.draft.blocks first) a b ∙ ap₂ (λ (x y : ℕ). counts (length (all_entries all)) (length all) x y) d e
 
   -- row 15: too many data blocks when the new runs are placed
-  pub blocks_full : (s : List ℕ) → length ms ≡ 163_840 → most_with v.old v.g < sp.end → plan_full s (planned i h body fresh) ≡ true
+  pub blocks_full : (s : List ℕ) → length ms ≡ 163_840 → most_with v.draft.old v.draft.g < sp.end → plan_full s (planned i h body fresh) ≡ true
   blocks_full s l e =
-      let o : most_with v.old v.g < v.g + p.data_blocks
-      = parts_over m v.g ps ms v.end r.under.end_is r.under.marked (most_with v.old v.g) longest_run small r.end_few (omega (arith, r.few_index)) e in
-      ap (plan_full s) plan_known ∙ full_blocks F s (v.old.n + v.g) p.data_blocks all (omega arith)
+      let o : most_with v.draft.old v.draft.g < v.draft.g + p.data_blocks
+      = parts_over m v.draft.g ps ms v.end r.under.end_is r.under.marked (most_with v.draft.old v.draft.g) longest_run small r.end_few (omega (arith, r.few_index)) e in
+      ap (plan_full s) plan_known ∙ full_blocks F s (v.draft.old.n + v.draft.g) p.data_blocks all (omega arith)
 
-  module _ (s : List ℕ) (l : length ms ≡ 163_840) (few : sp.end ≤ most_with v.old v.g) where
-    at_end : sp.end ≡ v.g + p.data_blocks
-    at_end = parts_end m v.g ps ms v.end r.under.end_is r.under.marked longest_run small (omega (arith, r.few_index))
+  module _ (s : List ℕ) (l : length ms ≡ 163_840) (few : sp.end ≤ most_with v.draft.old v.draft.g) where
+    at_end : sp.end ≡ v.draft.g + p.data_blocks
+    at_end = parts_end m v.draft.g ps ms v.end r.under.end_is r.under.marked longest_run small (omega (arith, r.few_index))
 
     -- row 15: the new image is longer than the slice
-    pub length_full : length s < block_position fm.extended v.old.n sp.end → plan_full s (planned i h body fresh) ≡ true
-    length_full h = ap (plan_full s) plan_known ∙ full_length F s (v.old.n + v.g) p.data_blocks all (omega (arith, at_end))
+    pub length_full : length s < block_position fm.extended v.draft.old.n sp.end → plan_full s (planned i h body fresh) ≡ true
+    length_full h = ap (plan_full s) plan_known ∙ full_length F s (v.draft.old.n + v.draft.g) p.data_blocks all (omega (arith, at_end))
 
     -- there is room
-    pub not_full : block_position fm.extended v.old.n sp.end ≤ length s → plan_full s (planned i h body fresh) ≡ false
-    not_full h = ap (plan_full s) plan_known ∙ full_not F s (v.old.n + v.g) p.data_blocks all (omega (arith, at_end)) (omega (arith, at_end)) r.few_index
+    pub not_full : block_position fm.extended v.draft.old.n sp.end ≤ length s → plan_full s (planned i h body fresh) ≡ false
+    not_full h = ap (plan_full s) plan_known ∙ full_not F s (v.draft.old.n + v.draft.g) p.data_blocks all (omega (arith, at_end)) (omega (arith, at_end)) r.few_index
 
     -- the new length
-    pub new_length : block_position fm.extended v.old.n sp.end ≡ plan_length (planned i h body fresh)
+    pub new_length : block_position fm.extended v.draft.old.n sp.end ≡ plan_length (planned i h body fresh)
     new_length =
-        let e : block_position fm.extended v.old.n sp.end ≡ block_position fm.extended (v.old.n + v.g) p.data_blocks = omega (arith, at_end) in
-        e ∙ sym (length_is F (v.old.n + v.g) p.data_blocks all) ∙ ap plan_length (sym plan_known)
+        let e : block_position fm.extended v.draft.old.n sp.end ≡ block_position fm.extended (v.draft.old.n + v.draft.g) p.data_blocks = omega (arith, at_end) in
+        e ∙ sym (length_is F (v.draft.old.n + v.draft.g) p.data_blocks all) ∙ ap plan_length (sym plan_known)
 
   module _ (s : List ℕ) (q : Roomy s o v ms h body) where
     -- the marks are enough
     fits : sp.end ≤ length ms
     fits = omega (arith, q.end_few, q.long, r.few_index)
 
-    pub runs_are : part_runs v.g sp.places ps ≡ p.runs
-    runs_are = parts_runs m v.g ps ms v.end r.under.end_is r.under.marked longest_run small fits
+    pub runs_are : part_runs v.draft.g sp.places ps ≡ p.runs
+    runs_are = parts_runs m v.draft.g ps ms v.end r.under.end_is r.under.marked longest_run small fits
 
-    pub blocks_end : sp.end ≡ v.g + p.data_blocks
+    pub blocks_end : sp.end ≡ v.draft.g + p.data_blocks
     blocks_end = at_end s q.long q.end_few
 
-    pub places_above : All (λ b. v.g ≤ b) sp.places
-    places_above = places_from v.g v.end ms (map run_size ps) (omega (arith, r.under.end_is))
+    pub places_above : All (λ b. v.draft.g ≤ b) sp.places
+    places_above = places_from v.draft.g v.end ms (map run_size ps) (omega (arith, r.under.end_is))
 
-    pub free_are : numbers 0 (take (sp.end - v.g) (drop v.g sp.free)) ≡ free_blocks all p.data_blocks
-    free_are = parts_free m v.g ps ms v.end r.under.end_is r.under.marked longest_run small fits
+    pub free_are : numbers 0 (take (sp.end - v.draft.g) (drop v.draft.g sp.free)) ≡ free_blocks all p.data_blocks
+    free_are = parts_free m v.draft.g ps ms v.end r.under.end_is r.under.marked longest_run small fits
 
     abbrev start : ℕ
-    start = area_start fm v.old.n
+    start = area_start fm v.draft.old.n
 
     -- where the new data blocks begin, by the old numbers
     abbrev front : ℕ
-    front = block_position fm.extended v.old.n v.g
+    front = block_position fm.extended v.draft.old.n v.draft.g
 
     end_room : 256 * v.end ≤ length (drop start s)
-    end_room = omega (arith, length-drop start s, q.room, spread_grows v.g v.end ms (map run_size ps))
+    end_room = omega (arith, length-drop start s, q.room, spread_grows v.draft.g v.end ms (map run_size ps))
 
     -- the old blocks stand behind the old index
-    area_there : take (256 * v.old.d) (drop start s) ≡ data_part fm o v.old.n
+    area_there : take (256 * v.draft.old.d) (drop start s) ≡ data_part fm o v.draft.old.n
     area_there =
-        let e : length o - start ≡ 256 * v.old.d = omega (arith, r.whole) in
+        let e : length o - start ≡ 256 * v.draft.old.d = omega (arith, r.whole) in
         let a : drop start o ≡ take (length o - start) (drop start s) = ap (drop start) (sym q.copy) ∙ drop_take start (length o) s in
         sym (ap (λ (x : List ℕ). take (length o - start) x) a ∙ take-take (length o - start) (length o - start) (drop start s) (omega arith) ∙ ap (λ (k : ℕ). take k (drop start s)) e)
 
     -- the slice after the displaced runs are copied
     pub moved_first : (s₁ : List ℕ)
-        → s₁ ≡ take start s ++ moved_written (data_part fm o v.old.n) v.old.d T (starts 0 v.g T) (drop start s)
+        → s₁ ≡ take start s ++ moved_written (data_part fm o v.draft.old.n) v.draft.old.d T (starts 0 v.draft.g T) (drop start s)
         → s₁ ≡ take front s ++ runs_written (m.before ++ m.after) (drop front s)
     moved_first s₁ e =
-        let sum : start + 256 * v.g ≡ front = omega arith in
+        let sum : start + 256 * v.draft.g ≡ front = omega arith in
         e
         ∙ ap (λ (x : List ℕ). take start s ++ x) (r.under.moved_is (drop start s) area_there end_room)
-        ∙ sym (append_assoc (take start s) (take (256 * v.g) (drop start s)) (runs_written (m.before ++ m.after) (drop (256 * v.g) (drop start s))))
-        ∙ ap₂ (λ (x y : List ℕ). x ++ runs_written (m.before ++ m.after) y) (sym (take-add start (256 * v.g) s)) (drop-drop (256 * v.g) start s)
+        ∙ sym (append_assoc (take start s) (take (256 * v.draft.g) (drop start s)) (runs_written (m.before ++ m.after) (drop (256 * v.draft.g) (drop start s))))
+        ∙ ap₂ (λ (x y : List ℕ). x ++ runs_written (m.before ++ m.after) y) (sym (take-add start (256 * v.draft.g) s)) (drop-drop (256 * v.draft.g) start s)
         ∙ ap (λ (k : ℕ). take k s ++ runs_written (m.before ++ m.after) (drop k s)) sum
 
     abbrev index : List ℕ
-    index = index_part fm o v.old.n
+    index = index_part fm o v.draft.old.n
 
     abbrev Q : List Run
-    Q = part_runs v.g sp.places ps
+    Q = part_runs v.draft.g sp.places ps
 
     -- the elements before and after, renewed
-    before_are : map (renewed T v.g) (elements_at w index 0 t.before) ≡ map element_of m.before
-    before_are = ap (map (renewed T v.g)) r.told.before ∙ r.under.before_new
+    before_are : map (renewed T v.draft.g) (elements_at w index 0 t.before) ≡ map element_of m.before
+    before_are = ap (map (renewed T v.draft.g)) r.told.before ∙ r.under.before_new
 
-    after_are : map (renewed T v.g) (elements_at w index t.end t.after) ≡ map element_of m.after
-    after_are = ap (map (renewed T v.g)) r.told.after ∙ r.under.after_new
+    after_are : map (renewed T v.draft.g) (elements_at w index t.end t.after) ≡ map element_of m.after
+    after_are = ap (map (renewed T v.draft.g)) r.told.after ∙ r.under.after_new
 
     pub before_length : length (elements_bytes w (elements_at w index 0 t.before)) ≡ length (elements_bytes w (map element_of m.before))
-    before_length = sym (renewed_length w T v.g (elements_at w index 0 t.before)) ∙ ap (λ (es : List Element). length (elements_bytes w es)) before_are
+    before_length = sym (renewed_length w T v.draft.g (elements_at w index 0 t.before)) ∙ ap (λ (es : List Element). length (elements_bytes w es)) before_are
 
     pub after_length : length (elements_bytes w (elements_at w index t.end t.after)) ≡ length (elements_bytes w (map element_of m.after))
-    after_length = sym (renewed_length w T v.g (elements_at w index t.end t.after)) ∙ ap (λ (es : List Element). length (elements_bytes w es)) after_are
+    after_length = sym (renewed_length w T v.draft.g (elements_at w index t.end t.after)) ∙ ap (λ (es : List Element). length (elements_bytes w es)) after_are
 
     -- all elements have room in the index
     pub index_room : index_start fm + length (elements_bytes w (map element_of m.before)) + length (elements_bytes w (map element_of Q)) + length (elements_bytes w (map element_of m.after))
         ≤ front
     index_room =
-        let n : length (elements_bytes w (map element_of (m.before ++ Q ++ m.after))) ≤ 256 * (v.old.n + v.g)
-        = subst (λ (x : List Run). length (elements_bytes w (map element_of (m.before ++ x ++ m.after))) ≤ 256 * (v.old.n + v.g)) (sym runs_are)
-        (need_room w (map element_of all) (v.old.n + v.g) all_need) in
+        let n : length (elements_bytes w (map element_of (m.before ++ Q ++ m.after))) ≤ 256 * (v.draft.old.n + v.draft.g)
+        = subst (λ (x : List Run). length (elements_bytes w (map element_of (m.before ++ x ++ m.after))) ≤ 256 * (v.draft.old.n + v.draft.g)) (sym runs_are)
+        (need_room w (map element_of all) (v.draft.old.n + v.draft.g) all_need) in
         omega (arith, elements_sum w m.before Q m.after)
 
     -- the new image lies inside the slice
@@ -328,7 +329,7 @@ module _ (o : List ℕ) (v : Outline) (T : List ℕ) (ms : List Bool) (h body : 
     room_is = omega (arith, q.room, blocks_end)
 
     -- the image of the plan
-    Same : (j : Image) → image_from o ≡ ok j → planned j h body fresh ≡ plan_of F (v.old.n + v.g) p.data_blocks all
+    Same : (j : Image) → image_from o ≡ ok j → planned j h body fresh ≡ plan_of F (v.draft.old.n + v.draft.g) p.data_blocks all
     Same j e = ap (λ (x : Image). planned x h body fresh) (same_value j i (sym e ∙ r.accepted.is)) ∙ plan_known
 
     -- by the new numbers
@@ -337,12 +338,12 @@ module _ (o : List ℕ) (v : Outline) (T : List ℕ) (ms : List Bool) (h body : 
 
     -- THE LAW of the writing: index and blocks
     pub areas_done : (s₁ s₂ s₃ s₄ s₅ : List ℕ) (a b e : ℕ)
-        → s₁ ≡ take start s ++ moved_written (data_part fm o v.old.n) v.old.d T (starts 0 v.g T) (drop start s)
-        → s₂ ≡ write (index_start fm) (elements_bytes w (map (renewed T v.g) (elements_at w index 0 t.before))) s₁
+        → s₁ ≡ take start s ++ moved_written (data_part fm o v.draft.old.n) v.draft.old.d T (starts 0 v.draft.g T) (drop start s)
+        → s₂ ≡ write (index_start fm) (elements_bytes w (map (renewed T v.draft.g) (elements_at w index 0 t.before))) s₁
         → a ≡ index_start fm + length (elements_bytes w (elements_at w index 0 t.before))
-        → s₃ ≡ parts_written w fm.extended v.old.n v.g a sp.places ps s₂
+        → s₃ ≡ parts_written w fm.extended v.draft.old.n v.draft.g a sp.places ps s₂
         → b ≡ a + length (elements_bytes w (map element_of Q))
-        → s₄ ≡ write b (elements_bytes w (map (renewed T v.g) (elements_at w index t.end t.after))) s₃
+        → s₄ ≡ write b (elements_bytes w (map (renewed T v.draft.g) (elements_at w index t.end t.after))) s₃
         → e ≡ b + length (elements_bytes w (elements_at w index t.end t.after))
         → s₅ ≡ write e (zeros (new_start v - e)) s₄
         → Areas s s₅ o v h body
@@ -354,16 +355,17 @@ module _ (o : List ℕ) (v : Outline) (T : List ℕ) (ms : List Bool) (h body : 
         let nb : b ≡ index_start fm + length B + length P = omega (arith, eb) in
         let ne : e ≡ index_start fm + length B + length P + length A = omega (arith, ee, after_length) in
         let d₂ : s₂ ≡ write (index_start fm) B s₁ = e₂ ∙ ap (λ (es : List Element). write (index_start fm) (elements_bytes w es) s₁) before_are in
-        let d₃ : s₃ ≡ parts_written w fm.extended v.old.n v.g (index_start fm + length B) sp.places ps s₂
-        = e₃ ∙ ap (λ (k : ℕ). parts_written w fm.extended v.old.n v.g k sp.places ps s₂) na in
+        let d₃ : s₃ ≡ parts_written w fm.extended v.draft.old.n v.draft.g (index_start fm + length B) sp.places ps s₂
+        = e₃ ∙ ap (λ (k : ℕ). parts_written w fm.extended v.draft.old.n v.draft.g k sp.places ps s₂) na in
         let d₄ : s₄ ≡ write (index_start fm + length B + length P) A s₃ = e₄ ∙ ap₂ (λ (k : ℕ) (es : List Element). write k (elements_bytes w es) s₃) nb after_are in
         let d₅ : s₅ ≡ write (index_start fm + length B + length P + length A) (zeros (front - (index_start fm + length B + length P + length A))) s₄
         = e₅ ∙ ap₂ (λ (k l : ℕ). write k (zeros (l - k)) s₄) ne (sym front_new) in
         let laid : Laid p.data_blocks (m.before ++ Q ++ m.after) = subst (λ (x : List Run). Laid p.data_blocks (m.before ++ x ++ m.after)) (sym runs_are) all_laid in
-        sides F s v.old.n v.g p.data_blocks m.before m.after sp.places ps room_is laid places_above index_room s₁ s₂ s₃ s₄ s₅ (moved_first s₁ e₁) d₂ d₃ d₄ d₅
-        ∙ ap (λ (x : List Run). take (index_start fm) s ++ index_bytes w (v.old.n + v.g) (map element_of (m.before ++ x ++ m.after)) ++ runs_written (m.before ++ x ++ m.after) (drop front s))
+        sides F s v.draft.old.n v.draft.g p.data_blocks m.before m.after sp.places ps room_is laid places_above index_room s₁ s₂ s₃ s₄ s₅ (moved_first s₁ e₁) d₂ d₃ d₄ d₅
+        ∙ ap (λ (x : List Run). take (index_start fm) s ++ index_bytes w (v.draft.old.n + v.draft.g) (map element_of (m.before ++ x ++ m.after))
+        ++ runs_written (m.before ++ x ++ m.after) (drop front s))
         runs_are
-        ∙ ap₂ (λ (x : Plan) (k : ℕ). take (index_start fm) s ++ index_bytes w (v.old.n + v.g) (map element_of x.runs) ++ runs_written x.runs (drop k s)) (sym (Same j is)) front_new
+        ∙ ap₂ (λ (x : Plan) (k : ℕ). take (index_start fm) s ++ index_bytes w (v.draft.old.n + v.draft.g) (map element_of x.runs) ++ runs_written x.runs (drop k s)) (sym (Same j is)) front_new
 
     -- the header of the image on its way is the old one's
     header_same : (s₅ x : List ℕ) → s₅ ≡ take (index_start fm) s ++ x → take 256 s₅ ≡ take 256 o
@@ -376,18 +378,19 @@ module _ (o : List ℕ) (v : Outline) (T : List ℕ) (ms : List Bool) (h body : 
 
     -- and the free list and the header
     pub sealed_done : (s₅ s₆ s₇ : List ℕ) (last first : ℕ) → Areas s s₅ o v h body → last ≡ sp.end
-        → s₆ ≡ take (new_start v) s₅ ++ free_list_written (numbers 0 (take (last - v.g) (drop v.g sp.free))) (drop (new_start v) s₅)
-        → first ≡ free_list_start (numbers 0 (take (last - v.g) (drop v.g sp.free)))
-        → s₇ ≡ changed_header (layout_named s₅) (record { index_blocks = v.old.n + v.g; entries = v.words; first_free = first; elements = v.elements; run_blocks = v.blocks }) s₆
+        → s₆ ≡ take (new_start v) s₅ ++ free_list_written (numbers 0 (take (last - v.draft.g) (drop v.draft.g sp.free))) (drop (new_start v) s₅)
+        → first ≡ free_list_start (numbers 0 (take (last - v.draft.g) (drop v.draft.g sp.free)))
+        → s₇
+        ≡ changed_header (layout_named s₅) (record { index_blocks = v.draft.old.n + v.draft.g; entries = v.words; first_free = first; elements = v.draft.elements; run_blocks = v.draft.blocks }) s₆
         → Written s s₇ o h body fresh
     sealed_done s₅ s₆ s₇ last first e₅ el e₆ ef e₇ j is =
         let D : ℕ = p.data_blocks in
-        let counts : Counts = record { index_blocks = v.old.n + v.g; entries = v.words; first_free = first; elements = v.elements; run_blocks = v.blocks } in
-        let f : numbers 0 (take (last - v.g) (drop v.g sp.free)) ≡ free_blocks all D = ap (λ (x : ℕ). numbers 0 (take (x - v.g) (drop v.g sp.free))) el ∙ free_are in
-        let I : List ℕ = index_bytes w (v.old.n + v.g) (map element_of all) in
-        let l : length I ≡ 256 * (v.old.n + v.g) = index_bytes_length w (map element_of all) (v.old.n + v.g) all_need in
+        let counts : Counts = record { index_blocks = v.draft.old.n + v.draft.g; entries = v.words; first_free = first; elements = v.draft.elements; run_blocks = v.draft.blocks } in
+        let f : numbers 0 (take (last - v.draft.g) (drop v.draft.g sp.free)) ≡ free_blocks all D = ap (λ (x : ℕ). numbers 0 (take (x - v.draft.g) (drop v.draft.g sp.free))) el ∙ free_are in
+        let I : List ℕ = index_bytes w (v.draft.old.n + v.draft.g) (map element_of all) in
+        let l : length I ≡ 256 * (v.draft.old.n + v.draft.g) = index_bytes_length w (map element_of all) (v.draft.old.n + v.draft.g) all_need in
         let d₅ : s₅ ≡ take (index_start fm) s ++ I ++ runs_written all (drop (new_start v) s)
-        = e₅ j is ∙ ap (λ (x : Plan). take (index_start fm) s ++ index_bytes w (v.old.n + v.g) (map element_of x.runs) ++ runs_written x.runs (drop (new_start v) s)) (Same j is) in
+        = e₅ j is ∙ ap (λ (x : Plan). take (index_start fm) s ++ index_bytes w (v.draft.old.n + v.draft.g) (map element_of x.runs) ++ runs_written x.runs (drop (new_start v) s)) (Same j is) in
         let e₈ : s₇ ≡ changed_header (layout_named o) counts s₆ = e₇ ∙ ap (λ (x : Layout). changed_header x counts s₆)
         (layout_kept s₅ o (header_same s₅ (I ++ runs_written all (drop (new_start v) s)) (d₅ ∙ append_assoc (take (index_start fm) s) I (runs_written all (drop (new_start v) s))))) in
         let d₆ : s₆ ≡ take (new_start v) s₅ ++ free_list_written (free_blocks all D) (drop (new_start v) s₅)
@@ -395,5 +398,5 @@ module _ (o : List ℕ) (v : Outline) (T : List ℕ) (ms : List Bool) (h body : 
         sealed F lawful s s₅ s₆ s₇ I (runs_written all (drop (new_start v) s)) (free_blocks all D) (new_start v) counts (omega (arith, room_is)) (omega arith) d₅ d₆ e₈
         ∙ ap (λ (x : Counts). changed_header (layout_named o) x (take (index_start fm) s) ++ I ++ free_list_written (free_blocks all D) (runs_written all (drop (new_start v) s)))
         (all_counts first (ef ∙ ap free_list_start f))
-        ∙ sym (written_is F s (v.old.n + v.g) D all)
+        ∙ sym (written_is F s (v.draft.old.n + v.draft.g) D all)
         ∙ ap (λ (x : Plan). plan_written x s) (sym (Same j is))

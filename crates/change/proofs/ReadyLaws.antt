@@ -206,16 +206,16 @@ module _ (o : List ℕ) (x : Overview) (a : AcceptedImage o x) where
 
       -- the table of where the other runs start
       noted_all : (g : ℕ) (T₀ : List ℕ) → T₀ ≡ noted g (map (λ e. e.block) (elements_at w index t.end t.after))
-          (noted g (map (λ e. e.block) (elements_at w index 0 t.before)) (replicate 32_768 0))
-          → T₀ ≡ noted g (map (λ r. r.block) (c.before ++ c.after)) (replicate 32_768 0)
+          (noted g (map (λ e. e.block) (elements_at w index 0 t.before)) (replicate g 0))
+          → T₀ ≡ noted g (map (λ r. r.block) (c.before ++ c.after)) (replicate g 0)
       noted_all g T₀ e =
-          e ∙ ap₂ (λ (y z : List Element). noted g (map (λ e. e.block) y) (noted g (map (λ e. e.block) z) (replicate 32_768 0))) k.after k.before
-          ∙ noted_both g c.before c.after (replicate 32_768 0)
+          e ∙ ap₂ (λ (y z : List Element). noted g (map (λ e. e.block) y) (noted g (map (λ e. e.block) z) (replicate g 0))) k.after k.before
+          ∙ noted_both g c.before c.after (replicate g 0)
 
       -- one that grows
-      pub grows : t.block + t.size ≤ d → (g : ℕ) → 1 ≤ g → g ≤ 32_768
+      pub grows : t.block + t.size ≤ d → (g : ℕ) → 1 ≤ g → g ≤ 32_767
           → (T₀ T : List ℕ) (ms₁ ms₂ : List Bool) (end : ℕ)
-          → T₀ ≡ noted g (map (λ e. e.block) (elements_at w index t.end t.after)) (noted g (map (λ e. e.block) (elements_at w index 0 t.before)) (replicate 32_768 0))
+          → T₀ ≡ noted g (map (λ e. e.block) (elements_at w index t.end t.after)) (noted g (map (λ e. e.block) (elements_at w index 0 t.before)) (replicate g 0))
           → ms₁ ≡ freed area d (starts 0 g T₀) (with_range t.block t.size true free)
           → end ≡ (spread g (max d g) ms₁ (map (size_at area d) (starts 0 g T₀))).end
           → ms₂ ≡ (spread g (max d g) ms₁ (map (size_at area d) (starts 0 g T₀))).free
@@ -224,19 +224,19 @@ module _ (o : List ℕ) (x : Overview) (a : AcceptedImage o x) where
       grows p g one most T₀ T ms₁ ms₂ end e₁ e₂ e₃ e₄ e₅ fits =
           let mine : List Bool = with_range t.block t.size true free in
           subst (λ (y : ℕ). Growing area d g c.before c.after y T end ms₂) (start_long p)
-          (index_grown area d g 32_768 c.before c.after mine one most others_laid (others _ sized) (others _ stands) (others _ counted) start_marked T₀ T ms₁
+          (index_grown area d g g c.before c.after mine one (omega arith) others_laid (others _ sized) (others _ stands) (others _ counted) start_marked T₀ T ms₁
           ms₂ end (noted_all g T₀ e₁) e₂ e₃ e₄ e₅ (omega (arith, start_long p)) (omega (arith, start_long p)))
 
       -- and one for which there are too many blocks
       pub grows_over : t.block + t.size ≤ d → (g : ℕ) → 1 ≤ g → g ≤ 32_767
           → (T₀ : List ℕ) (ms₁ : List Bool)
-          → T₀ ≡ noted g (map (λ e. e.block) (elements_at w index t.end t.after)) (noted g (map (λ e. e.block) (elements_at w index 0 t.before)) (replicate 32_768 0))
+          → T₀ ≡ noted g (map (λ e. e.block) (elements_at w index t.end t.after)) (noted g (map (λ e. e.block) (elements_at w index 0 t.before)) (replicate g 0))
           → ms₁ ≡ freed area d (starts 0 g T₀) (with_range t.block t.size true free)
           → most_with x g < (spread g (max d g) ms₁ (map (size_at area d) (starts 0 g T₀))).end → most_of w < (grown g d c.before c.after).data_blocks
       grows_over p g one few' T₀ ms₁ e₁ e₂ h =
           let mine : List Bool = with_range t.block t.size true free in
           let q : most_with x g < g + (grown g d c.before c.after).data_blocks
-          = index_over area d g 32_768 c.before c.after mine one (omega arith) others_laid (others _ sized) (others _ stands) (others _ counted) start_marked
+          = index_over area d g g c.before c.after mine one (omega arith) others_laid (others _ sized) (others _ stands) (others _ counted) start_marked
           T₀ ms₁ (most_with x g) (noted_all g T₀ e₁) e₂ (omega arith) (omega (arith, start_long p)) h in
           omega arith
 
@@ -333,22 +333,17 @@ module _ (o : List ℕ) (x : Overview) (a : AcceptedImage o x) where
           )
 
       -- a change whose growth is planned
-      pub ready : (g end words : ℕ) (T : List ℕ) (ms : List Bool) → old_length x ≡ length o → headword_ok h ≡ true → length body ≤ longest_body → t.block + t.size ≤ d
+      pub ready : (found : Bool) (g end words : ℕ) (T : List ℕ) (ms : List Bool) → old_length x ≡ length o → headword_ok h ≡ true → length body ≤ longest_body → t.block + t.size ≤ d
           → g ≡ growth n (t.before + t.after + parts) (x.end - (t.end - t.at) + bytes)
-          → n + g ≤ 32_767 → g ≤ length T → end ≤ most_with x g
+          → n + g ≤ 32_767 → length T ≡ g → end ≤ most_with x g
           → Growing area d g c.before c.after (length ms) T end ms
           → SoundPlan i.frame.format (planned i h body fresh) → words ≡ length (all_entries (planned i h body fresh).runs)
           → Ready o (record {
-            old = x;
-            target = t;
-            fresh = fresh;
-            g = g;
+            draft = record { old = x; target = t; fresh = fresh; found = found; g = g; elements = t.before + t.after + parts; blocks = get (layout_named o).nblock2 o - t.size + blocks };
             end = end;
             words = words;
-            elements = t.before + t.after + parts;
-            blocks = get (layout_named o).nblock2 o - t.size + blocks;
           }) T ms h body
-      ready g end words T ms whole hok short p eg fi table fe growing plan words_are =
+      ready found g end words T ms whole hok short p eg fi table fe growing plan words_are =
           record {
             accepted = a;
             whole = whole;

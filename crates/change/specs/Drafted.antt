@@ -1,7 +1,7 @@
 -- A change on its way, before its growth is planned.
-use Rattle.std.specs.Prelude.{ℕ, ◌+◌, ◌-◌, ◌≤◌, ◌<◌, ◌≡◌, Bool, true, false, List, ◌++◌, map, length, replicate}
+use Rattle.std.specs.Prelude.{ℕ, ◌+◌, ◌-◌, ◌≤◌, ◌<◌, ◌≡◌, ◌⊎◌, Bool, true, false, Result, Ok, Err, List, ◌++◌, map, length, replicate}
 use Rattle.spec.specs.Outcome.{ok}
-use Rattle.spec.specs.Header.{get}
+use Rattle.spec.specs.Header.{block_position, get}
 use Rattle.spec.specs.Entry.{headword_ok}
 use Rattle.spec.specs.Blocks.{free_marks}
 use Rattle.spec.specs.Check.{Image, image_from, all_entries, entries_of}
@@ -9,6 +9,7 @@ use Rattle.spec.specs.SortedList.{lookup}
 use Rattle.spec.specs.Place.{new_run}
 use Rattle.spec.specs.Claim.{is_there}
 use Rattle.spec.specs.Sound.{SoundPlan}
+use Rattle.spec.specs.declared.Refusal.{Refusal}
 use Rattle.marks.specs.Marks.{with_range}
 use Rattle.header.specs.Form.{layout_named, index_part, data_part}
 use Rattle.inspect.specs.Overview.{AcceptedImage}
@@ -22,8 +23,21 @@ use Rattle.change.specs.Ready.{growth, planned, parts_of, laid_parts, old_length
 -- where the blocks end when the new runs are placed on the marks ms, or a number past the most where they end past it
 abbrev pub PlannedEnd : List ℕ → Outline → List Bool → List ℕ → List ℕ → ℕ → Type 0
 PlannedEnd o v ms h body r =
-    (r ≤ most_with v.old v.g → r ≡ (laid_parts o v ms h body).end)
-    × (most_with v.old v.g < r → most_with v.old v.g < (laid_parts o v ms h body).end)
+    (r ≤ most_with v.draft.old v.draft.g → r ≡ (laid_parts o v ms h body).end)
+    × (most_with v.draft.old v.draft.g < r → most_with v.draft.old v.draft.g < (laid_parts o v ms h body).end)
+
+-- the new runs are placed, and they and the new image, which ends at the block `last`, have room in the slice s
+pub record Fitted (s o : List ℕ) (v : Outline) (ms : List Bool) (h body : List ℕ) (last : ℕ) : Type 0 where
+  pub end_is : last ≡ (laid_parts o v ms h body).end
+  pub few : last ≤ most_with v.draft.old v.draft.g
+  pub room : block_position v.draft.old.form.extended v.draft.old.n last ≤ length s
+
+-- what the placing comes to: row 15, where the blocks are too many or the slice is too short, or where the blocks end
+abbrev pub Fitting : List ℕ → List ℕ → Outline → List Bool → List ℕ → List ℕ → Result ℕ Refusal → Type 0
+Fitting s o v ms h body (Err k) =
+    let end : ℕ = (laid_parts o v ms h body).end in
+    (k ≡ Refusal.Full) × ((most_with v.draft.old v.draft.g < end) ⊎ ((end ≤ most_with v.draft.old v.draft.g) × (length s < block_position v.draft.old.form.extended v.draft.old.n end)))
+Fitting s o v ms h body (Ok last) = Fitted s o v ms h body last
 
 -- the change in the old image o is measured
 pub record Drafted (o : List ℕ) (h body : List ℕ) (r : Draft) : Type 0 where

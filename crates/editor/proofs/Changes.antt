@@ -1,17 +1,19 @@
 -- Insert and delete: the plan that the code makes is the specification's, and what each return shows.
 use Prim.Native.Nat.{ℕ, ◌+◌, ◌-◌, ◌%◌, ◌≤◌}
 use mathlib.Core.Path.{◌≡◌, refl, sym, ap, ap₂, subst, ◌∙◌}
-use mathlib.Core.Bool.{Bool, true, false, not, true≢false, false≢true}
+use mathlib.Core.Logic.{◌⊎◌, inl, inr}
+use mathlib.Core.Bool.{Bool, true, false, true≢false, false≢true}
 use mathlib.Core.List.{List, [], ◌∷◌, ◌++◌}
 use mathlib.Core.Option.{Option, none, some}
 use native.Mathlib.Omega.{arith}
-use lib.ListN.{length, take}
-use lib.Seq.{take-length}
+use Rattle.std.specs.Prelude.{Result, Ok, Err}
+use Rattle.std.specs.Prelude as std
+use lib.ListN.{length, take, drop, set}
+use lib.Seq.{take_at}
 use lib.Dec.{leb}
-use borrow.Author.Tests.{leb-true, not-true, not-false}
+use borrow.Author.Tests.{leb-true}
 use Rattle.spec.specs.Outcome.{ok, ◌>>=◌}
-use Rattle.spec.specs.Bytes as Bytes
-use Rattle.spec.specs.Bytes.{write, bytes_at, no_zero}
+use Rattle.spec.specs.Bytes.{no_zero}
 use Rattle.spec.specs.Order.{HeadwordOrder}
 use Rattle.spec.specs.Header.{Format, Lawful, format_of, writable}
 use Rattle.spec.specs.Entry as EntrySpec
@@ -24,14 +26,12 @@ use Rattle.spec.specs.Place.{Plan, Target, target_run, plan_change}
 use Rattle.spec.specs.Calls as Calls
 use Rattle.spec.specs.Calls.{changeable, fitting, insert_plan, delete_plan}
 use Rattle.spec.specs.Answers as Answers
-use Rattle.spec.specs.declared.LengthAnswer.{LengthAnswer}
-use Rattle.spec.specs.declared.DeleteAnswer.{DeleteAnswer}
+use Rattle.spec.specs.declared.Refusal.{Refusal}
 use Rattle.spec.specs.Claim as Claim
 use Rattle.spec.specs.Claim.{is_there}
 use Rattle.spec.proofs.ListsLaws.{and_left}
 use Rattle.spec.proofs.OutcomeLaws.{same_value}
 use Rattle.spec.proofs.HeaderLaws.{lawful_format}
-use Rattle.spec.proofs.WriteLaws.{write_behind}
 use Rattle.spec.specs.Sound.{EntriesOk, SoundPlan}
 use Rattle.spec.proofs.StoredIndexLaws.{empty_below}
 use Rattle.spec.proofs.SortedLaws.{ok_front, ok_back, ok_sorted}
@@ -39,18 +39,15 @@ use Rattle.spec.proofs.TargetLaws.{Concerned, target_concerned}
 use Rattle.spec.proofs.ChangeLaws.{Sound, image_sound, image_ascends, insert_entries, insert_sound, delete_entries, delete_sound}
 use Rattle.parts.specs.Merge.{merge}
 use Rattle.parts.proofs.MergeLaws.{merge_replace, merge_remove}
-use Rattle.parts.proofs.PartLaws.{front_stored}
 use Rattle.header.specs.Form.{layout_named}
 use Rattle.inspect.specs.declared.Overview.{Overview}
-use Rattle.inspect.specs.Overview.{AcceptedImage, FreeMarked}
-use Rattle.encoder.specs.Limits.{longest_body}
-use Rattle.change.specs.declared.Ending.{Ending}
+use Rattle.inspect.specs.Overview.{AcceptedImage}
 use Rattle.change.specs.Ready.{planned, old_length, Changed}
 use Rattle.change.specs.declared.Draft.{Draft}
 use Rattle.change.specs.Drafted.{Drafted, PlanCounted}
 use Rattle.editor.specs.Entered.{words_after}
 use Rattle.editor.proofs.Counts.{replace_count, remove_count}
-use Rattle.editor.proofs.Rows.{Inserts, Deletes, insert_refuses, delete_refuses, whole_blocks, change_eleven, change_may}
+use Rattle.editor.proofs.Rows.{Inserts, Deletes, insert_refuses, delete_refuses, whole_blocks, change_may}
 
 -- ---- the image
 -- so many entries are in the image that is read
@@ -58,25 +55,15 @@ words_in : (s : List ℕ) (v : Overview) → AcceptedImage s v → (i : Image) �
 words_in s v a i got = a.words_are ∙ ap (λ (j : Image). length (entries_of j)) (same_value a.image i (sym a.is ∙ got))
 
 -- ---- the arguments
--- a headword that passed its test
-pub head_good : (h : List ℕ) (w : Bool) → w ≡ headword_ok h → not w ≡ false → headword_ok h ≡ true
-head_good h w e q = sym e ∙ not-false w q
-
 -- a text by its rule has no more than 3,000 bytes
-pub text_short : (t : List ℕ) (x : Bool) → x ≡ text_ok t → not x ≡ false → length t ≤ 3_000
+pub text_short : (t : List ℕ) → text_ok t ≡ true → length t ≤ 3_000
 unfolding EntrySpec.text_ok
-text_short t x e q = leb-true (length t) 3_000 (and_left (leb (length t) 3_000) (no_zero t) (sym e ∙ not-false x q))
+text_short t e = leb-true (length t) 3_000 (and_left (leb (length t) 3_000) (no_zero t) e)
 
--- the body of the new entry, as the code puts it together
-pub body_made : (b : ℕ) (t x x₁ x₂ : List ℕ) → 1 + length t ≤ length x → x₁ ≡ write 0 (b ∷ []) x → x₂ ≡ write 1 (bytes_at 0 (length t) t) x₁ → take (1 + length t) x₂ ≡ b ∷ t
-unfolding Bytes.bytes_at
-body_made b t x x₁ x₂ p e₁ e₂ =
-    let w : x₂ ≡ write 0 (b ∷ t) x = e₂ ∙ ap₂ (λ (u v : List ℕ). write 1 u v) (take-length t) e₁ ∙ write_behind x (b ∷ []) t 0 (omega arith) in
-    front_stored (b ∷ t) x x₂ (1 + length t) w (omega arith)
-
--- which is no longer than the longest
-pub body_few : (b : ℕ) (t body : List ℕ) → body ≡ b ∷ t → length t ≤ 3_000 → length body ≤ longest_body
-body_few b t body e p = rw e (omega arith)
+-- the body of the new entry, as the code puts it together in a buffer: the attribute, then a copy of the text
+pub body_made : (b : ℕ) (t x copy : List ℕ) (k : ℕ) → copy ≡ t → 1 ≤ length x → take (1 + length t) (take 1 (set x 0 b) ++ (copy ++ drop k (drop 1 (set x 0 b)))) ≡ b ∷ t
+body_made b t [] copy k e p = absurd (omega arith)
+body_made b t (y ∷ ys) copy k e p = take_at (b ∷ copy) (drop k ys) (1 + length t) (omega (arith, ap length e)) ∙ ap (λ (l : List ℕ). b ∷ l) e
 
 -- ---- the plan
 -- a change counts only by what it makes of the entries of the run concerned
@@ -172,18 +159,6 @@ draft_front s v h body fresh p len there (a, b, d) = (a, b, subst (λ (k : ℕ).
 
 -- what the change asks is what it asks by its draft
 module _ (s : List ℕ) (v : Overview) (h body : List ℕ) (fresh : Bool) (p : Draft) (drafted : DraftOf s v h body fresh p) where
-  -- what is measured is measured of the image that the draft names
-  pub draft_measured : Drafted (take (old_length p.old) s) h body p
-  draft_measured = subst (λ (w : Overview). Drafted (take (old_length w) s) h body p) (sym drafted.0) drafted.2
-
-  -- which is inside the slice
-  pub draft_inside : old_length v ≤ length s → old_length p.old ≤ length s
-  draft_inside = subst (λ (w : Overview). old_length w ≤ length s) (sym drafted.0)
-
-  -- its free blocks are marked
-  pub draft_marked : (ms : List Bool) → FreeMarked (take (old_length v) s) ms → FreeMarked (take (old_length p.old) s) ms
-  draft_marked ms = subst (λ (w : Overview). FreeMarked (take (old_length w) s) ms) (sym drafted.0)
-
   -- the plan's entries are counted
   draft_counted : (words : ℕ) → PlanCounted (take (old_length v) s) h body fresh words → PlanCounted (take (old_length p.old) s) h body p.fresh words
   draft_counted words g =
@@ -191,27 +166,26 @@ module _ (s : List ℕ) (v : Overview) (h body : List ℕ) (fresh : Bool) (p : D
       (subst (λ (w : Overview). PlanCounted (take (old_length w) s) h body fresh words) (sym drafted.0) g)
 
   -- and what it comes to is what the change of the image comes to
-  draft_changed : (r : Ending) (s' : List ℕ) → Changed s (old_length p.old) h body p.fresh r s' → Changed s (old_length v) h body fresh r s'
+  draft_changed : (r : Result ℕ Refusal) (s' : List ℕ) → Changed s (old_length p.old) h body p.fresh r s' → Changed s (old_length v) h body fresh r s'
   draft_changed r s' g =
       subst (λ (w : Overview). Changed s (old_length w) h body fresh r s') drafted.0
       (subst (λ (b : Bool). Changed s (old_length p.old) h body b r s') drafted.1 g)
 
 -- ---- what the change asks of its plan
 -- of an insertion
-pub insert_ready : (s : List ℕ) (v : Overview) → AcceptedImage (take (old_length v) s) v → (h : List ℕ) (w : Bool) → w ≡ headword_ok h → not w ≡ false
-    → (t : List ℕ) (x : Bool) → x ≡ text_ok t → not x ≡ false → (b : ℕ) (y : Bool) → y ≡ attribute_ok b → not y ≡ false
+pub insert_ready : (s : List ℕ) (v : Overview) → AcceptedImage (take (old_length v) s) v → (h : List ℕ) → headword_ok h ≡ true → (t : List ℕ) → text_ok t ≡ true → (b : ℕ) → attribute_ok b ≡ true
     → (body : List ℕ) → body ≡ b ∷ t → (p : Draft) → DraftOf s v h body true p → (words : ℕ) → words ≡ words_after v.words p.found
     → PlanCounted (take (old_length p.old) s) h body p.fresh words
-insert_ready s v a h w e₁ q₁ t x e₂ q₂ b y e₃ q₃ body made p drafted words e =
+insert_ready s v a h good t rule b sure body made p drafted words e =
     draft_counted s v h body true p drafted words λ i got.
-    let k = insert_planned (take (old_length v) s) i got h b t (sym e₁ ∙ not-false w q₁) (sym e₂ ∙ not-false x q₂) (sym e₃ ∙ not-false y q₃) in
+    let k = insert_planned (take (old_length v) s) i got h b t good rule sure in
     rw made (k.0, e ∙ ap₂ words_after (words_in (take (old_length v) s) v a i got) (drafted.2.found_is i got) ∙ k.1)
 
 -- of a deletion
-module _ (s : List ℕ) (v : Overview) (a : AcceptedImage (take (old_length v) s) v) (h body : List ℕ) (p : Draft) (drafted : DraftOf s v h body false p) (q : not p.found ≡ false) where
+module _ (s : List ℕ) (v : Overview) (a : AcceptedImage (take (old_length v) s) v) (h body : List ℕ) (p : Draft) (drafted : DraftOf s v h body false p) (q : p.found ≡ true) where
   -- the entry is there
   there : (i : Image) → image_from (take (old_length v) s) ≡ ok i → is_there (lookup h (entries_of i)) ≡ true
-  there i got = sym (drafted.2.found_is i got) ∙ not-false p.found q
+  there i got = sym (drafted.2.found_is i got) ∙ q
 
   -- so there is one
   pub delete_some : 1 ≤ v.words
@@ -237,8 +211,7 @@ unfolding Claim.is_there
 there_some none q = absurd (false≢true q)
 there_some (some e) q = (e, refl)
 
-module _ (s work : List ℕ) (v : Overview) (a : AcceptedImage (take (old_length v) s) v) (inside : old_length v ≤ length s) (enough : length s ≤ length work)
-    (u : Bool) (version : u ≡ writable (layout_named s) s) (h : List ℕ) where
+module _ (s work : List ℕ) (v : Overview) (a : AcceptedImage (take (old_length v) s) v) (inside : old_length v ≤ length s) (enough : length s ≤ length work) (h : List ℕ) where
   -- the bytes of the image
   abbrev L : ℕ
   L = old_length v
@@ -247,106 +220,81 @@ module _ (s work : List ℕ) (v : Overview) (a : AcceptedImage (take (old_length
   blocks : L % 256 ≡ 0
   blocks = whole_blocks (take L s) v a
 
-  -- row 11
-  pub insert_eleven : not u ≡ true → (b : ℕ) (t : List ℕ) → Inserts s L work h b t (LengthAnswer.Refused 11) s
-  unfolding Calls.insert_plan
-  insert_eleven q b t = insert_refuses s L work h b t 11 (rw (change_eleven s L work (omega arith) blocks inside enough v a u version q))
-
-  pub delete_eleven : not u ≡ true → Deletes s L work h (DeleteAnswer.Refused 11) s
-  unfolding Calls.delete_plan
-  delete_eleven q = delete_refuses s L work h 11 (rw (change_eleven s L work (omega arith) blocks inside enough v a u version q))
-
-  module _ (may : not u ≡ false) (w : Bool) (head : w ≡ headword_ok h) where
+  module _ (may : writable (layout_named s) s ≡ true) where
     -- the image may be changed
     image_ok : changeable s L work ≡ ok a.image
-    image_ok = change_may s L work (omega arith) blocks inside enough v a u version may
+    image_ok = change_may s L work (omega arith) blocks inside enough v a may
 
     -- row 12
-    pub insert_twelve : not w ≡ true → (b : ℕ) (t : List ℕ) → Inserts s L work h b t (LengthAnswer.Refused 12) s
-    unfolding Calls.insert_plan
-    insert_twelve q b t = insert_refuses s L work h b t 12 (rw (image_ok, ← head, q))
+    pub insert_twelve : headword_ok h ≡ false → (b : ℕ) (t : List ℕ) → Inserts s L work h b t (Err Refusal.BadHeadword) s
+    unfolding Calls.insert_plan Answers.number_of
+    insert_twelve q b t = insert_refuses s L work h b t Refusal.BadHeadword (rw (image_ok, q))
 
-    pub delete_twelve : not w ≡ true → Deletes s L work h (DeleteAnswer.Refused 12) s
-    unfolding Calls.delete_plan
-    delete_twelve q = delete_refuses s L work h 12 (rw (image_ok, ← head, q))
+    pub delete_twelve : headword_ok h ≡ false → Deletes s L work h (Err Refusal.BadHeadword) s
+    unfolding Calls.delete_plan Answers.number_of
+    delete_twelve q = delete_refuses s L work h Refusal.BadHeadword (rw (image_ok, q))
 
-    -- Insert: row 13, by the text
-    module _ (good : not w ≡ false) (b : ℕ) (t : List ℕ) (x : Bool) (rule : x ≡ text_ok t) where
-      -- the text breaks its rule
-      pub insert_thirteen : not x ≡ true → Inserts s L work h b t (LengthAnswer.Refused 13) s
-      unfolding Calls.insert_plan
-      insert_thirteen q = insert_refuses s L work h b t 13 (rw (image_ok, ← head, good, ← rule, not-true x q))
+    -- Insert
+    module _ (good : headword_ok h ≡ true) (b : ℕ) (t : List ℕ) where
+      -- row 13: the text breaks its rule, or the attribute does
+      pub insert_thirteen : (text_ok t ≡ false) ⊎ ((text_ok t ≡ true) × (attribute_ok b ≡ false)) → Inserts s L work h b t (Err Refusal.BadText) s
+      unfolding Calls.insert_plan Answers.number_of
+      insert_thirteen (inl q) = insert_refuses s L work h b t Refusal.BadText (rw (image_ok, good, q))
+      insert_thirteen (inr (rule, q)) = insert_refuses s L work h b t Refusal.BadText (rw (image_ok, good, rule, q))
 
-      -- and by the attribute
-      module _ (fits : not x ≡ false) (y : Bool) (attribute : y ≡ attribute_ok b) where
-        -- the attribute breaks its rule
-        pub insert_attribute : not y ≡ true → Inserts s L work h b t (LengthAnswer.Refused 13) s
-        unfolding Calls.insert_plan
-        insert_attribute q = insert_refuses s L work h b t 13 (rw (image_ok, ← head, good, ← rule, not-false x fits, ← attribute, q))
-
-        module _ (sure : not y ≡ false) (body : List ℕ) (made : body ≡ b ∷ t) where
+      module _ (rule : text_ok t ≡ true) where
+        module _ (sure : attribute_ok b ≡ true) (body : List ℕ) (made : body ≡ b ∷ t) where
           -- the plan decides
           insert_by : insert_plan s L work h b t ≡ fitting s (planned a.image h body true)
           unfolding Calls.insert_plan EntrySpec.entry_of
           insert_by =
               let F : Format = a.image.frame.format in
               let e : planned a.image h (b ∷ t) true ≡ plan_change F a.image h (replace F.below (entry_of h b t)) = merged_replace (take L s) a.image a.is h (b ∷ t) in
-              rw (image_ok, ← head, good, ← rule, not-false x fits, ← attribute, sure, made, e)
+              rw (image_ok, good, rule, sure, made, e)
 
-          module _ (p : Draft) (drafted : DraftOf s v h body true p) (r : Ending) (s' : List ℕ) (left : Changed s (old_length p.old) h body p.fresh r s') where
-            -- what is left is the change of the image
-            left_of : (y : Ending) → r ≡ y → Changed s L h body true y s'
-            left_of y z = subst (λ (x : Ending). Changed s L h body true x s') z (draft_changed s v h body true p drafted r s' left)
-
-            -- row 15
-            pub insert_fifteen : r ≡ Ending.Full → Inserts s L work h b t (LengthAnswer.Refused 15) s'
-            unfolding Calls.fitting
-            insert_fifteen z =
-                let (k, l) = left_of Ending.Full z a.image a.is in
-                rw l (insert_refuses s L work h b t 15 (rw (insert_by, k)))
-
-            -- the insertion: the image is the plan written
-            pub insert_done : (len : ℕ) → r ≡ Ending.Done len → Inserts s L work h b t (LengthAnswer.Done len) s'
-            unfolding Calls.insert Calls.insert_result Calls.fitting Calls.changed Answers.length_answer
-            insert_done len z =
-                let (k, l, m) = left_of (Ending.Done len) z a.image a.is in
-                (sym (rw (insert_by, k, ← l)), sym (rw (insert_by, k, ← m)))
+          -- what the change comes to: row 15, or the insertion, by which the image is the plan written
+          pub insert_changed : (p : Draft) → DraftOf s v h body true p → (r : Result ℕ Refusal) (s' : List ℕ) → Changed s (old_length p.old) h body p.fresh r s' → Inserts s L work h b t r s'
+          unfolding Calls.insert Calls.insert_result Calls.fitting Calls.changed Answers.length_answer Answers.number_of
+          insert_changed p drafted (Err k) s' left =
+              let (z, g) = draft_changed s v h body true p drafted (Err k) s' left in
+              let (f, l) = g a.image a.is in
+              rw (z, l) (insert_refuses s L work h b t Refusal.Full (rw (insert_by, f)))
+          insert_changed p drafted (Ok len) s' left =
+              let (k, l, m) = draft_changed s v h body true p drafted (Ok len) s' left a.image a.is in
+              (sym (rw (insert_by, k, ← l)), sym (rw (insert_by, k, ← m)))
 
     -- Delete
-    module _ (good : not w ≡ false) (body : List ℕ) (p : Draft) (drafted : DraftOf s v h body false p) where
+    module _ (good : headword_ok h ≡ true) (body : List ℕ) (p : Draft) (drafted : DraftOf s v h body false p) where
       -- whether an entry has the headword
       found : is_there (lookup h (entries_of a.image)) ≡ p.found
       found = sym (drafted.2.found_is a.image a.is)
 
       -- no entry has it
-      pub delete_absent : not p.found ≡ true → Deletes s L work h DeleteAnswer.Absent s
+      pub delete_absent : p.found ≡ false → Deletes s L work h (Ok std.None) s
       unfolding Calls.delete Calls.delete_plan Calls.delete_result Calls.changed Answers.delete_answer
       delete_absent q =
-          let e : lookup h (entries_of a.image) ≡ none = there_none (lookup h (entries_of a.image)) (found ∙ not-true p.found q) in
-          (sym (rw (image_ok, ← head, good, e)), sym (rw (image_ok, ← head, good, e)))
+          let e : lookup h (entries_of a.image) ≡ none = there_none (lookup h (entries_of a.image)) (found ∙ q) in
+          (sym (rw (image_ok, good, e)), sym (rw (image_ok, good, e)))
 
-      module _ (stands : not p.found ≡ false) (r : Ending) (s' : List ℕ) (left : Changed s (old_length p.old) h body p.fresh r s') where
+      module _ (stands : p.found ≡ true) where
         -- the plan decides
         delete_by : delete_plan s L work h ≡ (fitting s (planned a.image h body false) >>= λ p. ok (some p))
         unfolding Calls.delete_plan
         delete_by =
-            let (e, o) = there_some (lookup h (entries_of a.image)) (found ∙ not-false p.found stands) in
-            rw (image_ok, ← head, good, o, merged_remove (take L s) a.image a.is h body)
-
-        -- what is left is the change of the image
-        left_without : (y : Ending) → r ≡ y → Changed s L h body false y s'
-        left_without y z = subst (λ (x : Ending). Changed s L h body false x s') z (draft_changed s v h body false p drafted r s' left)
+            let (e, o) = there_some (lookup h (entries_of a.image)) (found ∙ stands) in
+            rw (image_ok, good, o, merged_remove (take L s) a.image a.is h body)
 
         -- row 15
-        pub delete_fifteen : r ≡ Ending.Full → Deletes s L work h (DeleteAnswer.Refused 15) s'
-        unfolding Calls.fitting
-        delete_fifteen z =
-            let (k, l) = left_without Ending.Full z a.image a.is in
-            rw l (delete_refuses s L work h 15 (rw (delete_by, k)))
+        pub delete_full : (k : Refusal) (s' : List ℕ) → Changed s (old_length p.old) h body p.fresh (Err k) s' → Deletes s L work h (Err k) s'
+        unfolding Calls.fitting Answers.number_of
+        delete_full k s' left =
+            let (z, g) = draft_changed s v h body false p drafted (Err k) s' left in
+            let (f, l) = g a.image a.is in
+            rw (z, l) (delete_refuses s L work h Refusal.Full (rw (delete_by, f)))
 
         -- the deletion: the image is the plan written
-        pub delete_done : (len : ℕ) → r ≡ Ending.Done len → Deletes s L work h (DeleteAnswer.Removed len) s'
+        pub delete_done : (len : ℕ) (s' : List ℕ) → Changed s (old_length p.old) h body p.fresh (Ok len) s' → Deletes s L work h (Ok (std.Some len)) s'
         unfolding Calls.delete Calls.delete_result Calls.fitting Calls.changed Answers.delete_answer
-        delete_done len z =
-            let (k, l, m) = left_without (Ending.Done len) z a.image a.is in
+        delete_done len s' left =
+            let (k, l, m) = draft_changed s v h body false p drafted (Ok len) s' left a.image a.is in
             (sym (rw (delete_by, k, ← l)), sym (rw (delete_by, k, ← m)))

@@ -5,7 +5,6 @@ use mathlib.Core.List.{List, [], ◌∷◌, ◌++◌, map, append_assoc}
 use native.Mathlib.Omega.{arith}
 use lib.ListN.{length, get_or, take, drop, length-append, length-drop}
 use lib.Seq.{take_at, length-take-le}
-use borrow.Author.Rules.{rules}
 use borrow.Author.Tests.{lt-ltb, le-ltb}
 use Rattle.spec.specs.Bytes.{from_little_endian, to_little_endian, write, bytes_at}
 use Rattle.spec.specs.Index.{Element, element_bytes, elements_bytes}
@@ -15,7 +14,7 @@ use Rattle.scans.specs.Scan.{zero_offset}
 use Rattle.scans.proofs.Laws.{split_zero_some}
 use Rattle.spec.proofs.WriteLaws.{write_none, written_behind}
 use Rattle.index.specs.Elements.{element_end, element_headword, element_at, elements_at, elements_end, Inside}
-use Rattle.index.proofs.Laws.{element_end_past, element_headword_length, inside_at, inside_start, here_end, here_next, elements_next}
+use Rattle.index.proofs.Laws.{element_end_past, element_headword_length, inside_at}
 use Rattle.elements.specs.Renewed.{number_after, renewed}
 
 -- ---- renewed numbers
@@ -40,22 +39,6 @@ renewed_none numbers e =
 pub renewed_none_all : (numbers : List ℕ) (es : List Element) → map (renewed numbers 0) es ≡ es
 renewed_none_all numbers [] = refl
 renewed_none_all numbers (e ∷ es) = ap₂ (λ (a : Element) (l : List Element). a ∷ l) (renewed_none numbers e) (renewed_none_all numbers es)
-
--- ---- number_after
--- a moved run that the table puts below g
-pub number_low : (numbers : List ℕ) (g b p : ℕ) → p ≡ get_or numbers b 0 → b < g → p < g → 0 ≡ number_after numbers g b
-number_low numbers g b p e h k = sym (number_moved numbers g b h ∙ omega arith)
-
--- one that it puts elsewhere
-pub number_high : (numbers : List ℕ) (g b p : ℕ) → p ≡ get_or numbers b 0 → b < g → p - g ≡ number_after numbers g b
-number_high numbers g b p e h = sym (number_moved numbers g b h ∙ omega arith)
-
--- a run that did not move
-pub number_past : (numbers : List ℕ) (g b : ℕ) → g ≤ b → b - g ≡ number_after numbers g b
-number_past numbers g b h = sym (number_kept numbers g b h)
-
--- every need of number_after
-pub ruleset number_laws = (number_low, number_high, number_past, rules)
 
 -- ---- block numbers of any width
 module _ (w : ℕ) where
@@ -150,57 +133,44 @@ module _ (w : ℕ) where
   abbrev pub room : List Element → ℕ
   room es = length (elements_bytes w es)
 
-  module _ (index : List ℕ) (pos left end out total : ℕ) (ends : out + room (elements_at w index pos left) ≡ total) (f : end ≡ element_end w index pos) (more : 0 < left) where
-    -- the headword of the next element
-    headword_here : take (end - (pos + w)) (drop (pos + w) index) ≡ element_headword w index pos
-    unfolding element_headword bytes_at
-    headword_here = rw f
-
+  module _ (es ds : List Element) (e : Element) (next : es ≡ e ∷ ds) (out total : ℕ) (ends : out + room es ≡ total) where
     -- the room of the next element and of those behind it
-    room_here : room (elements_at w index pos left) ≡ w + 1 + length (take (end - (pos + w)) (drop (pos + w) index)) + room (elements_at w index (end + 1) (left - 1))
-    unfolding element_at
-    room_here =
-        ap room (elements_next w index pos left more) ∙ elements_size (element_at w index pos) (elements_at w index (element_end w index pos + 1) (left - 1)) ∙ rw (headword_here, f)
+    room_here : room es ≡ w + 1 + length e.headword + room ds
+    room_here = ap room next ∙ elements_size e ds
 
     -- the next element fits
-    pub here_fits : (d : List ℕ) → total ≤ length d → out + w + 1 + length (take (end - (pos + w)) (drop (pos + w) index)) ≤ length d
+    pub here_fits : (d : List ℕ) → total ≤ length d → out + w + 1 + length e.headword ≤ length d
     here_fits d h = omega (arith, room_here)
 
     -- those behind it end as all do
-    pub room_turn : (out₁ : ℕ) → out₁ ≡ out + w + 1 + length (take (end - (pos + w)) (drop (pos + w) index)) → out₁ + room (elements_at w index (end + 1) (left - 1)) ≡ total
-    room_turn out₁ e = omega (arith, room_here)
+    pub room_turn : (out₁ : ℕ) → out₁ ≡ out + w + 1 + length e.headword → out₁ + room ds ≡ total
+    room_turn out₁ q = omega (arith, room_here)
 
     -- those behind it, written behind it
-    pub copy_turn : (numbers d d₁ r : List ℕ) (g out₁ low b : ℕ) → write out (renewed_bytes numbers g (elements_at w index pos left)) d ≡ r
-        → low ≡ from_little_endian (bytes_at pos w index) → b ≡ number_after numbers g low
-        → d₁ ≡ write out (element_bytes w (record { block = b; headword = take (end - (pos + w)) (drop (pos + w) index) })) d
-        → out₁ ≡ out + w + 1 + length (take (end - (pos + w)) (drop (pos + w) index)) → total ≤ length d
-        → write out₁ (renewed_bytes numbers g (elements_at w index (end + 1) (left - 1))) d₁ ≡ r
-    unfolding elements_bytes element_at renewed
-    copy_turn numbers d d₁ r g out₁ low b inv e₁ e₂ e₃ e₄ fits =
-        let x : List ℕ = element_bytes w (renewed numbers g (element_at w index pos)) in
-        let y : List ℕ = renewed_bytes numbers g (elements_at w index (end + 1) (left - 1)) in
-        let m : length x ≡ w + 1 + length (take (end - (pos + w)) (drop (pos + w) index)) = element_size (renewed numbers g (element_at w index pos)) ∙ rw headword_here in
-        let s : d₁ ≡ write out x d = e₃ ∙ rw (headword_here, e₂, e₁) in
-        let t : renewed_bytes numbers g (elements_at w index pos left) ≡ x ++ y = ap (renewed_bytes numbers g) (elements_next w index pos left more) ∙ rw f in
-        written_behind d d₁ _ x y out out₁ (omega (arith, here_fits d fits)) (omega arith) s refl ∙ rw t at inv
+    pub copy_turn : (numbers d d₁ r : List ℕ) (g out₁ b : ℕ) → write out (renewed_bytes numbers g es) d ≡ r → b ≡ number_after numbers g e.block
+        → d₁ ≡ write out (element_bytes w (record { block = b; headword = e.headword })) d → out₁ ≡ out + w + 1 + length e.headword → total ≤ length d
+        → write out₁ (renewed_bytes numbers g ds) d₁ ≡ r
+    unfolding elements_bytes renewed
+    copy_turn numbers d d₁ r g out₁ b inv number put stands fits =
+        let x : List ℕ = element_bytes w (renewed numbers g e) in
+        let y : List ℕ = renewed_bytes numbers g ds in
+        let m : length x ≡ w + 1 + length e.headword = element_size (renewed numbers g e) in
+        let s : d₁ ≡ write out x d = put ∙ rw number in
+        written_behind d d₁ _ x y out out₁ (omega (arith, here_fits d fits)) (omega arith) s refl ∙ rw next at inv
 
   -- at the end nothing is left
-  module _ (index : List ℕ) (pos left out : ℕ) (none : left ≤ 0) where
+  module _ (es : List Element) (none : es ≡ []) (out : ℕ) where
     -- the code stands where all end
-    pub room_end : (total : ℕ) → out + room (elements_at w index pos left) ≡ total → out ≡ total
-    unfolding elements_at elements_bytes
+    pub room_end : (total : ℕ) → out + room es ≡ total → out ≡ total
+    unfolding elements_bytes
     room_end total ends =
-        let k : left ≡ 0 = omega arith in
-        let e : out + 0 ≡ total = rw k at ends in
+        let e : out + 0 ≡ total = rw none at ends in
         omega arith
 
     -- what stands there now is the whole written
-    pub copy_end : (numbers d r : List ℕ) (g : ℕ) → write out (renewed_bytes numbers g (elements_at w index pos left)) d ≡ r → d ≡ r
-    unfolding elements_at elements_bytes
-    copy_end numbers d r g inv =
-        let k : left ≡ 0 = omega arith in
-        sym (write_none d out) ∙ rw k at inv
+    pub copy_end : (numbers d r : List ℕ) (g : ℕ) → write out (renewed_bytes numbers g es) d ≡ r → d ≡ r
+    unfolding elements_bytes
+    copy_end numbers d r g inv = sym (write_none d out) ∙ rw none at inv
 
   -- ---- elements as they are
   -- the headword of an element and its zero byte
@@ -249,6 +219,3 @@ module _ (w : ℕ) where
       ap (λ (k : ℕ). bytes_at at k index) m
       ∙ bytes_at_split index at (e - at) (elements_end w index e n - e)
       ∙ ap₂ (λ (x y : List ℕ). x ++ y) (element_stands index at small p h) (ap (λ (k : ℕ). bytes_at k (elements_end w index e n - e) index) q ∙ elements_stand index e n small i)
-
--- every need of copy_elements
-pub ruleset copy_laws = (inside_start, here_end, here_next, here_fits, room_turn, room_end, copy_turn, copy_end, rules)

@@ -5,11 +5,10 @@ ghost use Rattle.std.specs.Prelude.{◌≡◌, map, ◌+◌, ◌≤◌, ◌<◌,
 ghost use Rattle.spec.specs.Bytes.{write};
 ghost use Rattle.spec.specs.Index.{element_bytes, elements_bytes};
 ghost use Rattle.byteops.specs.Width.{Width};
-ghost use Rattle.index.specs.Elements.{elements_at, Inside};
+ghost use Rattle.index.specs.Walk as walk;
 ghost use Rattle.elements.specs.Renewed.{number_after, renewed};
 
-use byteops::read_number;
-use index::{Place, element_end};
+use index::Elements;
 
 // Stores an element, and answers where it ends.
 pub fn put_element(width: usize, dst: &mut [u8], at: usize, number: usize, headword: &[u8]) -> usize
@@ -27,55 +26,31 @@ pub fn put_element(width: usize, dst: &mut [u8], at: usize, number: usize, headw
     end + 1
 }
 
-// A number of the table.
-fn wide(n: u32) -> usize
-    ensures { result ≡ n }
+// The number of a run after the first blocks, those of the table, became the index's: of one that started among them as the table says.
+pub fn number_after(numbers: &[u32], b: usize) -> usize
+    ensures { result ≡ number_after numbers.now (length numbers.now) b }
 {
-    n as usize
-}
-
-// The number of a run after the first g blocks became the index's: of one that started among them as the table says.
-pub fn number_after(numbers: &[u32], g: usize, b: usize) -> usize
-    requires { g ≤ length numbers.now }
-    ensures { result ≡ number_after numbers.now g b }
-{
+    let g = numbers.len();
     if b < g {
-        let p = wide(numbers[b]);
-        if p < g {
-            return 0;
-        }
-        return p - g;
+        (numbers[b] as usize).saturating_sub(g)
+    } else {
+        b - g
     }
-    b - g
 }
 
 // Stores elements of an index at `at`, with their numbers renewed, and answers where they end.
-pub fn copy_elements(
-    width: usize,
-    dst: &mut [u8],
-    at: usize,
-    index: &[u8],
-    from: Place,
-    numbers: &[u32],
-    g: usize,
-) -> usize
-    requires width { Width width × Inside width index.now from.at from.left }
-    requires g_in_bounds { g ≤ length numbers.now }
-    requires left_in_bounds { at + length (elements_bytes width (elements_at width index.now from.at from.left)) ≤ length dst.old }
+pub fn copy_elements(dst: &mut [u8], at: usize, elements: Elements, numbers: &[u32]) -> usize
+    requires left_in_bounds { at + length (elements_bytes elements.width (walk.elements elements)) ≤ length dst.old }
     ensures dst_after { dst.new
-        ≡ write at (elements_bytes width (map (renewed numbers.now g) (elements_at width index.now from.at from.left))) dst.old }
-    ensures value { result ≡ at + length (elements_bytes width (elements_at width index.now from.at from.left)) }
+        ≡ write at (elements_bytes elements.entry.width (map (renewed numbers.now (length numbers.now)) (walk.elements elements.entry))) dst.old }
+    ensures value { result ≡ at + length (elements_bytes elements.entry.width (walk.elements elements.entry)) }
     ensures dst_len_unchanged { length dst.new ≡ length dst.old }
 {
+    let width = elements.width;
     let mut out = at;
-    let mut pos = from.at;
-    let mut left = from.left;
-    while 0 < left {
-        let end = element_end(width, index, pos);
-        let b = number_after(numbers, g, read_number(index, pos, width));
-        out = put_element(width, dst, out, b, &index[pos + width..end]);
-        pos = end + 1;
-        left -= 1;
+    for element in elements {
+        let b = number_after(numbers, element.number);
+        out = put_element(width, dst, out, b, element.headword);
     }
     out
 }

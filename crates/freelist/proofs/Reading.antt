@@ -28,36 +28,38 @@ unfolding with_marks
 more_marked b (refused k) before after h fl e = absurd (false≢true (cc))
 more_marked b (ok bs) before after h fl e = let q : b ∷ bs ≡ fl = cc in rw (← q) (h bs refl)
 
--- the list from block b on is the whole list's rest with `left` numbers to come, and its marks make the whole list's marks
-pub record Sofar (area : List ℕ) (d first n : ℕ) (used₀ free₀ used free : List ℕ) (b left : ℕ) : Type 0 where
+-- the list from block b on is the whole list's rest after i of its n numbers, and its marks make the whole list's marks
+pub record Sofar (area : List ℕ) (d first n : ℕ) (used₀ free₀ used free : List ℕ) (b i : ℕ) : Type 0 where
   pub fuel : ℕ
-  pub enough : left ≤ fuel
+  pub enough : n - i ≤ fuel
   pub used_length : length used ≡ length used₀
   pub free_length : length free ≡ length free₀
-  pub rest : has_length n (free_list_from d d first area) ≡ has_length left (free_list_from fuel d b area)
+  pub rest : has_length n (free_list_from d d first area) ≡ has_length (n - i) (free_list_from fuel d b area)
   pub used_rest : (ms : List Bool) → Marked (free_list_from fuel d b area) (marks used) ms → Marked (free_list_from d d first area) (marks used₀) ms
   pub free_rest : (ms : List Bool) → Marked (free_list_from fuel d b area) (marks free) ms → Marked (free_list_from d d first area) (marks free₀) ms
 
 -- at the start
-pub list_start : (area : List ℕ) (d first n : ℕ) (used free : List ℕ) → n ≤ d → Sofar area d first n used free used free first n
-list_start area d first n used free h = record { fuel = d; enough = h; used_length = refl; free_length = refl; rest = refl; used_rest = λ ms m. m; free_rest = λ ms m. m }
+pub list_start : (area : List ℕ) (d first n : ℕ) (used free : List ℕ) → n ≤ d → Sofar area d first n used free used free first 0
+list_start area d first n used free h =
+    let e : n - 0 ≡ n = omega arith in
+    record { fuel = d; enough = omega arith; used_length = refl; free_length = refl; rest = rw e; used_rest = λ ms m. m; free_rest = λ ms m. m }
 
-module _ (area : List ℕ) (d first n : ℕ) (used₀ free₀ used free : List ℕ) (b left : ℕ) (v : Sofar area d first n used₀ free₀ used free b left) where
+module _ (area : List ℕ) (d first n : ℕ) (used₀ free₀ used free : List ℕ) (b i : ℕ) (v : Sofar area d first n used₀ free₀ used free b i) where
   -- the fuel is not used up before the numbers
-  fueled : 0 < left → v.fuel ≡ suc (v.fuel - 1)
+  fueled : i < n → v.fuel ≡ suc (v.fuel - 1)
   fueled p = omega (arith, v.enough)
 
   -- what the next turn tells of the whole list's length
-  unrolled : 0 < left → (o : Outcome (List ℕ)) → free_list_from (suc (v.fuel - 1)) d b area ≡ o → has_length n (free_list_from d d first area) ≡ has_length left o
-  unrolled p o e = v.rest ∙ ap (has_length left) (ap (λ (m : ℕ). free_list_from m d b area) (fueled p) ∙ e)
+  unrolled : i < n → (o : Outcome (List ℕ)) → free_list_from (suc (v.fuel - 1)) d b area ≡ o → has_length n (free_list_from d d first area) ≡ has_length (n - i) o
+  unrolled p o e = v.rest ∙ ap (has_length (n - i)) (ap (λ (m : ℕ). free_list_from m d b area) (fueled p) ∙ e)
 
   -- a number too few
-  none_left : 0 < left → has_length left (ok []) ≡ false
+  none_left : i < n → has_length (n - i) (ok []) ≡ false
   unfolding has_length
-  none_left p = ne_eqb 0 left (λ e. omega arith)
+  none_left p = ne_eqb 0 (n - i) (λ e. omega arith)
 
   -- a number that is none of a block's: the end too early, or a refusal
-  pub list_off : 0 < left → d ≤ b → false ≡ has_length n (free_list_from d d first area)
+  pub list_off : i < n → d ≤ b → false ≡ has_length n (free_list_from d d first area)
   unfolding has_length
   list_off p h = go (eqb b free_list_end) refl
     where
@@ -65,7 +67,7 @@ module _ (area : List ℕ) (d first n : ℕ) (used₀ free₀ used free : List �
       go true e = sym (unrolled p (ok []) (free_end (suc (v.fuel - 1)) d b area (eqb-true b free_list_end e)) ∙ none_left p)
       go false e = sym (unrolled p (refused 9) (free_off (v.fuel - 1) d b area (eqb-false b free_list_end e) h))
 
-  module _ (few : d ≤ 0xFFFFFF) (p : 0 < left) (h : b < d) (u : ℕ) (ue : u ≡ from_little_endian (bytes_at (256 * b) 2 area)) where
+  module _ (few : d ≤ 0xFFFFFF) (p : i < n) (h : b < d) (u : ℕ) (ue : u ≡ from_little_endian (bytes_at (256 * b) 2 area)) where
     -- a block's number is not the end
     goes_on : b ≢ free_list_end
     unfolding free_list_end
@@ -86,27 +88,27 @@ module _ (area : List ℕ) (d first n : ℕ) (used₀ free₀ used free : List �
           ap (λ (m : ℕ). free_list_from m d b area) (fueled p) ∙ rw ne (free_next (v.fuel - 1) d b area goes_on h w)
 
       pub list_next : (used' free' : List ℕ) → marks used' ≡ set (marks used) b true → marks free' ≡ set (marks free) b true → length used' ≡ length used → length free' ≡ length free
-          → Sofar area d first n used₀ free₀ used' free' next (left - 1)
+          → Sofar area d first n used₀ free₀ used' free' next (i + 1)
       list_next used' free' um fm ul fl =
-          let k : left ≡ suc (left - 1) = omega arith in
+          let k : n - i ≡ suc (n - (i + 1)) = omega arith in
           record {
             fuel = v.fuel - 1;
             enough = omega (arith, v.enough);
             used_length = ul ∙ v.used_length;
             free_length = fl ∙ v.free_length;
             rest =
-                v.rest ∙ ap (has_length left) onward ∙ ap (λ (l : ℕ). has_length l (free_list_from (v.fuel - 1) d next area >>= (λ bs. ok (b ∷ bs)))) k
-                ∙ more_length (left - 1) b (free_list_from (v.fuel - 1) d next area);
+                v.rest ∙ ap (has_length (n - i)) onward ∙ ap (λ (l : ℕ). has_length l (free_list_from (v.fuel - 1) d next area >>= (λ bs. ok (b ∷ bs)))) k
+                ∙ more_length (n - (i + 1)) b (free_list_from (v.fuel - 1) d next area);
             used_rest = λ ms m. v.used_rest ms (rw onward (more_marked b (free_list_from (v.fuel - 1) d next area) (marks used) ms (rw um at m)));
             free_rest = λ ms m. v.free_rest ms (rw onward (more_marked b (free_list_from (v.fuel - 1) d next area) (marks free) ms (rw fm at m)));
           }
 
   -- after the last number: the list ends here, or it is longer or refused
-  module _ (z : left ≤ 0) where
+  module _ (z : n ≤ i) where
     pub list_end : eqb b 4294967295 ≡ has_length n (free_list_from d d first area)
     unfolding free_list_end
     list_end =
-        let k : left ≡ 0 = omega arith in
+        let k : n - i ≡ 0 = omega arith in
         sym (v.rest ∙ rw k (free_list_none v.fuel d b area))
 
     -- nothing is left to mark

@@ -1,6 +1,8 @@
 -- The fields of a header as code reads them, what its tests and its frame show, and what it is after stores.
-use Rattle.std.proofs.Common.{◌≡◌, ℕ, ◌+◌, ◌-◌, ◌*◌, ◌/◌, ◌%◌, ◌<◌, ◌≤◌, Bool, true, false, not, ◌&&◌, eqb, ltb, leb, List, [], ◌∷◌, ◌++◌, length, get_or, take, drop, sym, refl, ap, ◌∙◌, subst, append-nil, arith, length-drop, take-append-drop, length-take-le, take_all, ltb-false, ltb-true, le-ltb, lt-ltb, eq-eqb, ne_eqb, eqb-true, le-leb}
-use borrow.Author.Tests.{lt-leb, eqb-false, not-true, not-false}
+use Rattle.std.specs.Prelude.{Result, Ok, Err}
+use Rattle.std.proofs.lemmas.Result.{IfOk-at_ok}
+use Rattle.std.proofs.Common.{◌≡◌, ℕ, ◌+◌, ◌-◌, ◌*◌, ◌/◌, ◌%◌, ◌<◌, ◌≤◌, Bool, true, false, not, ◌&&◌, eqb, ltb, List, [], ◌∷◌, ◌++◌, length, get_or, take, drop, sym, refl, ap, ◌∙◌, subst, append-nil, arith, length-drop, take-append-drop, length-take-le, take_all, le-ltb, lt-ltb, eqb-true}
+use borrow.Author.Tests.{eqb-false}
 use Rattle.spec.specs.Outcome.{refused, ok, accepted}
 use Rattle.spec.specs.Bytes.{from_little_endian, to_little_endian, bytes_at, write, zeros}
 use Rattle.spec.specs.Header.{
@@ -44,12 +46,14 @@ use Rattle.spec.proofs.OutcomeLaws.{accepted_answer, refused_only}
 use Rattle.spec.proofs.StoredHeaderLaws as Stored
 use Rattle.spec.proofs.StoredHeaderLaws.{slice_stored}
 use Rattle.spec.proofs.ReadLaws.{FrameFits, frame_fits}
-use Rattle.header.specs.Form.{layout_named, most_of, format_by, frame_by, index_start, area_start, index_part, data_part}
+use Rattle.header.specs.Form.{layout_named, GoodForm, most_of, format_by, frame_by, index_start, area_start, index_part, data_part}
 use Rattle.header.specs.Framed.{framed, FormTold}
 use Rattle.header.specs.declared.Form.{Form}
 use Rattle.header.specs.Fields.{Fixed, Placed, InHeader}
 use Rattle.header.specs.Empty.{size_settings}
-use Rattle.header.specs.declared.Framed.{Framed}
+use Rattle.spec.specs.Answers.{number_of}
+use Rattle.spec.specs.declared.Refusal.{Refusal}
+use Rattle.header.specs.declared.FrameFound.{FrameFound}
 use Rattle.header.specs.declared.Moved.{Moved}
 
 -- ---- fields
@@ -153,28 +157,10 @@ module _ (s : List ℕ) (r : ℕ) where
     pub read_empty_block2 : r ≡ from_little_endian (bytes_at m.empty_block2 4 s) → r ≡ get (layout_named s).empty_block2 s
     read_empty_block2 h = h ∙ sym (get_field _ m.empty_block2 4 p.empty_block2 s)
 
--- ---- row 1, test by test: a length under 256, one that is no multiple of 256, and one against the slice's
-module _ (s : List ℕ) (L : ℕ) where
-  pub slice_short : L < 256 → false ≡ accepted (slice_ok s L)
-  unfolding slice_ok accepted
-  slice_short a = rw (lt-ltb L 256 a)
-
-  pub slice_broken : 256 ≤ L → (L % 256 ≡ 0 → ⊥) → false ≡ accepted (slice_ok s L)
-  unfolding slice_ok accepted
-  slice_broken a b = rw (le-ltb L 256 a, ne_eqb (L % 256) 0 b)
-
-  pub slice_last : 256 ≤ L → L % 256 ≡ 0 → leb L (length s) ≡ accepted (slice_ok s L)
-  unfolding slice_ok accepted
-  slice_last a b = go (ltb (length s) L) refl
-    where
-      go : (t : Bool) → ltb (length s) L ≡ t → leb L (length s) ≡ accepted (slice_ok s L)
-      go true e = rw (le-ltb L 256 a, eq-eqb (L % 256) 0 b, e, lt-leb L (length s) (ltb-true (length s) L e))
-      go false e = rw (le-ltb L 256 a, eq-eqb (L % 256) 0 b, e, le-leb L (length s) (ltb-false (length s) L e))
-
 -- ---- row 3, field by field: version, block_size, header_size, attrlen
 module _ (s : List ℕ) where
   -- the row's tests as code makes them
-  kind_tests : 256 ≤ length s
+  pub kind_tests : 256 ≤ length s
       → kind_ok (layout_named s) s
       ≡ known_version (version_of s) && eqb (from_little_endian (bytes_at 146 2 s)) 256 && eqb (from_little_endian (bytes_at 150 2 s)) 256 && eqb (get_or s 166 0) 1
   unfolding kind_ok
@@ -190,32 +176,10 @@ module _ (s : List ℕ) where
         get_byte 166 s (omega arith),
       )
 
-  module _ (l : 256 ≤ length s) (v : ℕ) (ve : v ≡ version_of s) (k : Bool) (ke : k ≡ known_version v) where
-    known : known_version (version_of s) ≡ k
-    known = ap known_version (sym ve) ∙ sym ke
-
-    pub kind_version : not k ≡ true → false ≡ kind_ok (layout_named s) s
-    kind_version a = sym (kind_tests l ∙ rw (known, not-true k a))
-
-    module _ (a : not k ≡ false) (b : ℕ) (be : b ≡ from_little_endian (bytes_at 146 2 s)) where
-      pub kind_block : (b ≡ 256 → ⊥) → false ≡ kind_ok (layout_named s) s
-      kind_block c = sym (kind_tests l ∙ rw (known, not-false k a, ← be, ne_eqb b 256 c))
-
-      module _ (c : b ≡ 256) (h : ℕ) (he : h ≡ from_little_endian (bytes_at 150 2 s)) where
-        pub kind_header : (h ≡ 256 → ⊥) → false ≡ kind_ok (layout_named s) s
-        kind_header d = sym (kind_tests l ∙ rw (known, not-false k a, ← be, eq-eqb b 256 c, ← he, ne_eqb h 256 d))
-
-        module _ (d : h ≡ 256) where
-          pub kind_attribute : (get_or s 166 0 ≡ 1 → ⊥) → false ≡ kind_ok (layout_named s) s
-          kind_attribute e = sym (kind_tests l ∙ rw (known, not-false k a, ← be, eq-eqb b 256 c, ← he, eq-eqb h 256 d, ne_eqb (get_or s 166 0) 1 e))
-
-          pub kind_whole : get_or s 166 0 ≡ 1 → true ≡ kind_ok (layout_named s) s
-          kind_whole e = sym (kind_tests l ∙ rw (known, not-false k a, ← be, eq-eqb b 256 c, ← he, eq-eqb h 256 d, eq-eqb (get_or s 166 0) 1 e))
-
 -- ---- row 4, field by field: dicorder, dictype, os, index_blkbit, extheader
 module _ (s : List ℕ) (l : 256 ≤ length s) (m : Moved) (p : Placed (layout_named s) m) (q : InHeader m) where
   -- the row's tests as code makes them
-  options_tests : options_ok (layout_named s) s
+  pub options_tests : options_ok (layout_named s) s
       ≡ eqb (get_or s 164 0) 0 && eqb (get_or s 165 0) 0 && eqb (get_or s m.os 0) 0 && eqb (get_or s m.index_blkbit 0) 0 && eqb (from_little_endian (bytes_at m.extheader 4 s)) 0
   unfolding options_ok
   options_tests =
@@ -231,35 +195,15 @@ module _ (s : List ℕ) (l : 256 ≤ length s) (m : Moved) (p : Placed (layout_n
         get_field _ m.extheader 4 p.extheader s,
       )
 
-  pub options_order : (get_or s 164 0 ≡ 0 → ⊥) → false ≡ options_ok (layout_named s) s
-  options_order a = sym (options_tests ∙ rw (ne_eqb (get_or s 164 0) 0 a))
-
-  module _ (a : get_or s 164 0 ≡ 0) where
-    pub options_type : (get_or s 165 0 ≡ 0 → ⊥) → false ≡ options_ok (layout_named s) s
-    options_type b = sym (options_tests ∙ rw (eq-eqb (get_or s 164 0) 0 a, ne_eqb (get_or s 165 0) 0 b))
-
-    module _ (b : get_or s 165 0 ≡ 0) where
-      pub options_os : (get_or s m.os 0 ≡ 0 → ⊥) → false ≡ options_ok (layout_named s) s
-      options_os c = sym (options_tests ∙ rw (eq-eqb (get_or s 164 0) 0 a, eq-eqb (get_or s 165 0) 0 b, ne_eqb (get_or s m.os 0) 0 c))
-
-      module _ (c : get_or s m.os 0 ≡ 0) where
-        pub options_bits : (get_or s m.index_blkbit 0 ≡ 0 → ⊥) → false ≡ options_ok (layout_named s) s
-        options_bits d =
-            sym (options_tests ∙ rw (eq-eqb (get_or s 164 0) 0 a, eq-eqb (get_or s 165 0) 0 b, eq-eqb (get_or s m.os 0) 0 c, ne_eqb (get_or s m.index_blkbit 0) 0 d))
-
-        pub options_extension : (x : ℕ) → get_or s m.index_blkbit 0 ≡ 0 → x ≡ from_little_endian (bytes_at m.extheader 4 s) → eqb x 0 ≡ options_ok (layout_named s) s
-        options_extension x d e =
-            sym (options_tests ∙ rw (eq-eqb (get_or s 164 0) 0 a, eq-eqb (get_or s 165 0) 0 b, eq-eqb (get_or s m.os 0) 0 c, eq-eqb (get_or s m.index_blkbit 0) 0 d, ← e))
-
 -- ---- rows 3 to 5 as `frame` takes them: kind, options, too many index blocks, index past the end, too many data blocks, none of these
 module _ (s : List ℕ) (k : Bool) (ke : k ≡ kind_ok (layout_named s) s) where
-  pub frame_kind : not k ≡ true → framed (layout_named s) (Framed.Refused 3) ≡ frame_from (format_of s) s
-  unfolding framed frame_from format_of format_with
+  pub frame_kind : not k ≡ true → framed (layout_named s) (Err Refusal.BadVersion) ≡ frame_from (format_of s) s
+  unfolding framed number_of frame_from format_of format_with
   frame_kind h = rw (← ke, h)
 
   module _ (kt : not k ≡ false) (o : Bool) (oe : o ≡ options_ok (layout_named s) s) where
-    pub frame_options : not o ≡ true → framed (layout_named s) (Framed.Refused 4) ≡ frame_from (format_of s) s
-    unfolding framed frame_from format_of format_with
+    pub frame_options : not o ≡ true → framed (layout_named s) (Err Refusal.LeftOut) ≡ frame_from (format_of s) s
+    unfolding framed number_of frame_from format_of format_with
     frame_options h = rw (← ke, kt, ← oe, h)
 
     module _ (ot : not o ≡ false) (n : ℕ) (ne : n ≡ from_little_endian (bytes_at 148 2 s)) where
@@ -267,35 +211,31 @@ module _ (s : List ℕ) (k : Bool) (ke : k ≡ kind_ok (layout_named s) s) where
       got : get (layout_named s).index_block s ≡ n
       got = get_field _ 148 2 (fixed s).index_block s ∙ sym ne
 
-      pub frame_index : 32767 < n → framed (layout_named s) (Framed.Refused 5) ≡ frame_from (format_of s) s
-      unfolding framed frame_from format_of format_with
+      pub frame_index : 32767 < n → framed (layout_named s) (Err Refusal.BadAreas) ≡ frame_from (format_of s) s
+      unfolding framed number_of frame_from format_of format_with
       frame_index h = rw (← ke, kt, ← oe, ot, got, lt-ltb 32767 n h)
 
       module _ (nt : n ≤ 32767) (start : ℕ) (at : start ≡ block_position 0 n 0) where
-        pub frame_past : length s < start → framed (layout_named s) (Framed.Refused 5) ≡ frame_from (format_of s) s
-        unfolding framed frame_from format_of format_with
+        pub frame_past : length s < start → framed (layout_named s) (Err Refusal.BadAreas) ≡ frame_from (format_of s) s
+        unfolding framed number_of frame_from format_of format_with
         frame_past h = rw (← ke, kt, ← oe, ot, got, le-ltb 32767 n nt, ← at, lt-ltb (length s) start h)
 
         module _ (lt : start ≤ length s) where
-          pub frame_data : 65536 < (length s - start) / 256 → framed (layout_named s) (Framed.Refused 5) ≡ frame_from (format_of s) s
-          unfolding framed frame_from format_of format_with
+          pub frame_data : 65536 < (length s - start) / 256 → framed (layout_named s) (Err Refusal.BadAreas) ≡ frame_from (format_of s) s
+          unfolding framed number_of frame_from format_of format_with
           frame_data h = rw (← ke, kt, ← oe, ot, got, le-ltb 32767 n nt, ← at, le-ltb (length s) start lt, lt-ltb 65536 ((length s - start) / 256) h)
 
           pub frame_whole : (length s - start) / 256 ≤ 65536
-              → framed (layout_named s) (Framed.Blocks (record { extended = 0; width = 2; order = 0; limit = 1_024 }) n ((length s - start) / 256)) ≡ frame_from (format_of s) s
-          unfolding framed frame_from format_of format_with
+              → framed (layout_named s) (Ok (record { form = record { extended = 0; width = 2; order = 0; limit = 1_024 }; index = n; «data» = (length s - start) / 256 })) ≡ frame_from (format_of s) s
+          unfolding framed number_of frame_from format_of format_with
           frame_whole h = rw (← ke, kt, ← oe, ot, got, le-ltb 32767 n nt, ← at, le-ltb (length s) start lt, le-ltb 65536 ((length s - start) / 256) h)
 
 -- a refusal tells no form, and the one form of document 01 is one that the code takes
-pub no_form : (k : ℕ) → FormTold (Framed.Refused k)
-no_form k f n d e = clash cc
+pub no_form : (r : Refusal) → FormTold (Err r)
+no_form r f e = clash cc
 
-pub one_form : (n d : ℕ) → FormTold (Framed.Blocks (record { extended = 0; width = 2; order = 0; limit = 1_024 }) n d)
-one_form n d f n' d' e =
-    let w : 2 ≡ f.width = cc in
-    let l : 1_024 ≡ f.limit = cc in
-    let x : 0 ≡ f.extended = cc in
-    ((omega arith, omega arith, rw (← w)), omega arith, omega arith, rw (← x))
+pub one_form : (n d : ℕ) → FormTold (Ok (record { form = record { extended = 0; width = 2; order = 0; limit = 1_024 }; index = n; «data» = d }))
+one_form n d f e = IfOk-at_ok (λ (g : FrameFound). GoodForm g.form) e ((omega arith, omega arith, refl), omega arith, omega arith, refl)
 
 -- ---- row 11
 -- the low byte of the version
@@ -343,20 +283,22 @@ counts_stored s s₁ s₂ s₃ s₄ s₅ s₆ m index words first elements block
     )
 
 -- the five stores of the empty image's sizes
-pub sizes_stored : (v : ℕ) (s s₁ s₂ s₃ s₄ s₅ : List ℕ)
+pub sizes_stored : (v n : ℕ) (s s₁ s₂ s₃ s₄ s₅ : List ℕ)
+    → n ≡ v
     → known_version v ≡ true
     → s₁ ≡ write 150 (to_little_endian 2 256) s
     → s₂ ≡ write 146 (to_little_endian 2 256) s₁
     → s₃ ≡ write 144 (to_little_endian 2 3000) s₂
     → s₄ ≡ write 142 (to_little_endian 2 248) s₃
-    → s₅ ≡ write 140 (to_little_endian 2 (256 * v)) s₄
+    → s₅ ≡ write 140 (to_little_endian 2 (256 * n)) s₄
     → s₅ ≡ put_all (size_settings (layout_of v)) s
 unfolding put_all ◌holding◌ size_settings
-sizes_stored v s s₁ s₂ s₃ s₄ s₅ k p₁ p₂ p₃ p₄ p₅ =
+sizes_stored v n s s₁ s₂ s₃ s₄ s₅ e k p₁ p₂ p₃ p₄ p₅ =
     let f : Fixed (layout_of v) = both_fixed v in
     let own : (layout_of v).high_version ≡ v = sym (eqb-true v _ (sym (known_own v) ∙ k)) in
     rw (
       p₅,
+      e,
       put_field _ 140 2 f.version (256 * v) s₄,
       p₄,
       put_field _ 142 2 f.lword 248 s₃,
@@ -422,23 +364,23 @@ empty_inside v ident n e =
     v
 
 -- the stores of the empty image
-pub empty_stored : (k : NewFile) (m : Moved) (s s₁ s₂ s₃ s₄ s₅ s₆ : List ℕ)
-    → Placed (layout_of k.version) m
+pub empty_stored : (k : NewFile) (v : ℕ) (m : Moved) (s s₁ s₂ s₃ s₄ s₅ s₆ : List ℕ)
+    → v ≡ k.version
+    → Placed (layout_of v) m
     → s₁ ≡ write 0 (zeros 256) s
-    → s₂ ≡ put (layout_of k.version).identifier k.identifier s₁
+    → s₂ ≡ put (layout_of v).identifier k.identifier s₁
     → s₃ ≡ write m.empty_block2 (to_little_endian 4 4294967295) s₂
     → s₄ ≡ write 154 (to_little_endian 2 65535) s₃
     → s₅ ≡ write 166 (1 ∷ []) s₄
     → s₆ ≡ put_all (size_settings (layout_of k.version)) s₅
     → s₆ ≡ write 0 (new_image k) s
 unfolding new_image empty_image put_all ◌holding◌ size_settings to_little_endian
-empty_stored k m s s₁ s₂ s₃ s₄ s₅ s₆ p p₁ p₂ p₃ p₄ p₅ p₆ =
-    let v : ℕ = k.version in
+empty_stored k v m s s₁ s₂ s₃ s₄ s₅ s₆ e p p₁ p₂ p₃ p₄ p₅ p₆ =
     let f : Fixed (layout_of v) = both_fixed v in
     let e₅ : s₅ ≡ put (layout_of v).attrlen 1 s₄ = p₅ ∙ put_field _ 166 1 f.attrlen 1 s₄ in
     let e₄ : s₄ ≡ put (layout_of v).empty_block 0xFFFF s₃ = p₄ ∙ put_field _ 154 2 f.empty_block 0xFFFF s₃ in
     let e₃ : s₃ ≡ put (layout_of v).empty_block2 0xFFFFFFFF s₂ = p₃ ∙ put_field _ m.empty_block2 4 p.empty_block2 0xFFFFFFFF s₂ in
-    rw (p₆, e₅, e₄, e₃, p₂, p₁) (put_all_inside (empty_settings (layout_of v) k.identifier) (zeros 256) s (empty_inside v k.identifier (length (zeros 256)) (length_zeros 256)))
+    rw (p₆, ← e, e₅, e₄, e₃, p₂, p₁) (put_all_inside (empty_settings (layout_of v) k.identifier) (zeros 256) s (empty_inside v k.identifier (length (zeros 256)) (length_zeros 256)))
 
 -- the settings of a change lie inside the header
 change_inside : (o : Layout) → LawfulLayout o → (c : Counts) (s : List ℕ) (n : ℕ) → 256 ≤ n → Inside n (change_settings o c s)
@@ -499,16 +441,16 @@ pub layout_kept : (s t : List ℕ) → take 256 s ≡ take 256 t → layout_name
 layout_kept s t h = named s ∙ ap layout_of (front_version s ∙ ap version_of h ∙ sym (front_version t)) ∙ sym (named t)
 
 -- what an answer of `frame` tells
-module _ (s : List ℕ) (r : Framed) (e : framed (layout_named s) r ≡ frame_from (format_of s) s) where
+module _ (s : List ℕ) (r : Result FrameFound Refusal) (e : framed (layout_named s) r ≡ frame_from (format_of s) s) where
   -- a refusal is that of rows 3 to 5
-  pub frame_refused : (k : ℕ) → r ≡ Framed.Refused k → frame_from (format_of s) s ≡ refused k
+  pub frame_refused : (k : Refusal) → r ≡ Err k → frame_from (format_of s) s ≡ refused (number_of k)
   unfolding framed
   frame_refused k h = sym (rw h at e)
 
   -- form and numbers of blocks are the frame's
-  pub frame_read : (f : Form) (n d : ℕ) → r ≡ Framed.Blocks f n d → frame_from (format_of s) s ≡ ok (frame_by (layout_named s) f n d)
+  pub frame_read : (f : FrameFound) → r ≡ Ok f → frame_from (format_of s) s ≡ ok (frame_by (layout_named s) f.form f.index f.«data»)
   unfolding framed
-  frame_read f n d h = sym (rw h at e)
+  frame_read f h = sym (rw h at e)
 
 -- what a frame of n index blocks and d data blocks tells of its image
 module _ (s : List ℕ) (f : Form) (n d : ℕ) (read : frame_from (format_of s) s ≡ ok (frame_by (layout_named s) f n d)) where

@@ -11,11 +11,14 @@ ghost use Rattle.header.specs.Framed.{framed, FormTold};
 ghost use Rattle.header.specs.Fields.{Placed, InHeader};
 ghost use Rattle.header.specs.Empty.{size_settings};
 
+mod area;
+
+pub use area::Area;
 use byteops::{
     LIST_END, LONGEST_HEADWORD, LONGEST_TEXT, read_u16, read_u32, write_u8, write_u16, write_u32,
     write_u64,
 };
-use spec::NewFile;
+use spec::{NewFile, Refusal};
 
 // Offsets of the fields that both versions have at one place, and of version 5's identifier.
 const VERSION: usize = 140;
@@ -60,7 +63,7 @@ pub const MOST_BLOCKS: usize = 65536;
 const RUN_LIMIT: usize = 1024;
 
 // The offsets of the fields that version 5 moves.
-#[derive(Clone, Copy)]
+#[derive(Clone, Copy, Debug, PartialEq, Eq)]
 struct Moved {
     os: usize,
     index_blkbit: usize,
@@ -72,7 +75,8 @@ struct Moved {
 
 // What a file fixes by its header for all that stands behind: the bytes of the extended header, the bytes of a block number in the
 // index, the order of headwords, and the bytes that a part may take when a list is cut.
-#[derive(Clone, Copy)]
+// Kept: the order is a number, as the header's field has it and as `below_of` takes it in every clause that names an order.
+#[derive(Clone, Copy, Debug, PartialEq, Eq)]
 pub struct Form {
     pub extended: usize,
     pub width: usize,
@@ -80,15 +84,23 @@ pub struct Form {
     pub limit: usize,
 }
 
-// The form of an image, and how many blocks its index and its data area have; or the first of rows 3 to 5 that it breaks.
-#[derive(Clone, Copy)]
-pub enum Framed {
-    Blocks {
-        form: Form,
-        index: usize,
-        data: usize,
-    },
-    Refused(u32),
+// The form of an image, and how many blocks its index and its data area have.
+#[derive(Clone, Copy, Debug, PartialEq, Eq)]
+pub struct FrameFound {
+    pub form: Form,
+    pub index: usize,
+    pub data: usize,
+}
+
+// What a change stores of an image's counts: its index blocks, its entries, its first free block, and the index elements and the
+// blocks of its runs.
+#[derive(Clone, Copy, Debug, PartialEq, Eq)]
+pub struct Counts {
+    pub index_blocks: usize,
+    pub entries: usize,
+    pub first_free: usize,
+    pub elements: usize,
+    pub run_blocks: usize,
 }
 
 // The position in the file of data block b, behind an extended header of so many bytes and so many index blocks. The page of the
@@ -107,47 +119,40 @@ pub fn position(extended: usize, index: usize, b: usize) -> usize
 pub fn slice_ok(s: &[u8], len: usize) -> bool
     ensures { result ≡ accepted (slice_ok s.now len) }
 {
-    if len < HEADER {
-        return false;
-    }
-    if len % 256 != 0 {
-        return false;
-    }
-    len <= s.len()
+    HEADER <= len && len % 256 == 0 && len <= s.len()
 }
 
 // Whether a high version byte is one that row 3 lets pass.
 pub fn known_version(version: usize) -> bool
     ensures { result ≡ known_version version }
 {
-    if version == VERSION_5 {
-        return true;
-    }
-    version == VERSION_4
+    version == VERSION_4 || version == VERSION_5
 }
 
 // Where a version has the moved fields. Every version but 5 is read as 4; row 3 refuses those that are not 4.
+// Kept: the version is a number, since the layout is that of 4 for every number but 5; an enum of the kinds would need a case for the numbers that are neither.
 fn places_of(version: usize) -> Moved
     ensures placed { Placed (layout_of version) result }
     ensures in_header { InHeader result }
 {
     if version == VERSION_5 {
-        return Moved {
+        Moved {
             os: 167,
             index_blkbit: 182,
             extheader: 184,
             empty_block2: 188,
             nindex2: 192,
             nblock2: 196,
-        };
-    }
-    Moved {
-        os: 171,
-        index_blkbit: 198,
-        extheader: 182,
-        empty_block2: 186,
-        nindex2: 190,
-        nblock2: 194,
+        }
+    } else {
+        Moved {
+            os: 171,
+            index_blkbit: 198,
+            extheader: 182,
+            empty_block2: 186,
+            nindex2: 190,
+            nblock2: 194,
+        }
     }
 }
 
@@ -169,13 +174,13 @@ fn places(s: &[u8]) -> Moved
 }
 
 // The number of index elements.
+// Kept: each field has a function by its name; what the four share is one line, `read_u32` at its place.
 pub fn nindex2(s: &[u8]) -> usize
     requires { 256 ≤ length s.now }
     ensures value { result ≡ get (layout_named s.now).nindex2 s.now }
     ensures upper_bound { result < 4294967296 }
 {
-    let at = places(s);
-    read_u32(s, at.nindex2)
+    read_u32(s, places(s).nindex2)
 }
 
 // The number of entries.
@@ -193,8 +198,7 @@ pub fn nblock2(s: &[u8]) -> usize
     ensures value { result ≡ get (layout_named s.now).nblock2 s.now }
     ensures upper_bound { result < 4294967296 }
 {
-    let at = places(s);
-    read_u32(s, at.nblock2)
+    read_u32(s, places(s).nblock2)
 }
 
 // The first free block.
@@ -203,8 +207,7 @@ pub fn empty_block2(s: &[u8]) -> usize
     ensures value { result ≡ get (layout_named s.now).empty_block2 s.now }
     ensures upper_bound { result < 4294967296 }
 {
-    let at = places(s);
-    read_u32(s, at.empty_block2)
+    read_u32(s, places(s).empty_block2)
 }
 
 // Whether the header is of a known kind of file: row 3.
@@ -212,19 +215,10 @@ fn kind_ok(s: &[u8]) -> bool
     requires { 256 ≤ length s.now }
     ensures { result ≡ kind_ok (layout_named s.now) s.now }
 {
-    if !known_version(version(s)) {
-        return false;
-    }
-    if read_u16(s, BLOCK_SIZE) != 256 {
-        return false;
-    }
-    if read_u16(s, HEADER_SIZE) != 256 {
-        return false;
-    }
-    if s[ATTRLEN] != 1 {
-        return false;
-    }
-    true
+    known_version(version(s))
+        && read_u16(s, BLOCK_SIZE) == 256
+        && read_u16(s, HEADER_SIZE) == 256
+        && s[ATTRLEN] == 1
 }
 
 // Whether the header asks for nothing that is left out: row 4.
@@ -233,34 +227,24 @@ fn options_ok(s: &[u8]) -> bool
     ensures { result ≡ options_ok (layout_named s.now) s.now }
 {
     let at = places(s);
-    let os = at.os;
-    let bits = at.index_blkbit;
-    if s[DICORDER] != 0 {
-        return false;
-    }
-    if s[DICTYPE] != 0 {
-        return false;
-    }
-    if s[os] != 0 {
-        return false;
-    }
-    if s[bits] != 0 {
-        return false;
-    }
-    read_u32(s, at.extheader) == 0
+    s[DICORDER] == 0
+        && s[DICTYPE] == 0
+        && s[at.os] == 0
+        && s[at.index_blkbit] == 0
+        && read_u32(s, at.extheader) == 0
 }
 
 // The frame of the image in all bytes of `s`: rows 3 to 5.
-pub fn frame(s: &[u8]) -> Framed
+pub fn frame(s: &[u8]) -> Result<FrameFound, Refusal>
     requires { 256 ≤ length s.now }
     ensures result_value { framed (layout_named s.now) result ≡ frame_from (format_of s.now) s.now }
     ensures form_told { FormTold result }
 {
     if !kind_ok(s) {
-        return Framed::Refused(3);
+        return Err(Refusal::BadVersion);
     }
     if !options_ok(s) {
-        return Framed::Refused(4);
+        return Err(Refusal::LeftOut);
     }
     let form = Form {
         extended: 0,
@@ -271,20 +255,16 @@ pub fn frame(s: &[u8]) -> Framed
     let index = read_u16(s, INDEX_BLOCK);
     let start = position(form.extended, index, 0);
     if MOST_INDEX_BLOCKS < index {
-        return Framed::Refused(5);
+        return Err(Refusal::BadAreas);
     }
     if s.len() < start {
-        return Framed::Refused(5);
+        return Err(Refusal::BadAreas);
     }
     let data = (s.len() - start) / 256;
     if MOST_BLOCKS < data {
-        return Framed::Refused(5);
+        return Err(Refusal::BadAreas);
     }
-    Framed::Blocks {
-        form: form,
-        index: index,
-        data: data,
-    }
+    Ok(FrameFound { form, index, data })
 }
 
 // Whether the image may be changed: row 11.
@@ -301,31 +281,24 @@ fn next_update(s: &[u8]) -> usize
     ensures { result ≡ (get (layout_named s.now).update_count s.now + 1) % 4294967296 }
 {
     let count = read_u32(s, UPDATE_COUNT) as u32;
-    std::num::wrapping_add_u32(count, 1) as usize
+    count.wrapping_add(1) as usize
 }
 
 // Stores the counts of a change, and adds one to the update count.
-pub fn write_counts(
-    s: &mut [u8],
-    index: usize,
-    words: usize,
-    first: usize,
-    elements: usize,
-    blocks: usize,
-)
+pub fn write_counts(s: &mut [u8], counts: Counts)
     requires { 256 ≤ length s.old }
     ensures s_after { s.new ≡ changed_header (layout_named s.old)
-        (record { index_blocks = index; entries = words; first_free = first; elements = elements; run_blocks = blocks }) s.old }
+        (record { index_blocks = counts.index_blocks; entries = counts.entries; first_free = counts.first_free; elements = counts.elements; run_blocks = counts.run_blocks }) s.old }
     ensures s_len_unchanged { length s.new ≡ length s.old }
 {
     let at = places(s);
     let update = next_update(s);
     write_u32(s, UPDATE_COUNT, update);
-    write_u32(s, at.nblock2, blocks);
-    write_u32(s, at.nindex2, elements);
-    write_u32(s, at.empty_block2, first);
-    write_u32(s, NWORD, words);
-    write_u16(s, INDEX_BLOCK, index);
+    write_u32(s, at.nblock2, counts.run_blocks);
+    write_u32(s, at.nindex2, counts.elements);
+    write_u32(s, at.empty_block2, counts.first_free);
+    write_u32(s, NWORD, counts.entries);
+    write_u16(s, INDEX_BLOCK, counts.index_blocks);
 }
 
 // Stores the version and the sizes of the empty image.
@@ -338,7 +311,7 @@ fn write_sizes(s: &mut [u8], version: u8)
     write_u16(s, BLOCK_SIZE, 256);
     write_u16(s, LJAPA, LONGEST_TEXT);
     write_u16(s, LWORD, LONGEST_HEADWORD);
-    write_u16(s, VERSION, 256 * (version as usize));
+    write_u16(s, VERSION, 256 * usize::from(version));
 }
 
 // Stores the identifier, where the version has one.
@@ -347,10 +320,9 @@ fn write_identifier(s: &mut [u8], version: usize, identifier: usize)
     ensures s_after { s.new ≡ put (layout_of version).identifier identifier s.old }
     ensures s_len_unchanged { length s.new ≡ length s.old }
 {
-    if version != VERSION_5 {
-        return;
+    if version == VERSION_5 {
+        write_u64(s, IDENTIFIER, identifier);
     }
-    write_u64(s, IDENTIFIER, identifier);
 }
 
 // Stores the empty image of a new file.
@@ -359,7 +331,7 @@ pub fn write_empty(s: &mut [u8], new: NewFile)
     ensures s_after { s.new ≡ write 0 (new_image new) s.old }
     ensures s_len_unchanged { length s.new ≡ length s.old }
 {
-    let version = new.version as usize;
+    let version = usize::from(new.version);
     let at = places_of(version);
     byteops::fill_zero(s, 0, HEADER);
     write_identifier(s, version, new.identifier as usize);

@@ -13,7 +13,7 @@ use borrow.Author.Tests.{lt-ltb, le-ltb, ltb-true, ltb-false}
 use Rattle.spec.specs.Order.{HeadwordOrder}
 use Rattle.spec.specs.Outcome.{Outcome, refused, ok, ◌>>=◌, ◌>>◌, refuse◌when◌, accepted}
 use Rattle.spec.specs.Bytes as Bytes
-use Rattle.spec.specs.Bytes.{from_little_endian, no_zero, all_zero, split_zero}
+use Rattle.spec.specs.Bytes.{from_little_endian, bytes_at, no_zero, all_zero, split_zero}
 use Rattle.spec.specs.Entry.{headword_ok}
 use Rattle.spec.specs.Index.{Element, elements_from, index_from}
 use Rattle.spec.proofs.ListsLaws.{clash}
@@ -24,7 +24,8 @@ use Rattle.scans.specs.Scan.{zero_offset}
 use Rattle.scans.proofs.Laws.{split_zero_some, split_zero_none, zero_offset_le, no_zero_before}
 use Rattle.index.specs.Elements.{element_end, element_headword, element_at, elements_at, elements_end, ended, Inside, concerned_from}
 use Rattle.index.specs.declared.Place.{Place}
-use Rattle.index.specs.declared.Ended.{Ended}
+use Rattle.spec.specs.declared.Refusal.{Refusal}
+use Rattle.std.specs.Prelude.{Result, Ok, Err}
 
 -- an element, where its headword may follow prev, in front of those read behind it
 unfoldable pub element_then : HeadwordOrder → List ℕ → Element → Outcome (List Element) → Outcome (List Element)
@@ -44,21 +45,21 @@ then_ok below prev e rest es h =
     let c = bind_ok rest (λ es. ok (e ∷ es)) es b.1 in
     (c.0, c.1, let q : ok (e ∷ c.0) ≡ ok es = c.2 in cc)
 
--- elements of which the answer tells that they break a rule, and where they end
-module _ (t : Bool) (k : ℕ) (r : Ended) (h : r ≡ ended t k) where
-  pub ended_broken : r ≡ Ended.Broken → t ≡ false
+-- elements of which the answer tells that they break row 6, or where they end
+module _ (t : Bool) (k : ℕ) (r : Result ℕ Refusal) (h : r ≡ ended t k) where
+  pub ended_broken : (e : Refusal) → r ≡ Err e → (t ≡ false) × (e ≡ Refusal.BadIndex)
   unfolding ended
-  ended_broken b = go t (sym b ∙ h)
+  ended_broken e b = go t (sym b ∙ h)
     where
-      go : (t : Bool) → Ended.Broken ≡ ended t k → t ≡ false
-      go true e = clash cc
-      go false e = refl
+      go : (t : Bool) → Err e ≡ ended t k → (t ≡ false) × (e ≡ Refusal.BadIndex)
+      go true q = clash cc
+      go false q = (refl, cc)
 
-  pub ended_at : (e : ℕ) → r ≡ Ended.At e → (t ≡ true) × (e ≡ k)
+  pub ended_at : (e : ℕ) → r ≡ Ok e → (t ≡ true) × (e ≡ k)
   unfolding ended
   ended_at e b = go t (sym b ∙ h)
     where
-      go : (t : Bool) → Ended.At e ≡ ended t k → (t ≡ true) × (e ≡ k)
+      go : (t : Bool) → Ok e ≡ ended t k → (t ≡ true) × (e ≡ k)
       go true q = (refl, cc)
       go false q = clash cc
 
@@ -225,6 +226,17 @@ module _ (w : ℕ) where
   unfolding elements_at
   elements_count index at zero = refl
   elements_count index at (suc n) = ap suc (elements_count index (element_end w index at + 1) n)
+
+  -- no element is left
+  pub elements_none_left : (index : List ℕ) (at left : ℕ) → left ≤ 0 → elements_at w index at left ≡ []
+  unfolding elements_at
+  elements_none_left index at left p = let none : left ≡ 0 = omega arith in rw none
+
+  -- the element that an iterator gives, and those left then, are those that were left
+  pub element_given : (index : List ℕ) (at left e n : ℕ) → 0 < left → e ≡ element_end w index at → n ≡ from_little_endian (bytes_at at w index)
+      → elements_at w index at left ≡ record { block = n; headword = bytes_at (at + w) (e - (at + w)) index } ∷ elements_at w index (e + 1) (left - 1)
+  unfolding element_at element_headword
+  element_given index at left e n p q r = rw (q, r) (elements_next index at left p)
 
   -- ---- where elements end
   -- the end from the next element on

@@ -23,7 +23,8 @@ use Rattle.spec.proofs.RunLaws.{headword_by}
 use Rattle.scans.specs.Scan.{zero_offset}
 use Rattle.index.specs.Elements.{element_end, element_headword, element_at, elements_end, ended, concerned_from, Inside}
 use Rattle.index.specs.declared.Place.{Place}
-use Rattle.index.specs.declared.Ended.{Ended}
+use Rattle.spec.specs.declared.Refusal.{Refusal}
+use Rattle.std.specs.Prelude.{Ok, Err}
 use Rattle.index.proofs.Laws.{element_then, element_headword_length, element_headword_clear, element_short, element_open, element_read}
 use Rattle.index.proofs.Laws.{concerned_here, concerned_later, inside_start, here_end, here_next, end_turn, end_last}
 
@@ -61,10 +62,15 @@ module _ (below : HeadwordOrder) (prev : List ℕ) (e : Element) (rest : Outcome
       go true p = rw (p, q)
       go false p = rw p
 
--- elements that are not accepted are told to break a rule
-pub told_broken : (t : Bool) (e : ℕ) → false ≡ t → Ended.Broken ≡ ended t e
+-- elements that are not accepted are told to break row 6
+pub told_broken : (t : Bool) (e : ℕ) → false ≡ t → Err Refusal.BadIndex ≡ ended t e
 unfolding ended
 told_broken t e h = rw (← h)
+
+-- elements end where those behind the first of them do
+pub end_behind : (w : ℕ) (index : List ℕ) (at left others z r : ℕ) → elements_end w index at left ≡ r → others ≡ left - 1 → z ≡ element_end w index at → 0 < left
+    → elements_end w index (z + 1) others ≡ r
+end_behind w index at left others z r h k f p = rw k (end_turn w index at left z r h f p)
 
 -- ---- any width of block numbers, any order
 module _ (w o : ℕ) where
@@ -104,11 +110,11 @@ module _ (w o : ℕ) where
         end_dirty u = sym (not-true r u) ∙ zeros_decide
 
         -- the elements end here
-        pub end_reached : (e : ℕ) → elements_end w index at left ≡ e → not r ≡ false → Ended.At at ≡ ended (accepted (elements_from w (below_of o) n [] index)) e
+        pub end_reached : (e : ℕ) → elements_end w index at left ≡ e → not r ≡ false → Ok at ≡ ended (accepted (elements_from w (below_of o) n [] index)) e
         unfolding ended
         end_reached e g u =
             let fine : accepted (elements_from w (below_of o) n [] index) ≡ true = sym zeros_decide ∙ not-false r u in
-            rw (fine, ended) (ap Ended.At (end_last w index at left e g p))
+            rw (fine, ended) (ap Ok (end_last w index at left e g p))
 
       module _ (more : 0 < left) (wide : 1 ≤ w) where
         again : accepted (elements_from w (below_of o) n [] index) ≡ accepted (elements_from w (below_of o) (suc (left - 1)) (bytes_at start (end - start) index) (drop at index))
@@ -162,15 +168,15 @@ module _ (w o : ℕ) where
                   (elements_from w (below_of o) (left - 1) (element_headword w index at) (drop (element_end w index at + 1) index)) (order ∙ not-true b t))
 
               -- an element by its rules
-              pub element_good : z - (at + w) ≤ 248 → not b ≡ false
-                  → accepted (elements_from w (below_of o) n [] index) ≡ accepted (elements_from w (below_of o) (left - 1) (bytes_at (at + w) (z - (at + w)) index) (drop (z + 1) index))
+              pub element_good : (others : ℕ) → others ≡ left - 1 → z - (at + w) ≤ 248 → not b ≡ false
+                  → accepted (elements_from w (below_of o) n [] index) ≡ accepted (elements_from w (below_of o) others (bytes_at (at + w) (z - (at + w)) index) (drop (z + 1) index))
               unfolding element_at element_headword
-              element_good p t =
+              element_good others k p t =
                   let up : below_of o (bytes_at start (end - start) index) (element_headword w index at) ≡ true = order ∙ not-false b t in
                   let fine : headword_ok (element_headword w index at) ≡ true = headword_by (element_headword w index at)
                   (above_some (below_of o) (order_of o) (bytes_at start (end - start) index) (element_headword w index at) up) (omega (arith, size))
                   (element_headword_clear w index at) in
-                  rw f (behind
+                  rw (k, f) (behind
                   ∙ then_taken (below_of o) (bytes_at start (end - start) index)
                   (element_at w index at) (elements_from w (below_of o) (left - 1) (element_headword w index at) (drop (element_end w index at + 1) index)) fine up)
 
@@ -217,6 +223,6 @@ module _ (w o : ℕ) where
     next_end z g = here_end w index (end + 1) (left - 1) z next_inside g (omega arith)
 
 -- every need of read_elements, and of concerned
-pub ruleset elements_laws = (elements_start, told_broken, end_short, end_dirty, end_reached, number_cut, zero_missing, headword_over, headword_low, end_turn, rules)
+pub ruleset elements_laws = (elements_start, told_broken, end_short, end_dirty, end_reached, number_cut, zero_missing, headword_over, headword_low, rules)
 
 pub ruleset concerned_laws = (inside_start, here_end, next_inside, next_start, next_end, concerned_last, concerned_found, concerned_turn, rules)

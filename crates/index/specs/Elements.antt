@@ -1,11 +1,12 @@
 -- The elements of an index by where they stand, under no rule.
-use Rattle.std.specs.Prelude.{ℕ, zero, suc, ◌+◌, ◌-◌, ◌≤◌, ◌<◌, Bool, true, false, List, [], ◌∷◌, length, drop}
+use Rattle.std.specs.Prelude.{ℕ, zero, suc, ◌+◌, ◌-◌, ◌≤◌, ◌<◌, Bool, true, false, List, [], ◌∷◌, length, drop, Result, Ok, Err}
+use Rattle.std.specs.Coded.{le_prop}
 use Rattle.spec.specs.Order.{HeadwordOrder}
 use Rattle.spec.specs.Bytes.{from_little_endian, bytes_at}
 use Rattle.spec.specs.Index.{Element}
 use Rattle.scans.specs.Scan.{zero_offset}
 use Rattle.index.specs.declared.Place.{Place}
-use Rattle.index.specs.declared.Ended.{Ended}
+use Rattle.spec.specs.declared.Refusal.{Refusal}
 
 -- where the zero byte of the element at `at` is
 unfoldable pub element_end : ℕ → List ℕ → ℕ → ℕ
@@ -29,15 +30,20 @@ unfoldable pub elements_end : ℕ → List ℕ → ℕ → ℕ → ℕ
 elements_end w index at zero = at
 elements_end w index at (suc n) = elements_end w index (element_end w index at + 1) n
 
--- the answer about elements that end at e, by whether they keep their rules
-unfoldable pub ended : Bool → ℕ → Ended
-ended true e = Ended.At e
-ended false e = Ended.Broken
+-- the answer about elements that end at e, by whether they keep their rules: row 6
+unfoldable pub ended : Bool → ℕ → Result ℕ Refusal
+ended true e = Ok e
+ended false e = Err Refusal.BadIndex
 
 -- n elements from `at` on stand inside the index, each with its zero byte
 abbrev pub Inside : ℕ → List ℕ → ℕ → ℕ → Type 0
 Inside w index at zero = at ≤ length index
 Inside w index at (suc n) = (at + w ≤ length index) × (element_end w index at < length index) × Inside w index (element_end w index at + 1) n
+
+-- there is one proof of that at most
+pub inside_prop : (w : ℕ) (index : List ℕ) (at n : ℕ) → IsProp (Inside w index at n)
+inside_prop w index at zero = le_prop
+inside_prop w index at (suc n) = let rest = inside_prop w index (element_end w index at + 1) n in Prim.hlevel (le_prop, rest)
 
 -- of n + 1 elements from `at` on the last before the first, from the second on, whose headword is above h
 unfoldable pub concerned_from : ℕ → HeadwordOrder → List ℕ → List ℕ → ℕ → ℕ → Place

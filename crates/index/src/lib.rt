@@ -7,20 +7,17 @@ ghost use Rattle.spec.specs.Order.{below_of};
 ghost use Rattle.spec.specs.Index.{elements_from};
 ghost use Rattle.index.specs.Elements.{element_end, elements_end, ended, Inside, concerned_from};
 
+mod walk;
+
 use byteops::LONGEST_HEADWORD;
+use spec::Refusal;
+pub use walk::{Element, Elements};
 
 // An element of the index: where it starts, and how many elements there are from it on.
-#[derive(Clone, Copy)]
+#[derive(Clone, Copy, Debug, PartialEq, Eq)]
 pub struct Place {
     pub at: usize,
     pub left: usize,
-}
-
-// Where the elements of an index end, or that they break a rule.
-#[derive(Clone, Copy)]
-pub enum Ended {
-    Broken,
-    At(usize),
 }
 
 // Where the zero byte of the element at `at` is.
@@ -33,41 +30,44 @@ pub fn element_end(width: usize, index: &[u8], at: usize) -> usize
 }
 
 // Where so many elements of the index end, if they stand there by their rules, and then zeros, at least four, up to its end: row 6.
-pub fn read_elements(width: usize, order: usize, index: &[u8], elements: usize) -> Ended
+pub fn read_elements(
+    width: usize,
+    order: usize,
+    index: &[u8],
+    elements: usize,
+) -> Result<usize, Refusal>
     requires { 1 ≤ width }
     ensures { result ≡ ended (accepted (elements_from width (below_of order) elements [] index.now)) (elements_end width index.now 0 elements) }
 {
     let mut at = 0;
-    let mut left = elements;
     // the headword before stands from `start` up to `end`
     let mut start = 0;
     let mut end = 0;
-    while 0 < left {
+    for _ in 0..elements {
         if index.len() - at < width {
-            return Ended::Broken;
+            return Err(Refusal::BadIndex);
         }
         let zero = element_end(width, index, at);
         if index.len() <= zero {
-            return Ended::Broken;
+            return Err(Refusal::BadIndex);
         }
         if LONGEST_HEADWORD < zero - (at + width) {
-            return Ended::Broken;
+            return Err(Refusal::BadIndex);
         }
         if !scans::is_below(order, &index[start..end], &index[at + width..zero]) {
-            return Ended::Broken;
+            return Err(Refusal::BadIndex);
         }
         start = at + width;
         end = zero;
         at = zero + 1;
-        left -= 1;
     }
     if index.len() - at < 4 {
-        return Ended::Broken;
+        return Err(Refusal::BadIndex);
     }
     if !scans::all_zero(index, at, index.len()) {
-        return Ended::Broken;
+        return Err(Refusal::BadIndex);
     }
-    Ended::At(at)
+    Ok(at)
 }
 
 // The element of the run concerned: the last whose headword is not above `h`, else the first.
@@ -78,18 +78,19 @@ pub fn concerned(width: usize, order: usize, index: &[u8], elements: usize, h: &
     ensures le_left { (1 ≤ result.left) × Inside width index.now result.at result.left }
 {
     let mut at = 0;
-    let mut left = elements;
     // where the zero byte of the element at `at` is
     let mut end = element_end(width, index, 0);
-    while 1 < left {
+    for behind in (1..elements).rev() {
         let next = end + 1;
         let zero = element_end(width, index, next);
         if scans::is_below(order, h, &index[next + width..zero]) {
-            return Place { at: at, left: left };
+            return Place {
+                at,
+                left: behind + 1,
+            };
         }
         at = next;
         end = zero;
-        left -= 1;
     }
-    Place { at: at, left: left }
+    Place { at, left: 1 }
 }

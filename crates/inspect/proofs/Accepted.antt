@@ -12,7 +12,7 @@ use Rattle.spec.specs.Order.{HeadwordOrder, below_of}
 use Rattle.spec.specs.Header.{format_of, block_position, get}
 use Rattle.spec.specs.Entry.{Entry}
 use Rattle.spec.specs.Run.{Run}
-use Rattle.spec.specs.Index.{index_from}
+use Rattle.spec.specs.Index.{Element, index_from}
 use Rattle.spec.specs.Check as CheckSpec
 use Rattle.spec.specs.Check.{Frame, Image, index_area, data_area, frame_from, runs_from, image_from, all_entries, entries_of}
 use Rattle.spec.specs.SortedList.{lookup, successor}
@@ -21,7 +21,6 @@ use Rattle.spec.proofs.OrderLaws.{order_of}
 use Rattle.spec.proofs.ReadLaws.{ImageTold, image_told, runs_ascend}
 use Rattle.spec.proofs.SearchLaws.{exactly, entries_ascend, lookup_by_successor}
 use Rattle.index.specs.Elements.{elements_at, Inside}
-use Rattle.byteops.specs.Width.{Width}
 use Rattle.header.specs.Form.{layout_named, most_of, format_by, frame_by, area_start, index_cut, data_cut}
 use Rattle.header.proofs.Laws.{frame_format, image_by_form, frame_index_few, frame_index_inside, frame_data_few, frame_length_is, index_slice, data_slice}
 use Rattle.inspect.specs.Overview.{AcceptedImage}
@@ -66,19 +65,11 @@ module _ (s : List ℕ) (v : Overview) (a : AcceptedImage s v) where
   pub accepted_whole : length s % 256 ≡ 0 → block_position v.form.extended v.n v.d ≡ length s
   accepted_whole m = frame_length_is s v.form v.n v.d read m a.good.3
 
-  -- its block numbers have two or four bytes
-  pub accepted_width : Width v.form.width
-  accepted_width = a.good.0
-
 -- an accepted image whose data blocks begin at `start`
 module _ (s : List ℕ) (v : Overview) (a : AcceptedImage s v) (start : ℕ) (here : start ≡ area_start v.form v.n) where
   -- its data area is the rest
   pub accepted_area : length s % 256 ≡ 0 → 256 * v.d ≡ length (data_cut s start)
   accepted_area m = data_long s v.form v.n v.d (accepted_whole s v a m) start here
-
-  -- which four bytes can count
-  pub accepted_short : length s % 256 ≡ 0 → length (data_cut s start) ≤ 4_294_967_040
-  accepted_short m = omega (arith, accepted_area m, accepted_blocks s v a)
 
   module _ (e : ℕ) (number : e ≡ get (layout_named s).nindex2 s) where
     stands : ((accepted_told s v a).elements ≡ elements_at v.form.width (index_cut v.form s start) 0 e) × Inside v.form.width (index_cut v.form s start) 0 e
@@ -101,30 +92,30 @@ module _ (s : List ℕ) (v : Overview) (a : AcceptedImage s v) (start : ℕ) (he
         = ap (λ (g : Frame). data_area g s) a.frame_is ∙ data_slice (layout_named s) v.form s v.n v.d ∙ sym (ap (data_cut s) here) in
         rw (← p, ← q, ← stands.0) (accepted_told s v a).runs
 
-    -- the entry sought in the runs is the one sought in any image that is read from the bytes
-    pub accepted_sought : (x : Option Entry) (above : Bool) (h : List ℕ)
-        → ((rs : List Run) → runs_from (below_of v.form.order) v.d (data_cut s start) (elements_at v.form.width (index_cut v.form s start) 0 e) ≡ ok rs
-        → x ≡ successor (below_of v.form.order) above h (all_entries rs))
-        → (i : Image) → image_from s ≡ ok i → x ≡ successor i.frame.format.below above h (entries_of i)
+    -- as they are those of any image that is read from the bytes
+    pub runs_same : (i : Image) → image_from s ≡ ok i → runs_from (below_of v.form.order) v.d (data_cut s start) (elements_at v.form.width (index_cut v.form s start) 0 e) ≡ ok i.runs
+    runs_same i o = rw (← same_value a.image i (sym a.is ∙ o)) accepted_runs
+
+-- what is sought in the runs of an image that is read from the bytes, in the code's order
+module _ (s : List ℕ) (v : Overview) (a : AcceptedImage s v) (i : Image) (o : image_from s ≡ ok i) where
+  -- its order is that of the form
+  read_below : i.frame.format.below ≡ below_of v.form.order
+  read_below = rw (← same_value a.image i (sym a.is ∙ o)) (ap (λ (g : Frame). g.format.below) a.frame_is)
+
+  module _ (area : List ℕ) (D : ℕ) (es : List Element) (runs : runs_from (below_of v.form.order) D area es ≡ ok i.runs) (x : Option Entry) (above : Bool) (h : List ℕ)
+      (sought : (rs : List Run) → runs_from (below_of v.form.order) D area es ≡ ok rs → x ≡ successor (below_of v.form.order) above h (all_entries rs)) where
+    -- the entry found is the one of the image
+    pub accepted_sought : x ≡ successor i.frame.format.below above h (entries_of i)
     unfolding CheckSpec.entries_of
-    accepted_sought x above h sought i o =
-        let j : a.image ≡ i = same_value a.image i (sym a.is ∙ o) in
-        let k : a.image.frame.format.below ≡ below_of v.form.order = ap (λ (g : Frame). g.format.below) a.frame_is in
-        rw (← j, k) (sought a.image.runs accepted_runs)
+    accepted_sought = rw read_below (sought i.runs runs)
 
     -- the entry with the headword is the first not below it, if that has it
-    pub accepted_lookup : (x : Option Entry) (h : List ℕ)
-        → ((rs : List Run) → runs_from (below_of v.form.order) v.d (data_cut s start) (elements_at v.form.width (index_cut v.form s start) 0 e) ≡ ok rs
-        → x ≡ successor (below_of v.form.order) false h (all_entries rs))
-        → (i : Image) → image_from s ≡ ok i → lookup h (entries_of i) ≡ exactly h x
+    pub accepted_lookup : above ≡ false → lookup h (entries_of i) ≡ exactly h x
     unfolding CheckSpec.entries_of
-    accepted_lookup x h sought i o =
-        let j : a.image ≡ i = same_value a.image i (sym a.is ∙ o) in
+    accepted_lookup f =
         let b : HeadwordOrder = below_of v.form.order in
-        let rs : List Run = a.image.runs in
-        let g = entries_ascend b (order_of v.form.order) rs
-        (runs_ascend b v.d (data_cut s start) (elements_at v.form.width (index_cut v.form s start) 0 e) rs accepted_runs) in
-        rw (← j) (lookup_by_successor b (order_of v.form.order) h [] (all_entries rs) g ∙ ap (exactly h) (sym (sought rs accepted_runs)))
+        let g = entries_ascend b (order_of v.form.order) i.runs (runs_ascend b D area es i.runs runs) in
+        lookup_by_successor b (order_of v.form.order) h [] (all_entries i.runs) g ∙ ap (exactly h) (sym (rw f at (sought i.runs runs)))
 
 -- ---- the image at the front of a slice
 -- it is at least a header long

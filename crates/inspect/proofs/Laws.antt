@@ -9,7 +9,9 @@ use native.Mathlib.Nat.{zero-add, min-le_left}
 use lib.ListN.{length, get_or, take, drop, replicate, length-take, length-drop, length-replicate, get_or-replicate}
 use lib.Seq.{get_or-take, length-take-le}
 use lib.Dec.{eqb}
-use borrow.Author.Rules.{rules}
+use Rattle.std.specs.Prelude.{Result, Ok, Err}
+use Rattle.spec.specs.Answers.{number_of}
+use Rattle.spec.specs.declared.Refusal.{Refusal}
 use borrow.Author.Tests.{eq-eqb, ne_eqb, eqb-true, not-true, not-false}
 use Rattle.spec.specs.Order.{HeadwordOrder, below_of}
 use Rattle.spec.specs.Outcome.{Outcome, refused, ok, ◌>>=◌, ◌>>◌, refuse◌when◌, accepted}
@@ -30,38 +32,36 @@ use Rattle.spec.proofs.ReadLaws.{free_list_below, free_list_nine, runs_inside}
 use Rattle.spec.proofs.BlocksLaws.{covers_inside, covers_outside}
 use Rattle.spec.proofs.CountLaws.{blocks_once, once_by_cover, once_covered}
 use Rattle.marks.specs.Marks.{with_range, next}
-use Rattle.marks.proofs.Laws.{length_marks, next_is, next_before, length_range, get_range_in, get_range_below, get_range_above}
+use Rattle.marks.proofs.Laws.{next_is, next_before, length_range, get_range_in, get_range_below, get_range_above}
 use Rattle.header.specs.Form.{layout_named, most_of, frame_by, GoodForm, index_start, area_start, index_cut, data_cut, data_part}
 use Rattle.header.specs.Framed.{framed, FormTold}
 use Rattle.header.specs.declared.Form.{Form}
-use Rattle.header.specs.declared.Framed.{Framed}
+use Rattle.header.specs.declared.FrameFound.{FrameFound}
 use Rattle.header.proofs.Laws.{frame_refused, frame_read, frame_by_form, image_by_form, frame_index_few, frame_data_few, frame_length_is, index_slice, data_slice}
 use Rattle.index.specs.Elements as Elements
 use Rattle.index.specs.Elements.{elements_at, elements_end, ended, Inside}
-use Rattle.index.specs.declared.Ended.{Ended}
 use Rattle.index.proofs.Laws.{elements_found, index_refused, ended_broken, ended_at}
 use Rattle.freelist.specs.FreeList.{has_length, with_marks, Marked}
 use Rattle.freelist.proofs.Laws.{Read, has_length_read, has_length_not, length_with_marks, get_with_marks, with_no_marks, count_behind}
 use Rattle.tally.specs.Tally as Tally
 use Rattle.tally.specs.Tally.{Tally as TallyRecord, covered, tally, runs_answer}
-use Rattle.tally.specs.declared.Runs.{Runs}
+use Rattle.tally.specs.declared.RunCounts.{RunCounts}
 use Rattle.inspect.specs.Overview.{AcceptedImage, FreeMarked, Told, RunsRead}
 use Rattle.inspect.specs.declared.Overview.{Overview}
-use Rattle.inspect.specs.declared.Inspected.{Inspected}
 
 module _ (w : ℕ) (below : HeadwordOrder) (area : List ℕ) (n e : ℕ) where
   -- row 6 without an index block: no element
-  pub index_empty : n ≡ 0 → e ≡ 0 → Ended.At 0 ≡ ended (accepted (index_from w below n e area)) (elements_end w area 0 e)
+  pub index_empty : n ≡ 0 → e ≡ 0 → Ok 0 ≡ ended (accepted (index_from w below n e area)) (elements_end w area 0 e)
   unfolding Index.index_from accepted Elements.ended Elements.elements_end
   index_empty z h = rw (z, h)
 
   -- or some
-  pub index_none : n ≡ 0 → (e ≡ 0 → ⊥) → Ended.Broken ≡ ended (accepted (index_from w below n e area)) (elements_end w area 0 e)
+  pub index_none : n ≡ 0 → (e ≡ 0 → ⊥) → Err Refusal.BadIndex ≡ ended (accepted (index_from w below n e area)) (elements_end w area 0 e)
   unfolding Index.index_from accepted Elements.ended
   index_none z h = rw (z, ne_eqb e 0 h)
 
 -- and with some blocks
-pub index_some : (w : ℕ) (below : HeadwordOrder) (area : List ℕ) (n e : ℕ) → (n ≡ 0 → ⊥) → (r : Ended) (k : ℕ) → r ≡ ended (accepted (elements_from w below e [] area)) k
+pub index_some : (w : ℕ) (below : HeadwordOrder) (area : List ℕ) (n e : ℕ) → (n ≡ 0 → ⊥) → (r : Result ℕ Refusal) (k : ℕ) → r ≡ ended (accepted (elements_from w below e [] area)) k
     → r ≡ ended (accepted (index_from w below n e area)) k
 unfolding Index.index_from
 index_some w below area zero e z r k h = absurd (z refl)
@@ -122,8 +122,8 @@ module _ (s : List ℕ) (v : Overview) (blocks : ℕ) (ms : List Bool) (known : 
   inside = runs_inside (below_of v.form.order) v.d area known.elements known.runs known.read
 
   -- row 9, where no list that is read covers the blocks
-  nine : ((fl : List ℕ) → list ≡ ok fl → each_once v.d known.runs fl ≡ false) → image_from s ≡ refused 9
-  unfolding list rest
+  nine : ((fl : List ℕ) → list ≡ ok fl → each_once v.d known.runs fl ≡ false) → image_from s ≡ refused (number_of Refusal.BadBlocks)
+  unfolding list rest number_of
   nine h = left_over ∙ go list refl
     where
       go : (o : Outcome (List ℕ)) → list ≡ o → o >>= rest ≡ refused 9
@@ -142,39 +142,43 @@ module _ (s : List ℕ) (v : Overview) (blocks : ℕ) (ms : List Bool) (known : 
       go false e = e
       go true e = absurd (h e)
 
+  -- the list of the blocks that are told
+  list_told : (first : ℕ) → first ≡ get (layout_named s).empty_block2 s → (D : ℕ) → D ≡ v.d → (a : List ℕ) → a ≡ area → free_list_from D D first a ≡ list
+  unfolding list
+  list_told first f D all a part = rw (f, all, part)
+
   -- more blocks in runs than there are
-  pub settle_many : v.d < blocks → image_from s ≡ refused 9
+  pub settle_many : v.d < blocks → image_from s ≡ refused (number_of Refusal.BadBlocks)
   settle_many p = nine (λ fl e. not_once fl (λ o. let z : blocks + length fl ≡ v.d = many fl e o in omega arith))
 
   -- a free list of another length
-  pub settle_length : blocks ≤ v.d → (first : ℕ) → first ≡ get (layout_named s).empty_block2 s → (start : ℕ) → start ≡ area_start v.form v.n
-      → (t : Bool) → t ≡ has_length (v.d - blocks) (free_list_from v.d v.d first (data_cut s start)) → not t ≡ true → image_from s ≡ refused 9
-  unfolding list
-  settle_length p first f start here t h q =
+  pub settle_length : blocks ≤ v.d → (first : ℕ) → first ≡ get (layout_named s).empty_block2 s → (D : ℕ) → D ≡ v.d → (a : List ℕ) → a ≡ area
+      → (t : Bool) → t ≡ has_length (v.d - blocks) (free_list_from D D first a) → not t ≡ true → image_from s ≡ refused (number_of Refusal.BadBlocks)
+  settle_length p first f D all a part t h q =
       nine
       (λ fl e.
       not_once fl (λ o.
       let z : blocks + length fl ≡ v.d = many fl e o in
       let y : length fl ≡ v.d - blocks = omega arith in
-      has_length_not (v.d - blocks) fl (ap (has_length (v.d - blocks)) (sym (rw (f, here) e)) ∙ sym h ∙ not-true t q) y))
+      has_length_not (v.d - blocks) fl (ap (has_length (v.d - blocks)) (sym e ∙ sym (list_told first f D all a part)) ∙ sym h ∙ not-true t q) y))
 
-  module _ (p : blocks ≤ v.d) (first : ℕ) (f : first ≡ get (layout_named s).empty_block2 s) (start : ℕ) (here : start ≡ area_start v.form v.n) (t : Bool)
-      (h : t ≡ has_length (v.d - blocks) (free_list_from v.d v.d first (data_cut s start)))
+  module _ (p : blocks ≤ v.d) (first : ℕ) (f : first ≡ get (layout_named s).empty_block2 s) (D : ℕ) (all : D ≡ v.d) (a : List ℕ) (part : a ≡ area) (t : Bool)
+      (h : t ≡ has_length (v.d - blocks) (free_list_from D D first a))
       (q : not t ≡ false) where
-    got : Read (v.d - blocks) (free_list_from v.d v.d first (data_cut s start))
-    got = has_length_read (v.d - blocks) (free_list_from v.d v.d first (data_cut s start)) (sym h ∙ not-false t q)
+    got : Read (v.d - blocks) (free_list_from D D first a)
+    got = has_length_read (v.d - blocks) (free_list_from D D first a) (sym h ∙ not-false t q)
 
     found : list ≡ ok got.numbers
-    unfolding list
-    found = rw (← f, ← here) got.read
+    found = sym (list_told first f D all a part) ∙ got.read
 
     only : (fl : List ℕ) → list ≡ ok fl → fl ≡ got.numbers
     only fl e = same_value fl got.numbers (sym e ∙ found)
 
     low : All (λ a. a < v.d) got.numbers
-    low = free_list_below v.d v.d first (data_cut s start) got.numbers got.read
+    unfolding list
+    low = free_list_below v.d v.d (get (layout_named s).empty_block2 s) area got.numbers found
 
-    module _ (us : List Bool) (used : (t ≡ true → Marked (free_list_from v.d v.d first (data_cut s start)) ms us)) (u : ℕ) (size : length ms ≡ 64 * u) (few : v.d ≤ 64 * u) where
+    module _ (us : List Bool) (used : (t ≡ true → Marked (free_list_from D D first a) ms us)) (u : ℕ) (size : length ms ≡ 64 * u) (few : v.d ≤ 64 * u) where
       room : v.d ≤ length ms
       room = rw size few
 
@@ -195,7 +199,7 @@ module _ (s : List ℕ) (v : Overview) (blocks : ℕ) (ms : List Bool) (known : 
         long = length-take-le v.d us (rw (marks_now, length_with_marks) room)
 
         -- a block in no run and not on the list
-        pub settle_gap : r < v.d → image_from s ≡ refused 9
+        pub settle_gap : r < v.d → image_from s ≡ refused (number_of Refusal.BadBlocks)
         settle_gap l =
             nine
             (λ fl e.
@@ -217,8 +221,8 @@ module _ (s : List ℕ) (v : Overview) (blocks : ℕ) (ms : List Bool) (known : 
 
           module _ (w : ℕ) (nwords : w ≡ get (layout_named s).nword s) where
             -- row 10: nword
-            pub settle_words : (w ≡ v.words → ⊥) → image_from s ≡ refused 10
-            unfolding Check.counts_ok
+            pub settle_words : (w ≡ v.words → ⊥) → image_from s ≡ refused (number_of Refusal.BadCounts)
+            unfolding Check.counts_ok number_of
             settle_words z =
                 let x : eqb (get (layout_named s).nword s) (length (all_entries known.runs)) ≡ false = ne_eqb _ _ (λ y. z (nwords ∙ y ∙ sym known.words_are)) in
                 rw (counted, x)
@@ -228,15 +232,15 @@ module _ (s : List ℕ) (v : Overview) (blocks : ℕ) (ms : List Bool) (known : 
               words_right = eq-eqb _ _ (sym nwords ∙ same ∙ known.words_are)
 
               -- row 10: nblock2
-              pub settle_blocks : (g ≡ blocks → ⊥) → image_from s ≡ refused 10
-              unfolding Check.counts_ok
+              pub settle_blocks : (g ≡ blocks → ⊥) → image_from s ≡ refused (number_of Refusal.BadCounts)
+              unfolding Check.counts_ok number_of
               settle_blocks z =
                   let x : eqb (get (layout_named s).nblock2 s) (run_blocks known.runs) ≡ false = ne_eqb _ _ (λ y. z (nblocks ∙ y ∙ sym known.blocks_are)) in
                   rw (counted, words_right, x)
 
               -- an image that keeps all rows
               pub settle_sound : g ≡ blocks → (k : ℕ) (fs ms' : List Bool) → fs ≡ replicate k false → v.d ≤ k
-                  → (t ≡ true → Marked (free_list_from v.d v.d first (data_cut s start)) fs ms') → Told s ms' (Inspected.Sound v)
+                  → (t ≡ true → Marked (free_list_from D D first a) fs ms') → Told s ms' (Ok v)
               unfolding Check.counts_ok Check.entries_of
               settle_sound y k fs ms' bare fits free =
                   let x : eqb (get (layout_named s).nblock2 s) (run_blocks known.runs) ≡ true = eq-eqb _ _ (sym nblocks ∙ y ∙ known.blocks_are) in
@@ -291,30 +295,30 @@ index_told w wide below area zero e es h =
 index_told w wide below area (suc b) e es h = elements_found w wide below area e es h
 
 -- the bounds of a frame that is read, by the answer
-module _ (s : List ℕ) (r : Framed) (e : framed (layout_named s) r ≡ frame_from (format_of s) s) (f : Form) (n d : ℕ) (h : r ≡ Framed.Blocks f n d) where
-  pub areas_index_few : n ≤ 32_767
-  areas_index_few = frame_index_few s f n d (frame_read s r e f n d h)
+module _ (s : List ℕ) (r : Result FrameFound Refusal) (e : framed (layout_named s) r ≡ frame_from (format_of s) s) (f : FrameFound) (h : r ≡ Ok f) where
+  pub areas_index_few : f.index ≤ 32_767
+  areas_index_few = frame_index_few s f.form f.index f.«data» (frame_read s r e f h)
 
-  pub areas_data_few : d ≤ most_of f.width
-  areas_data_few = frame_data_few s f n d (frame_read s r e f n d h)
+  pub areas_data_few : f.«data» ≤ most_of f.form.width
+  areas_data_few = frame_data_few s f.form f.index f.«data» (frame_read s r e f h)
 
   -- so a table of 1,024 words has a mark for each
-  pub areas_fit : (u : ℕ) → 1_024 ≤ u → d ≤ 64 * u
+  pub areas_fit : (u : ℕ) → 1_024 ≤ u → f.«data» ≤ 64 * u
   areas_fit u p = omega (arith, areas_data_few)
 
-  pub areas_good : FormTold r → GoodForm f
-  areas_good told = told f n d h
+  pub areas_good : FormTold r → GoodForm f.form
+  areas_good told = told f h
 
-  pub areas_whole : FormTold r → length s % 256 ≡ 0 → block_position f.extended n d ≡ length s
-  areas_whole told w = frame_length_is s f n d (frame_read s r e f n d h) w (told f n d h).3
+  pub areas_whole : FormTold r → length s % 256 ≡ 0 → block_position f.form.extended f.index f.«data» ≡ length s
+  areas_whole told w = frame_length_is s f.form f.index f.«data» (frame_read s r e f h) w (told f h).3
 
 -- a frame that is refused
-pub areas_frame : (s : List ℕ) (r : Framed) → framed (layout_named s) r ≡ frame_from (format_of s) s → (j : ℕ) → r ≡ Framed.Refused j → image_from s ≡ refused j
+pub areas_frame : (s : List ℕ) (r : Result FrameFound Refusal) → framed (layout_named s) r ≡ frame_from (format_of s) s → (j : Refusal) → r ≡ Err j → image_from s ≡ refused (number_of j)
 unfolding Check.image_from Check.image_by
 areas_frame s r e j h = rw (frame_refused s r e j h)
 
 module _ (s : List ℕ) (f : Form) (n d : ℕ) (frame : frame_from (format_of s) s ≡ ok (frame_by (layout_named s) f n d)) (good : GoodForm f)
-    (start : ℕ) (here : start ≡ area_start f n) (e : ℕ) (elements : e ≡ get (layout_named s).nindex2 s) (b : Ended)
+    (start : ℕ) (here : start ≡ area_start f n) (e : ℕ) (elements : e ≡ get (layout_named s).nindex2 s) (b : Result ℕ Refusal)
     (kept : b ≡ ended (accepted (index_from f.width (below_of f.order) n e (index_cut f s start))) (elements_end f.width (index_cut f s start) 0 e)) where
   abbrev index : Outcome (List Element)
   index = index_from f.width (below_of f.order) n e (index_cut f s start)
@@ -324,15 +328,15 @@ module _ (s : List ℕ) (f : Form) (n d : ℕ) (frame : frame_from (format_of s)
   wide = omega (arith, good.0.0)
 
   -- row 6
-  pub areas_index : b ≡ Ended.Broken → image_from s ≡ refused 6
-  unfolding Check.image_by
-  areas_index q =
-      let y : accepted index ≡ false = ended_broken _ _ b kept q in
+  pub areas_index : (j : Refusal) → b ≡ Err j → image_from s ≡ refused (number_of j)
+  unfolding Check.image_by number_of
+  areas_index j q =
+      let (y, row) = ended_broken _ _ b kept j q in
       let x : index_from f.width (below_of f.order) n (get (layout_named s).nindex2 s) (index_area (frame_by (layout_named s) f n d) s) ≡ refused 6
       = rw (index_slice (layout_named s) f s n d, ← here, ← elements) (index_refused f.width (below_of f.order) n e (index_cut f s start) y) in
-      image_by_form s f n d frame ∙ rw (frame_by_form s f n d frame, x)
+      image_by_form s f n d frame ∙ rw (frame_by_form s f n d frame, x, row)
 
-  module _ (end : ℕ) (q : b ≡ Ended.At end) where
+  module _ (end : ℕ) (q : b ≡ Ok end) where
     answered : Answer index
     answered = accepted_answer index (ended_at _ _ b kept end q).0
 
@@ -351,21 +355,25 @@ module _ (s : List ℕ) (f : Form) (n d : ℕ) (frame : frame_from (format_of s)
     abbrev runs : Outcome (List Run)
     runs = runs_from (below_of f.order) d (data_cut s start) (elements_at f.width (index_cut f s start) 0 e)
 
-    module _ (r : Runs) (us ms₀ : List Bool) (m : ℕ) (tallied : runs_answer r us ≡ tally 0 0 ms₀ runs) where
+    module _ (es : List Element) (all : es ≡ elements_at f.width (index_cut f s start) 0 e) (D : ℕ) (many : D ≡ d) (a : List ℕ) (part : a ≡ data_cut s start)
+        (r : Result RunCounts Refusal) (us ms₀ : List Bool) (m : ℕ) (told : runs_answer r us ≡ tally 0 0 ms₀ (runs_from (below_of f.order) D a es)) where
+      tallied : runs_answer r us ≡ tally 0 0 ms₀ runs
+      tallied = rw (all, many, part) at told
+
       -- rows 7 and 8
-      pub areas_runs : (j : ℕ) → r ≡ Runs.Refused j → image_from s ≡ refused j
+      pub areas_runs : (j : Refusal) → r ≡ Err j → image_from s ≡ refused (number_of j)
       unfolding Check.image_by Tally.runs_answer
       areas_runs j h =
-          let x : runs_from (below_of f.order) d (data_area (frame_by (layout_named s) f n d) s) (elements_at f.width (index_cut f s start) 0 e) ≡ refused j
-          = rw (data_slice (layout_named s) f s n d, ← here) (tally_refused ms₀ runs j (sym tallied ∙ ap (λ (y : Runs). runs_answer y us) h)) in
+          let x : runs_from (below_of f.order) d (data_area (frame_by (layout_named s) f n d) s) (elements_at f.width (index_cut f s start) 0 e) ≡ refused (number_of j)
+          = rw (data_slice (layout_named s) f s n d, ← here) (tally_refused ms₀ runs (number_of j) (sym tallied ∙ ap (λ (y : Result RunCounts Refusal). runs_answer y us) h)) in
           image_by_form s f n d frame ∙ rw (frame_by_form s f n d frame, index_is, x)
 
       -- all runs are read
-      pub areas_read : ms₀ ≡ replicate m false → d ≤ m → (words blocks : ℕ) → r ≡ Runs.Read words blocks
-          → RunsRead s (record { form = f; n = n; d = d; words = words; end = end }) blocks us
+      pub areas_read : ms₀ ≡ replicate m false → d ≤ m → (counts : RunCounts) → r ≡ Ok counts
+          → RunsRead s (record { form = f; n = n; d = d; words = counts.words; end = end }) counts.blocks us
       unfolding Tally.runs_answer
-      areas_read bare room words blocks h =
-          let (rs, x, y, z, w) = tally_read ms₀ runs words blocks us (sym tallied ∙ ap (λ (y : Runs). runs_answer y us) h) in
+      areas_read bare room counts h =
+          let (rs, x, y, z, w) = tally_read ms₀ runs counts.words counts.blocks us (sym tallied ∙ ap (λ (y : Result RunCounts Refusal). runs_answer y us) h) in
           let g : us ≡ covered rs (replicate m false) = rw (← bare) w in
           let l : length us ≡ m = ap length g ∙ covered_length rs d (replicate m false)
           (runs_inside (below_of f.order) d (data_cut s start) (elements_at f.width (index_cut f s start) 0 e) rs x) (rw length-replicate room) ∙ length-replicate m false in
@@ -382,15 +390,13 @@ module _ (s : List ℕ) (f : Form) (n d : ℕ) (frame : frame_from (format_of s)
             marked = rw l g;
           }
 
-pub ruleset settle_laws = (settle_many, settle_length, settle_gap, settle_words, settle_blocks, length_marks, rules)
-
 -- what the answer tells of the image, for the crates above
-module _ (s : List ℕ) (ms : List Bool) (r : Inspected) (told : Told s ms r) where
+module _ (s : List ℕ) (ms : List Bool) (r : Result Overview Refusal) (told : Told s ms r) where
   -- it is refused
-  pub is_refused : (k : ℕ) → r ≡ Inspected.Refused k → image_from s ≡ refused k
+  pub is_refused : (k : Refusal) → r ≡ Err k → image_from s ≡ refused (number_of k)
   is_refused k h = subst (Told s ms) h told
 
-  module _ (v : Overview) (h : r ≡ Inspected.Sound v) where
+  module _ (v : Overview) (h : r ≡ Ok v) where
     -- it is accepted
     pub is_accepted : AcceptedImage s v
     is_accepted = (subst (Told s ms) h told).0

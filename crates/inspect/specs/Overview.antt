@@ -1,5 +1,7 @@
 -- What testing an image whole tells of it.
-use Rattle.std.specs.Prelude.{ℕ, ◌-◌, ◌≡◌, Bool, false, List, ◌++◌, length, replicate}
+use Rattle.std.specs.Prelude.{ℕ, ◌-◌, ◌≡◌, Bool, false, Result, Ok, Err, List, ◌++◌, length, replicate}
+use Rattle.spec.specs.Answers.{number_of}
+use Rattle.spec.specs.declared.Refusal.{Refusal}
 use Rattle.spec.specs.Order.{below_of}
 use Rattle.spec.specs.Outcome.{refused, ok}
 use Rattle.spec.specs.Header.{format_of, get}
@@ -12,7 +14,6 @@ use Rattle.header.specs.Form.{layout_named, frame_by, GoodForm, index_part, data
 use Rattle.index.specs.Elements.{elements_end}
 use Rattle.tally.specs.Tally.{covered}
 use Rattle.inspect.specs.declared.Overview.{Overview}
-use Rattle.inspect.specs.declared.Inspected.{Inspected}
 
 -- where the elements end in the index of an image of that form with n index blocks
 abbrev pub index_end : Form → List ℕ → ℕ → ℕ
@@ -32,9 +33,9 @@ abbrev pub FreeMarked : List ℕ → List Bool → Type 0
 FreeMarked s ms = (i : Image) → image_from s ≡ ok i → ms ≡ free_marks i.frame.data_blocks i.free_list ++ replicate (length ms - i.frame.data_blocks) false
 
 -- the answer about the image s, with the marks then
-abbrev pub Told : List ℕ → List Bool → Inspected → Type 0
-Told s ms (Inspected.Sound v) = AcceptedImage s v × FreeMarked s ms
-Told s ms (Inspected.Refused k) = image_from s ≡ refused k
+abbrev pub Told : List ℕ → List Bool → Result Overview Refusal → Type 0
+Told s ms (Ok v) = AcceptedImage s v × FreeMarked s ms
+Told s ms (Err r) = image_from s ≡ refused (number_of r)
 
 -- an image that keeps rows 3 to 8, all its runs read: its form, its blocks and where its elements end, its entries and the blocks of its runs counted and these marked
 pub record RunsRead (s : List ℕ) (v : Overview) (blocks : ℕ) (ms : List Bool) : Type 0 where

@@ -8,7 +8,7 @@ use native.Mathlib.Omega.{arith}
 use lib.ListN.{length, get_or, take, drop, length-append}
 use lib.Seq.{length-take-le}
 use Rattle.spec.specs.Order.{HeadwordOrder}
-use Rattle.spec.specs.Outcome.{ok}
+use Rattle.spec.specs.Outcome.{refused, ok}
 use Rattle.spec.specs.Bytes as BytesSpec
 use Rattle.spec.specs.Bytes.{write, bytes_at, no_zero}
 use Rattle.spec.specs.Lists as ListsSpec
@@ -16,10 +16,15 @@ use Rattle.spec.specs.Entry.{Entry, attribute, text}
 use Rattle.spec.specs.Run.{Run, read_entry, entries_from}
 use Rattle.spec.specs.Listing as ListingSpec
 use Rattle.spec.specs.Listing.{entry_line, entry_lines}
-use Rattle.spec.proofs.ReadLaws.{entries_unbroken, entries_ended, entries_more}
+use Rattle.spec.proofs.ReadLaws.{entries_ended, entries_more}
 use Rattle.spec.proofs.PartLaws.{length_bytes_at}
-use Rattle.runs.specs.Step.{step_entry, Inside}
-use Rattle.runs.specs.declared.Step.{Step}
+use Rattle.spec.specs.Answers.{number_of}
+use Rattle.spec.specs.declared.Refusal.{Refusal}
+use Rattle.spec.proofs.OutcomeLaws.{ok_not_refused}
+use Rattle.std.specs.Prelude as std
+use Rattle.std.specs.Prelude.{Ok, Err, Some, None}
+use Rattle.runs.specs.Step.{Step, step_entry, Inside}
+use Rattle.runs.specs.declared.EntryPlace.{EntryPlace}
 use Rattle.runs.proofs.Laws.{told_broken, told_end, told_entry, told_no_zero, attribute_in, text_in}
 use Rattle.listing.specs.Lines as LinesSpec
 use Rattle.listing.specs.Lines.{fields_line, RunPrinted}
@@ -58,35 +63,45 @@ pub record Coming (below : HeadwordOrder) (run word : List ℕ) (len pos : ℕ) 
 
 module _ (below : HeadwordOrder) (run word : List ℕ) (len pos : ℕ) (r : Run) (out₀ out : List ℕ) (start at k ordinal : ℕ) (v : Coming below run word len pos r out₀ out start at k ordinal) (st : Step)
     (word' : List ℕ) (step : step_entry run word' st ≡ read_entry below (take len word) (drop pos run)) where
-  coming_fault : st ≡ Step.Broken → ⊥
-  coming_fault q = entries_unbroken below v.fuel (take len word) (drop pos run) v.entries v.read (told_broken below (take len word) (drop pos run) run word' st step q)
+  -- a run that is read has no fault
+  coming_fault : (f : Refusal) → st ≡ Err f → ⊥
+  unfolding entries_from
+  coming_fault f q =
+      let broken : read_entry below (take len word) (drop pos run) ≡ refused (number_of f) = told_broken below (take len word) (drop pos run) run word' st step f q in
+      ok_not_refused v.entries (number_of f) (sym v.read ∙ rw broken)
 
-  coming_end : st ≡ Step.End → (out ≡ write start (entry_lines k r r.entries) out₀) × (at ≡ start + length (entry_lines k r r.entries)) × (ordinal ≡ k + length r.entries)
+  -- where it ends, all lines are stored
+  coming_end : st ≡ Ok None → (out ≡ write start (entry_lines k r r.entries) out₀) × (at ≡ start + length (entry_lines k r r.entries)) × (ordinal ≡ k + length r.entries)
   coming_end q =
       let e : v.entries ≡ [] = entries_ended below v.fuel (take len word) (drop pos run) v.entries v.read (told_end below (take len word) (drop pos run) run word' st step q) in
       let l : entry_lines ordinal r v.entries ≡ [] = ap (entry_lines ordinal r) e ∙ entry_lines_none ordinal r in
       (sym (write_none out at) ∙ (rw l at v.lines), omega (arith, v.place, ap (λ (x : List ℕ). length x) l), omega (arith, v.count, ap (λ (x : List Entry). length x) e))
 
-  module _ (n z e : ℕ) (q : st ≡ Step.Entry n z e) (body : z + 2 ≤ e) (within : e ≤ length run) (past : pos < e) (at' : ℕ) (out' : List ℕ) (fits : at ≤ length out)
-      (stored : out' ≡ write at (fields_line (line_numbers ordinal r.block r.size (get_or run (z + 1) 0) (e - (z + 2))) (take n word')) out) (ends : at' ≡ at + 30 + length (take n word')) where
+  module _ (p : EntryPlace) (q : st ≡ Ok (Some p)) (body : p.zero + 2 ≤ p.next) (within : p.next ≤ length run) (past : pos < p.next) (at' : ℕ) (out' : List ℕ) (fits : at ≤ length out)
+      (stored : out' ≡ write at (fields_line (line_numbers ordinal r.block r.size (get_or run (p.zero + 1) 0) (p.next - (p.zero + 2))) (take p.length word')) out)
+      (ends : at' ≡ at + 30 + length (take p.length word')) where
+    -- the entry that was found
     found : Entry
-    found = record { headword = take n word'; body = bytes_at (z + 1) (e - (z + 1)) run }
+    found = record { headword = take p.length word'; body = bytes_at (p.zero + 1) (p.next - (p.zero + 1)) run }
 
-    text_size : length (text found) ≡ e - (z + 2)
+    -- so long is its text
+    text_size : length (text found) ≡ p.next - (p.zero + 2)
     unfolding found
-    text_size = ap (λ (x : List ℕ). length x) (text_in run (take n word') z e body within) ∙ length_bytes_at run (z + 2) (e - (z + 2)) (omega arith)
+    text_size = ap (λ (x : List ℕ). length x) (text_in run (take p.length word') p.zero p.next body within) ∙ length_bytes_at run (p.zero + 2) (p.next - (p.zero + 2)) (omega arith)
 
-    its_line : entry_line ordinal r found ≡ fields_line (line_numbers ordinal r.block r.size (get_or run (z + 1) 0) (e - (z + 2))) (take n word')
+    -- its line
+    its_line : entry_line ordinal r found ≡ fields_line (line_numbers ordinal r.block r.size (get_or run (p.zero + 1) 0) (p.next - (p.zero + 2))) (take p.length word')
     unfolding found
-    its_line = fields_entry ordinal r found ∙ rw (attribute_in run (take n word') z e body within, text_size)
+    its_line = fields_entry ordinal r found ∙ rw (attribute_in run (take p.length word') p.zero p.next body within, text_size)
 
-    coming_next : Coming below run word' n e r out₀ out' start at' k (ordinal + 1)
+    -- one line more is stored
+    coming_next : Coming below run word' p.length p.next r out₀ out' start at' k (ordinal + 1)
     unfolding found
     coming_next =
-        let told : read_entry below (take len word) (drop pos run) ≡ ok (some (found, drop e run)) = told_entry below (take len word) (drop pos run) run word' st step n z e q in
-        let (ds, u, w) = entries_more below v.fuel (take len word) (drop pos run) v.entries v.read found (drop e run) told in
-        let x : List ℕ = fields_line (line_numbers ordinal r.block r.size (get_or run (z + 1) 0) (e - (z + 2))) (take n word') in
-        let lx : length x ≡ 30 + length (take n word') = fields_length (line_numbers ordinal r.block r.size (get_or run (z + 1) 0) (e - (z + 2))) (take n word') in
+        let told : read_entry below (take len word) (drop pos run) ≡ ok (some (found, drop p.next run)) = told_entry below (take len word) (drop pos run) run word' st step p q in
+        let (ds, u, w) = entries_more below v.fuel (take len word) (drop pos run) v.entries v.read found (drop p.next run) told in
+        let x : List ℕ = fields_line (line_numbers ordinal r.block r.size (get_or run (p.zero + 1) 0) (p.next - (p.zero + 2))) (take p.length word') in
+        let lx : length x ≡ 30 + length (take p.length word') = fields_length (line_numbers ordinal r.block r.size (get_or run (p.zero + 1) 0) (p.next - (p.zero + 2))) (take p.length word') in
         let one : ordinal + 1 ≡ suc ordinal = omega arith in
         let y : List ℕ = entry_lines (ordinal + 1) r ds in
         let all : entry_lines ordinal r v.entries ≡ x ++ y = ap (entry_lines ordinal r) w ∙ entry_lines_cons ordinal r found ds ∙ rw (its_line, one) in
@@ -129,52 +144,48 @@ printing_start below run word b n out start k p l q =
       coming = λ r i j h. record { fuel = length run; room = omega arith; entries = r.entries; read = h; lines = refl; place = refl; count = refl };
     }
 
-module _ (below : HeadwordOrder) (run word : List ℕ) (len pos b n : ℕ) (out₀ out : List ℕ) (start at k ordinal : ℕ) (v : Printing below run word len pos b n out₀ out start at k ordinal) (st : Step)
+module _ {below : HeadwordOrder} {run word : List ℕ} {len pos b n : ℕ} {out₀ out : List ℕ} {start at k ordinal : ℕ} (v : Printing below run word len pos b n out₀ out start at k ordinal) (st : Step)
     (word' : List ℕ) (step : step_entry run word' st ≡ read_entry below (take len word) (drop pos run)) where
   -- a run with a fault is none
-  pub printing_broken : st ≡ Step.Broken → RunPrinted below b n run k start out₀ out (record { at = at; next = ordinal })
-  printing_broken q r i j h = absurd (coming_fault below run word len pos r out₀ out start at k ordinal (v.coming r i j h) st word' step q)
+  pub printing_broken : (f : Refusal) → st ≡ Err f → RunPrinted below b n run k start out₀ out (record { at = at; next = ordinal })
+  printing_broken f q r i j h = absurd (coming_fault below run word len pos r out₀ out start at k ordinal (v.coming r i j h) st word' step f q)
 
   -- all lines are stored
-  pub printing_end : st ≡ Step.End → RunPrinted below b n run k start out₀ out (record { at = at; next = ordinal })
-  printing_end q r i j h = coming_end below run word len pos r out₀ out start at k ordinal (v.coming r i j h) st word' step q
+  pub printing_end : (o : std.Option EntryPlace) → st ≡ Ok o → o ≡ None → RunPrinted below b n run k start out₀ out (record { at = at; next = ordinal })
+  printing_end o q none r i j h = coming_end below run word len pos r out₀ out start at k ordinal (v.coming r i j h) st word' step (q ∙ ap Ok none)
 
-  module _ (l z e : ℕ) (q : st ≡ Step.Entry l z e) (places : Inside pos run st) where
-    told : (pos + 3 ≤ z) × (z + 2 ≤ e) × (e ≤ length run) × (e ≤ z + 3002) × (1 ≤ l) × (l ≤ 248)
-    told = places l z e q
+  module _ (o : std.Option EntryPlace) (read : st ≡ Ok o) (p : EntryPlace) (some : o ≡ Some p) (places : Inside pos run st) where
+    -- an entry was found
+    q : st ≡ Ok (Some p)
+    q = read ∙ ap Ok some
 
-    -- fewer bytes are left
-    pub printing_less : length run - e < length run - pos
-    printing_less = omega (arith, told.0, told.1, told.2)
+    -- where it stands
+    told : (pos + 3 ≤ p.zero) × (p.zero + 2 ≤ p.next) × (p.next ≤ length run) × (p.next ≤ p.zero + 3002) × (1 ≤ p.length) × (p.length ≤ 248)
+    told = places p q
 
     module _ (same : length word' ≡ length word) where
       -- the headword fits its buffer
-      pub printing_fits : l ≤ length word'
-      printing_fits = omega (arith, told.5, v.buffer)
+      fits : p.length ≤ length word'
+      fits = omega (arith, told.5, v.buffer)
 
       -- and is so long
-      pub printing_word : l ≡ length (take l word')
-      printing_word = sym (length-take-le l word' printing_fits)
+      long : p.length ≡ length (take p.length word')
+      long = sym (length-take-le p.length word' fits)
 
-      module _ (roomy : start + 56 * length run ≤ length out₀) where
-        -- its line has room
-        pub printing_room : at + 30 + length (take l word') ≤ length out
-        printing_room = omega (arith, printing_word, told.5, told.0, told.1, told.2, v.bound, v.kept)
-
-        -- one line more
-        pub printing_next : (a : ℕ) → a ≡ get_or run (z + 1) 0 → (at' : ℕ) (out' : List ℕ) → at' ≡ at + 30 + length (take l word')
-            → out' ≡ write at (fields_line (line_numbers ordinal b n a (e - (z + 2))) (take l word')) out
-            → length out' ≡ length out → Printing below run word' l e b n out₀ out' start at' k (ordinal + 1)
-        printing_next a told_attribute at' out' ends stored same' =
-            record {
-              inside = told.2;
-              buffer = same ∙ v.buffer;
-              short = told.5;
-              clean = told_no_zero below (take len word) (drop pos run) run word' st step l z e q;
-              kept = same' ∙ v.kept;
-              bound = omega (arith, printing_word, told.5, told.0, told.1, v.bound);
-              few = omega (arith, v.few);
-              coming =
-                  λ r i j h. coming_next below run word len pos r out₀ out start at k ordinal (v.coming r i j h) st word' step l z e q
-                  told.1 told.2 (omega (arith, told.0, told.1)) at' out' (omega (arith, v.bound, v.inside, v.kept)) (rw (i, j, ← told_attribute) stored) ends;
-            }
+      -- one line more
+      pub printing_next : start + 56 * length run ≤ length out₀ → (a : ℕ) → a ≡ get_or run (p.zero + 1) 0 → (at' : ℕ) (out' : List ℕ)
+          → at' ≡ at + 30 + length (take p.length word') → out' ≡ write at (fields_line (line_numbers ordinal b n a (p.next - (p.zero + 2))) (take p.length word')) out
+          → length out' ≡ length out → Printing below run word' p.length p.next b n out₀ out' start at' k (ordinal + 1)
+      printing_next roomy a told_attribute at' out' ends stored same' =
+          record {
+            inside = told.2;
+            buffer = same ∙ v.buffer;
+            short = told.5;
+            clean = told_no_zero below (take len word) (drop pos run) run word' st step p q;
+            kept = same' ∙ v.kept;
+            bound = omega (arith, long, told.5, told.0, told.1, v.bound);
+            few = omega (arith, v.few);
+            coming =
+                λ r i j h. coming_next below run word len pos r out₀ out start at k ordinal (v.coming r i j h) st word' step p q
+                told.1 told.2 (omega (arith, told.0, told.1)) at' out' (omega (arith, v.bound, v.inside, v.kept)) (rw (i, j, ← told_attribute) stored) ends;
+          }

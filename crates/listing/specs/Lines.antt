@@ -1,12 +1,10 @@
 -- The lines of the printed list by the numbers that stand in them.
-use Rattle.std.specs.Prelude.{ℕ, suc, ◌+◌, ◌*◌, ◌≤◌, ◌≡◌, true, false, List, [], ◌∷◌, ◌++◌, length, drop, ltb}
+use Rattle.std.specs.Prelude.{ℕ, suc, ◌+◌, ◌≡◌, true, false, List, [], ◌∷◌, ◌++◌, length, drop, ltb}
 use Rattle.spec.specs.Order.{HeadwordOrder}
 use Rattle.spec.specs.Outcome.{ok}
 use Rattle.spec.specs.Bytes.{write}
 use Rattle.spec.specs.Run.{Run, entries_from}
-use Rattle.spec.specs.Index.{Element}
-use Rattle.spec.specs.Blocks.{run_blocks}
-use Rattle.spec.specs.Check.{runs_from}
+use Rattle.spec.specs.Check.{Image, image_from}
 use Rattle.spec.specs.Calls.{Figures, figures}
 use Rattle.spec.specs.Listing.{column, line, entry_lines, run_lines, listing}
 use Rattle.inspect.specs.Overview.{AcceptedImage}
@@ -33,14 +31,9 @@ RunPrinted below b n run k start out out' p =
     (r : Run) → r.block ≡ b → r.size ≡ n → entries_from below (suc (length run)) [] (drop 2 run) ≡ ok r.entries
     → (out' ≡ write start (entry_lines k r r.entries) out) × (p.at ≡ start + length (entry_lines k r r.entries)) × (p.next ≡ k + length r.entries)
 
--- runs that are read without a refusal, and whose lines have room from `start` on: an entry takes at least 5 bytes of its run and its line
--- at most 278, so that a byte of a run has at most 56 bytes of lines, and a block 14,336
-abbrev pub Printable : HeadwordOrder → ℕ → List ℕ → List Element → ℕ → ℕ → Type 0
-Printable below D area es start room = (rs : List Run) × (runs_from below D area es ≡ ok rs) × (start + 14_336 * run_blocks rs ≤ room)
-
--- the lines of these runs, the first with the ordinal 1, stand in out' from `start` up to `end`
-abbrev pub AllPrinted : HeadwordOrder → ℕ → List ℕ → List Element → ℕ → List ℕ → List ℕ → ℕ → Type 0
-AllPrinted below D area es start out out' end = (rs : List Run) → runs_from below D area es ≡ ok rs → (out' ≡ write start (run_lines 1 rs) out) × (end ≡ start + length (run_lines 1 rs))
+-- the lines of the runs of the image s, the first with the ordinal 1, stand in out' from `start` up to `end`
+abbrev pub AllPrinted : List ℕ → ℕ → List ℕ → List ℕ → ℕ → Type 0
+AllPrinted s start out out' end = (i : Image) → image_from s ≡ ok i → (out' ≡ write start (run_lines 1 i.runs) out) × (end ≡ start + length (run_lines 1 i.runs))
 
 -- an accepted image, of which v tells, with so many free blocks: its four numbers
 abbrev pub Accepted : List ℕ → Overview → ℕ → Type 0

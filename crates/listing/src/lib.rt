@@ -5,27 +5,32 @@ ghost use Rattle.std.specs.Prelude.{◌≡◌, false, cond, not, ◌+◌, ◌*�
 ghost use Rattle.spec.specs.Order.{below_of};
 ghost use Rattle.spec.specs.Bytes.{write};
 ghost use Rattle.spec.specs.Outcome.{refused};
+ghost use Rattle.spec.specs.Answers.{number_of};
 ghost use Rattle.spec.specs.Check.{image_from};
 ghost use Rattle.spec.specs.Listing.{digits, column, first_line, image_lines, listing};
-ghost use Rattle.listing.specs.Lines.{entry_numbers, fields_line, numbers, RunPrinted, Printable, AllPrinted, Accepted, listed};
-ghost use Rattle.byteops.specs.Width.{Width};
-ghost use Rattle.index.specs.Elements.{elements_at, Inside};
+ghost use Rattle.listing.specs.Lines.{entry_numbers, fields_line, numbers, RunPrinted, AllPrinted, Accepted, listed};
+ghost use Rattle.inspect.specs.Overview.{AcceptedImage};
 
-use byteops::{copy, read_number, wide, write_u8};
-use header::{Form, HEADER, nindex2, position, slice_ok};
-use index::element_end;
-use inspect::{Inspected, MARK_WORDS, Overview};
-use runs::{Size, Step, WORD};
+use header::slice_ok;
+use inspect::{MARK_WORDS, Overview};
+use runs::WORD;
+use spec::Refusal;
+
+// The bytes of the largest image that is read.
+pub const LONGEST_IMAGE: usize = 65536;
+
+// The bytes that the longest list may take.
+pub const LONGEST_LIST: usize = 4000000;
 
 // Where the lines stored so far end, and the ordinal of the next entry.
-#[derive(Clone, Copy)]
+#[derive(Clone, Copy, Debug, PartialEq, Eq)]
 struct Printed {
     at: usize,
     next: usize,
 }
 
 // The numbers of an entry's line: its ordinal, its run's block and number of blocks, its attribute, and its text's length.
-#[derive(Clone, Copy)]
+#[derive(Clone, Copy, Debug, PartialEq, Eq)]
 struct Fields {
     ordinal: usize,
     block: usize,
@@ -46,10 +51,7 @@ fn digit(n: usize) -> u8
 fn shown(n: usize) -> u8
     ensures { result ≡ cond (not (eqb n 0)) (48 + n % 10) 32 }
 {
-    if n == 0 {
-        return b' ';
-    }
-    digit(n % 10)
+    if n == 0 { b' ' } else { digit(n % 10) }
 }
 
 // Stores the columns in front of the last one, w of them, where n is left.
@@ -58,12 +60,10 @@ fn front_columns(out: &mut [u8], at: usize, w: usize, n: usize)
     ensures out_after { out.new ≡ write at (digits false w n) out.old }
     ensures out_len_unchanged { length out.new ≡ length out.old }
 {
-    let mut left = w;
     let mut rest = n;
-    while 0 < left {
-        left -= 1;
-        out[at + left] = shown(rest);
-        rest = rest / 10;
+    for i in (0..w).rev() {
+        out[at + i] = shown(rest);
+        rest /= 10;
     }
 }
 
@@ -74,18 +74,18 @@ fn column(out: &mut [u8], at: usize, w: usize, n: usize)
     ensures out_len_unchanged { length out.new ≡ length out.old }
 {
     front_columns(out, at, w - 1, n / 10);
-    write_u8(out, at + (w - 1), digit(n % 10));
+    out[at + w - 1] = digit(n % 10);
 }
 
 // Stores the line of a refusal, and answers where it ends.
-fn refused_line(out: &mut [u8], k: usize) -> usize
+fn refused_line(out: &mut [u8], refusal: Refusal) -> usize
     requires { 12 ≤ length out.old }
-    ensures value { (result ≡ length (image_lines (refused k))) × (result ≤ length out.old) }
-    ensures out_after { out.new ≡ write 0 (image_lines (refused k)) out.old }
+    ensures value { (result ≡ length (image_lines (refused (number_of refusal)))) × (result ≤ length out.old) }
+    ensures out_after { out.new ≡ write 0 (image_lines (refused (number_of refusal))) out.old }
 {
-    copy(out, 0, b"refused", 0, 7);
-    column(out, 7, 4, k);
-    write_u8(out, 11, b'\n');
+    out[..7].copy_from_slice(b"refused");
+    column(out, 7, 4, u32::from(refusal) as usize);
+    out[11] = b'\n';
     12
 }
 
@@ -100,7 +100,7 @@ fn first_line(out: &mut [u8], words: usize, index: usize, d: usize, free: usize)
     column(out, 6, 6, index);
     column(out, 12, 6, d);
     column(out, 18, 6, free);
-    write_u8(out, 24, b'\n');
+    out[24] = b'\n';
     25
 }
 
@@ -125,13 +125,15 @@ fn entry_line(out: &mut [u8], at: usize, fields: Fields, word: &[u8]) -> usize
     ensures out_len_unchanged { length out.new ≡ length out.old }
 {
     entry_numbers(out, at, fields);
-    write_u8(out, at + 28, b' ');
-    copy(out, at + 29, word, 0, word.len());
-    write_u8(out, at + 29 + word.len(), b'\n');
-    at + 30 + word.len()
+    out[at + 28] = b' ';
+    let end = at + 29 + word.len();
+    out[at + 29..end].copy_from_slice(word);
+    out[end] = b'\n';
+    end + 1
 }
 
-// Stores the lines of the entries of a run of `blocks` blocks at `block`, behind those stored so far.
+// Stores the lines of the entries of a run of `blocks` blocks at `block`, behind those stored so far. An entry takes at least 5
+// bytes of its run, and its line at most 278: 56 for each byte of the run.
 fn run_lines(
     order: usize,
     out: &mut [u8],
@@ -146,144 +148,92 @@ fn run_lines(
     ensures out_len_unchanged { length out.new ≡ length out.old }
 {
     let mut word = [0u8; WORD];
-    let mut len = 0;
+    let mut held = 0;
     let mut pos = 2;
     let mut at = from.at;
     let mut ordinal = from.next;
-    loop {
-        let st = runs::read_entry(order, run, pos, &mut word, len);
-        match st {
-            Step::Broken => {
-                return Printed {
-                    at: at,
-                    next: ordinal,
-                };
-            }
-            Step::End => {
-                return Printed {
-                    at: at,
-                    next: ordinal,
-                };
-            }
-            Step::Entry { length, zero, next } => {
-                let attribute = wide(run[zero + 1]);
-                let text = next - (zero + 2);
-                let fields = Fields {
-                    ordinal: ordinal,
-                    block: block,
-                    blocks: blocks,
-                    attribute: attribute,
-                    text: text,
-                };
-                at = entry_line(out, at, fields, &word[..length]);
-                len = length;
-                pos = next;
-                ordinal += 1;
-            }
-        }
+    while let Ok(Some(entry)) = runs::read_entry(order, run, pos, &mut word, held) {
+        let attribute = usize::from(run[entry.zero + 1]);
+        let text = entry.next - (entry.zero + 2);
+        let fields = Fields {
+            ordinal,
+            block,
+            blocks,
+            attribute,
+            text,
+        };
+        at = entry_line(out, at, fields, &word[..entry.length]);
+        held = entry.length;
+        pos = entry.next;
+        ordinal += 1;
     }
+    Printed { at, next: ordinal }
 }
 
-// Stores the lines of the entries of all runs in index order, and answers where they end.
-fn all_lines(
-    form: Form,
-    out: &mut [u8],
-    start: usize,
-    index: &[u8],
-    elements: usize,
-    area: &[u8],
-    d: usize,
-) -> usize
-    requires width { Width form.width × Inside form.width index.now 0 elements }
-    requires le_start { (1 ≤ start) × (256 * d ≡ length area.now) × (d ≤ 16777215) }
-    requires printable { Printable (below_of form.order) d area.now (elements_at form.width index.now 0 elements) start (length out.old) }
-    ensures all_printed { AllPrinted (below_of form.order) d area.now (elements_at form.width index.now 0 elements) start
-        out.old out.new result }
+// Stores the lines of the entries of all runs of an accepted image, of which v tells, in index order, and answers where they end.
+fn all_lines(out: &mut [u8], start: usize, image: &[u8], v: Overview) -> usize
+    requires accepted { AcceptedImage image.now v }
+    requires in_bounds { (1 ≤ start) × (length image.now % 256 ≡ 0) × (start + 56 * length image.now ≤ length out.old) }
+    ensures all_printed { AllPrinted image.now start out.old out.new result }
     ensures upper_bound { result ≤ length out.old }
 {
-    let width = form.width;
-    let order = form.order;
-    let mut at = start;
-    let mut ordinal = 1;
-    let mut place = 0;
-    let mut left = elements;
-    while 0 < left {
-        let b = read_number(index, place, width);
-        let told = runs::run_size(area, d, b);
-        let Size::Blocks(size) = told else {
-            return at;
+    let order = v.form.order;
+    let (elements, area) = inspect::areas(image, v);
+    let mut printed = Printed { at: start, next: 1 };
+    for element in elements {
+        let b = element.number;
+        let Ok(size) = runs::run_size(area, b) else {
+            return printed.at;
         };
-        let from = Printed {
-            at: at,
-            next: ordinal,
-        };
-        let run = &area[256 * b..256 * b + 256 * size];
-        let printed = run_lines(order, out, from, b, size, run);
-        at = printed.at;
-        ordinal = printed.next;
-        place = element_end(width, index, place) + 1;
-        left -= 1;
+        let run = &area.bytes[256 * b..256 * b + 256 * size];
+        printed = run_lines(order, out, printed, b, size, run);
     }
-    at
+    printed.at
 }
 
 // Stores the list of an accepted image, of which v tells, with so many free blocks, and answers where it ends.
 fn accepted_lines(out: &mut [u8], image: &[u8], v: Overview, free: usize) -> usize
     requires accepted { Accepted image.now v free }
-    requires in_bounds { (256 ≤ length image.now) × (length image.now ≤ 65536) × (length image.now % 256 ≡ 0) × (4000000 ≤ length out.old) }
+    requires in_bounds { (length image.now ≤ LONGEST_IMAGE) × (length image.now % 256 ≡ 0) × (LONGEST_LIST ≤ length out.old) }
     ensures value { (result ≡ length (image_lines (image_from image.now))) × (result ≤ length out.old) }
     ensures out_after { out.new ≡ write 0 (image_lines (image_from image.now)) out.old }
 {
     let at = first_line(out, v.words, v.n, v.d, free);
-    let from = HEADER + v.form.extended;
-    let start = position(v.form.extended, v.n, 0);
-    let elements = nindex2(image);
-    all_lines(
-        v.form,
-        out,
-        at,
-        &image[from..start],
-        elements,
-        &image[start..],
-        v.d,
-    )
+    all_lines(out, at, image, v)
 }
 
 // Stores the list of what stands in all bytes of `image`, an image or not, and answers where it ends.
 fn inspected_lines(out: &mut [u8], image: &[u8]) -> usize
-    requires { (256 ≤ length image.now) × (length image.now ≤ 65536) × (length image.now % 256 ≡ 0) × (4000000 ≤ length out.old) }
+    requires { (256 ≤ length image.now) × (length image.now ≤ LONGEST_IMAGE) × (length image.now % 256 ≡ 0) × (LONGEST_LIST ≤ length out.old) }
     ensures value { (result ≡ length (image_lines (image_from image.now))) × (result ≤ length out.old) }
     ensures out_after { out.new ≡ write 0 (image_lines (image_from image.now)) out.old }
 {
     let mut free = [0u64; MARK_WORDS];
-    let inspected = inspect::inspect(image, &mut free);
-    match inspected {
-        Inspected::Refused(k) => refused_line(out, k as usize),
-        Inspected::Sound(v) => accepted_lines(out, image, v, marks::count(&free)),
+    match inspect::inspect(image, &mut free) {
+        Err(refusal) => refused_line(out, refusal),
+        Ok(v) => accepted_lines(out, image, v, marks::count(&free)),
     }
 }
 
 // Stores the list of the input `image`, and answers where it ends.
 fn input_lines(out: &mut [u8], image: &[u8]) -> usize
-    requires { 4000000 ≤ length out.old }
+    requires { LONGEST_LIST ≤ length out.old }
     ensures value { (result ≡ length (listing image.now)) × (result ≤ length out.old) }
     ensures out_after { out.new ≡ write 0 (listing image.now) out.old }
 {
-    if 65536 < image.len() {
-        return refused_line(out, 1);
-    }
-    if !slice_ok(image, image.len()) {
-        return refused_line(out, 1);
+    if LONGEST_IMAGE < image.len() || !slice_ok(image, image.len()) {
+        return refused_line(out, Refusal::BadLength);
     }
     inspected_lines(out, image)
 }
 
 // Stores the list of the input `image`, and answers where it ends. A slice too short for the longest list is left as it is: 0.
+// Kept: the answer of `listing` may not change: `listed`.
 pub fn listing(image: &[u8], out: &mut [u8]) -> usize
     ensures value { (result ≡ length (listed image.now out.old)) × (result ≤ length out.old) }
     ensures out_after { out.new ≡ write 0 (listed image.now out.old) out.old }
 {
-    if out.len() < 4000000 {
+    if out.len() < LONGEST_LIST {
         return 0;
     }
     input_lines(out, image)

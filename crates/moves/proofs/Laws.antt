@@ -8,22 +8,22 @@ use lib.ListN.{length, get_or, set, take, drop, length-map, take-append-drop}
 use lib.Seq.{get_or-set_other, take_at, drop_at, length-take-le}
 use lib.Dec.{eqb}
 use borrow.Author.Tests.{lt-ltb, le-ltb, eq-eqb, ne_eqb, eqb-true, eqb-false}
-use Rattle.spec.specs.Bytes.{from_little_endian, bytes_at, write}
+use Rattle.spec.specs.Bytes.{bytes_at, write}
 use Rattle.spec.specs.Header.{block_position}
 use Rattle.spec.specs.Blocks.{best_fit}
 use Rattle.spec.specs.Index.{Element}
 use Rattle.spec.specs.Lists.{All}
 use Rattle.spec.proofs.ListsLaws.{all_map, all_front, all_back}
-use Rattle.index.specs.Elements.{element_end, element_at, elements_at}
-use Rattle.index.proofs.Laws.{elements_next}
 use Rattle.header.proofs.PositionLaws.{write_block}
 use Rattle.marks.specs.Marks.{with_range}
 use Rattle.placing.specs.Spread.{Spread, placed_first, spread}
 use Rattle.placing.proofs.SpreadLaws.{spread_grows}
-use Rattle.runs.specs.Size.{size_told, SizeInside}
-use Rattle.runs.specs.declared.Size.{Size}
+use Rattle.runs.specs.Size.{size_told}
+use Rattle.std.specs.Prelude.{Result, Ok, Err}
+use Rattle.std.specs.Result.{result_unwrap_or}
+use Rattle.spec.specs.declared.Refusal.{Refusal}
 use Rattle.runs.proofs.SizeLaws.{blocks_told}
-use Rattle.moves.specs.Moved.{noted, starts, size_counts, size_at, freed, tabled, moved_written}
+use Rattle.moves.specs.Moved.{noted, starts, size_at, freed, tabled, moved_written}
 
 -- ---- the table noted
 -- a block below g is noted
@@ -47,44 +47,29 @@ abbrev pub blocks : List Element → List ℕ
 blocks es = map (λ e. e.block) es
 
 -- one element noted, the others are still to be noted
-pub note_turn : (w : ℕ) (index : List ℕ) (g at left b end : ℕ) (T T₁ R : List ℕ) → noted g (blocks (elements_at w index at left)) T ≡ R → 0 < left
-    → b ≡ from_little_endian (bytes_at at w index) → T₁ ≡ noted g (b ∷ []) T → end ≡ element_end w index at
-    → noted g (blocks (elements_at w index (end + 1) (left - 1))) T₁ ≡ R
-unfolding element_at
-note_turn w index g at left b end T T₁ R inv p e n f =
-    rw (f, n, e) (sym (noted_append g (from_little_endian (bytes_at at w index) ∷ []) (blocks (elements_at w index (element_end w index at + 1) (left - 1))) T)
-    ∙ rw (elements_next w index at left p) at inv)
+pub note_turn : (g : ℕ) (es ds : List Element) (e : Element) (T T₁ R : List ℕ) → noted g (blocks es) T ≡ R → es ≡ e ∷ ds → length T ≡ g
+    → T₁ ≡ noted (length T) (e.block ∷ []) T → noted g (blocks ds) T₁ ≡ R
+note_turn g es ds e T T₁ R inv p l q = rw (q, l) (sym (noted_append g (e.block ∷ []) (blocks ds) T) ∙ rw p at inv)
 
 -- all are noted
-pub note_end : (w : ℕ) (index : List ℕ) (g at left : ℕ) (T R : List ℕ) → noted g (blocks (elements_at w index at left)) T ≡ R → left ≤ 0 → T ≡ R
-unfolding elements_at noted
-note_end w index g at left T R inv p =
-    let e : left ≡ 0 = omega arith in
-    rw e at inv
+pub note_end : (g : ℕ) (es : List Element) (T R : List ℕ) → noted g (blocks es) T ≡ R → es ≡ [] → T ≡ R
+unfolding noted
+note_end g es T R inv p = rw p at inv
 
 -- ---- the size of a run
--- a block that no run may start at
-pub size_broken : (area : List ℕ) (d b : ℕ) (r : Size) → r ≡ size_told d area b → r ≡ Size.Broken → 1 ≡ size_at area d b
-unfolding size_at size_counts
-size_broken area d b r told e = rw (← told, e)
-
--- a run by its size
-pub size_by : (area : List ℕ) (d b n : ℕ) (r : Size) → r ≡ size_told d area b → r ≡ Size.Blocks n → n ≡ size_at area d b
-unfolding size_at size_counts
-size_by area d b n r told e = rw (← told, e)
-
--- how many blocks that are at least, at most, and where they end
-pub size_bounds : (d b n : ℕ) (r : Size) → SizeInside d b r → r ≡ Size.Blocks n → (1 ≤ n) × (n ≤ 32_767) × (b + n ≤ max d (b + 1))
-size_bounds d b n r i e = let v = i n e in (v.0, v.1, omega arith)
+-- of a run that keeps row 7
+pub size_by : (area : List ℕ) (d b n : ℕ) → Ok n ≡ size_told d area b → n ≡ size_at area d b
+unfolding size_at
+size_by area d b n told = rw (← told)
 
 -- a run that starts among the blocks lies inside them
 pub size_inside : (area : List ℕ) (d b : ℕ) → b < d → b + size_at area d b ≤ d
-unfolding size_at size_counts
+unfolding size_at
 size_inside area d b h = go (size_told d area b) refl
   where
-    go : (r : Size) → r ≡ size_told d area b → b + size_counts r ≤ d
-    go Size.Broken e = omega arith
-    go (Size.Blocks n) e = (blocks_told d area b (Size.Blocks n) e n refl).4
+    go : (r : Result ℕ Refusal) → r ≡ size_told d area b → b + result_unwrap_or r 1 ≤ d
+    go (Err k) e = omega arith
+    go (Ok n) e = (blocks_told d area b (Ok n) e n refl).4
 
 -- ---- the blocks of the table at which runs start
 -- no run starts at b
@@ -112,10 +97,6 @@ starts_next T b g h =
     let e : g - b ≡ suc (g - (b + 1)) = omega arith in
     let f : b + 1 ≡ suc b = omega arith in
     rw e (rw f (starts_suc T b (g - suc b)))
-
--- all of them, at the start of the loop
-pub starts_all : (T : List ℕ) (g : ℕ) → starts 0 (g - 0) T ≡ starts 0 g T
-starts_all T g = let e : g - 0 ≡ g = omega arith in rw e
 
 -- none is left at its end
 pub starts_end : (T : List ℕ) (b g : ℕ) → g ≤ b → starts b (g - b) T ≡ []
@@ -152,10 +133,6 @@ free_run area T d b n ms ns e f w = rw (starts_one T b e) (w ∙ rw f)
 -- what is still to be freed
 abbrev pub Freeing : List ℕ → List ℕ → ℕ → ℕ → ℕ → List Bool → List Bool → Type 0
 Freeing area T d g b ms₀ ms = freed area d (starts b (g - b) T) ms ≡ freed area d (starts 0 g T) ms₀
-
--- at the start all
-pub free_start : (area T : List ℕ) (d g : ℕ) (ms : List Bool) → Freeing area T d g 0 ms ms
-free_start area T d g ms = rw (starts_all T g)
 
 -- after one block the others
 pub free_turn : (area T : List ℕ) (d g b : ℕ) (ms₀ ms ns : List Bool) → Freeing area T d g b ms₀ ms → b < g → ns ≡ freed area d (starts b 1 T) ms → Freeing area T d g (b + 1) ms₀ ns
@@ -273,10 +250,6 @@ Placing area d g end T₀ ms₀ e b T ms =
     × ((spread_from area d g e ms b (g - b) T).free ≡ (spread_from area d g end ms₀ 0 g T₀).free)
     × (tabled (starts b (g - b) T) (spread_from area d g e ms b (g - b) T).places T ≡ tabled (starts 0 g T₀) (spread_from area d g end ms₀ 0 g T₀).places T₀)
 
--- at the start all
-pub place_start : (area : List ℕ) (d g end : ℕ) (T : List ℕ) (ms : List Bool) → Placing area d g end T ms end 0 T ms
-place_start area d g end T ms = rw (starts_all T g) (refl, refl, refl)
-
 module _ (area : List ℕ) (d g end : ℕ) (T₀ : List ℕ) (ms₀ : List Bool) (e b : ℕ) (T : List ℕ) (ms : List Bool) (inv : Placing area d g end T₀ ms₀ e b T ms) where
   module _ (h : b < g) (e₁ : ℕ) (T₁ : List ℕ) (ms₁ : List Bool) (end_is : e₁ ≡ (spread_from area d g e ms b 1 T).end) (free_is : ms₁ ≡ (spread_from area d g e ms b 1 T).free)
       (table_is : T₁ ≡ tabled (starts b 1 T) (spread_from area d g e ms b 1 T).places T) where
@@ -381,10 +354,6 @@ module _ (extended index : ℕ) where
   abbrev pub Copying : List ℕ → List ℕ → ℕ → ℕ → List ℕ → ℕ → List ℕ → Type 0
   Copying area T d g image₀ b image =
       Ready area T d (length image₀) (starts b (g - b) T) × (copied area T d (starts b (g - b) T) image ≡ copied area T d (starts 0 g T) image₀)
-
-  -- at the start all
-  pub copy_start : (area T : List ℕ) (d g : ℕ) (image : List ℕ) → Ready area T d (length image) (starts 0 g T) → Copying area T d g image 0 image
-  copy_start area T d g image r = rw (starts_all T g) (r, refl)
 
   module _ (area T : List ℕ) (d g : ℕ) (image₀ : List ℕ) (b : ℕ) (image : List ℕ) (inv : Copying area T d g image₀ b image) where
     -- the run at b is ready, if one starts there

@@ -1,8 +1,8 @@
 -- The runs that start among the first g blocks, by a table of these blocks.
+use Rattle.std.specs.Result.{result_unwrap_or}
 use Rattle.std.specs.Prelude.{ℕ, zero, suc, ◌*◌, Bool, true, false, List, [], ◌∷◌, map, get_or, set, ltb, eqb}
 use Rattle.spec.specs.Bytes.{bytes_at, write}
 use Rattle.runs.specs.Size.{size_told}
-use Rattle.runs.specs.declared.Size.{Size}
 use Rattle.marks.specs.Marks.{with_range}
 use Rattle.placing.specs.Spread.{Spread, spread}
 
@@ -16,14 +16,9 @@ unfoldable pub starts : ℕ → ℕ → List ℕ → List ℕ
 starts b zero T = []
 starts b (suc k) T = elim (eqb (get_or T b 0) 0) [ true ↦ starts (suc b) k T | false ↦ b ∷ starts (suc b) k T ]
 
--- how many blocks a size stands for: a block that no run may start at counts as one
-unfoldable pub size_counts : Size → ℕ
-size_counts Size.Broken = 1
-size_counts (Size.Blocks n) = n
-
--- the number of blocks of the run at block b of D
+-- the number of blocks of the run at block b of D: a block that no run may start at counts as one
 unfoldable pub size_at : List ℕ → ℕ → ℕ → ℕ
-size_at area D b = size_counts (size_told D area b)
+size_at area D b = result_unwrap_or (size_told D area b) 1
 
 -- the marks with the blocks of the runs at these blocks free
 unfoldable pub freed : List ℕ → ℕ → List ℕ → List Bool → List Bool
@@ -47,5 +42,5 @@ moved_written area D T (b ∷ bs) dst = moved_written area D T bs (write (256 * 
 
 -- names all definitions of this module: who unfolds it unfolds them
 unfoldable pub open_moved : Unit {0}
-unfolding noted starts size_counts size_at freed tabled moved_written
+unfolding noted starts size_at freed tabled moved_written
 open_moved = tt

@@ -134,6 +134,11 @@ module _ (limit : ℕ) (es : List Entry) (used : ℕ) (bytes : used ≡ length (
     unfolding placed_first
     planning_more end ms₀ es₀ p = record { end_all = sym (ap (λ (s : Spread). s.end) laid_next) ∙ p.end_all; free_all = sym (ap (λ (s : Spread). s.free) laid_next) ∙ p.free_all }
 
+    -- its run has room where all have
+    pub run_fits : (end : ℕ) (ms₀ : List Bool) (es₀ : List Entry) → Planning limit g end ms₀ es₀ last ms es → (extended index long start : ℕ)
+        → block_position extended index (laid limit g end ms₀ es₀).end ≤ long → start ≡ block_position extended index b → start + 256 * size ≤ long
+    run_fits end ms₀ es₀ p extended index long start room here = omega (arith, planning_under limit g end ms₀ es₀ last' ms' Q (planning_more end ms₀ es₀ p))
+
     -- the bytes of its element, then the others'
     pub elements_next : (width : ℕ) → elements_long width limit g (laid limit g last ms es).places es
         ≡ length (element_bytes width (part_element (b - g) (part_of limit 0 [] es))) + elements_long width limit g (laid limit g last' ms' Q).places Q

@@ -16,14 +16,14 @@ use parts::{Edit, PART};
 use runs::WORD;
 
 // Where new runs go: among the blocks g to end - 1, or from `end` on.
-#[derive(Clone, Copy)]
+#[derive(Clone, Copy, Debug, PartialEq, Eq)]
 pub struct Room {
     pub g: usize,
     pub end: usize,
 }
 
 // Where new runs are written: behind an index of so many blocks, by which their places are counted, and their index elements from `at` on.
-#[derive(Clone, Copy)]
+#[derive(Clone, Copy, Debug, PartialEq, Eq)]
 pub struct Site {
     pub index: usize,
     pub at: usize,
@@ -59,7 +59,7 @@ pub fn plan_parts(
             return last;
         }
         let size = encoder::run_blocks(p.used);
-        last = placing::larger(last, placing::place(free, g, last, size) + size);
+        last = last.max(placing::place(free, g, last, size) + size);
         if most < last {
             return last;
         }
@@ -102,7 +102,7 @@ pub fn write_parts(
         }
         let size = encoder::run_blocks(p.used);
         let b = placing::place(free, g, last, size);
-        last = placing::larger(last, b + size);
+        last = last.max(b + size);
         let start = header::position(form.extended, index, b);
         encoder::write_run(&mut image[start..], &part[..p.used]);
         let end = 3 + parts::head_length(&part, p.used);

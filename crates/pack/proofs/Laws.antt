@@ -1,10 +1,11 @@
 -- Laws of packing: packed runs and their elements as they are written, and what a turn of the loop shows.
-use Prim.Native.Nat.{ℕ, zero, suc, ◌+◌, ◌-◌, ◌*◌, ◌/◌, ◌<◌, ◌≤◌}
+use Prim.Native.Nat.{ℕ, zero, suc, ◌+◌, ◌*◌, ◌/◌, ◌≤◌}
 use mathlib.Core.Path.{◌≡◌, refl, sym, ap, ap₂, ◌∙◌}
 use mathlib.Core.List.{List, [], ◌∷◌, ◌++◌, map}
 use native.Mathlib.Omega.{arith}
-use lib.ListN.{length, take, drop, length-append}
+use lib.ListN.{length, length-append}
 use borrow.Author.Rules.{rules}
+use Rattle.std.specs.Int.{div_ceil}
 use Rattle.spec.specs.Order.{below_of}
 use Rattle.spec.specs.Outcome.{ok}
 use Rattle.spec.specs.Bytes as BytesSpec
@@ -18,19 +19,16 @@ use Rattle.spec.specs.Check.{next_headword, runs_from}
 use Rattle.spec.specs.Place as PlaceSpec
 use Rattle.spec.specs.Place.{element_of, packed, runs_written}
 use Rattle.spec.specs.Lists.{All}
-use Rattle.spec.proofs.ListsLaws.{all_map, clash}
+use Rattle.spec.proofs.ListsLaws.{all_map}
 use Rattle.spec.proofs.OutcomeLaws.{same_value}
 use Rattle.spec.proofs.PartLaws.{length_bytes_at}
 use Rattle.spec.proofs.WriteLaws.{length_write, write_swap, write_behind, write_ahead, write_none}
 use Rattle.spec.proofs.ReadLaws.{RunTold, run_told, no_runs, runs_first, runs_elements}
 use Rattle.spec.specs.Sound.{Holds}
 use Rattle.spec.proofs.HoldsLaws.{runs_hold}
-use Rattle.index.specs.Elements as Elements
-use Rattle.index.specs.Elements.{element_end, element_headword, element_at, elements_at, Inside}
-use Rattle.index.proofs.Laws.{inside_start, here_end, elements_next}
 use Rattle.elements.proofs.Laws.{element_size, elements_size}
 use Rattle.runs.specs.Size.{size_told}
-use Rattle.runs.specs.declared.Size.{Size}
+use Rattle.std.specs.Prelude.{Ok, IsOk}
 use Rattle.runs.proofs.SizeLaws.{size_of_run}
 use Rattle.pack.specs.Packing as Packing
 use Rattle.pack.specs.Packing.{blocks_needed, runs_bytes, packed_elements, runs_packed, RunsFit}
@@ -103,24 +101,19 @@ unfolding Packing.blocks_needed
 need_none elements bytes e = rw e
 
 -- with some
-pub need_some : (elements bytes : ℕ) → (elements ≡ 0 → ⊥) → (bytes + 259) / 256 ≡ blocks_needed elements bytes
+pub need_some : (elements bytes r : ℕ) → (elements ≡ 0 → ⊥) → r ≡ div_ceil (bytes + 4) 256 → r ≡ blocks_needed elements bytes
 unfolding Packing.blocks_needed BytesSpec.blocks_for
-need_some zero bytes h = absurd (h refl)
-need_some (suc elements) bytes h =
-    let e : bytes + 259 ≡ bytes + 4 + 255 = omega arith in
-    ap (λ (k : ℕ). k / 256) e
-
--- every need of need
-pub ruleset need_laws = (need_none, need_some, rules)
+need_some zero bytes r h e = absurd (h refl)
+need_some (suc elements) bytes r h e = omega (arith, e)
 
 -- ---- write_runs
--- the runs from `at` on are still to be written: their elements from `out` on, they from block b on
-pub record Underway (width order extended : ℕ) (index area : List ℕ) (elements d front m : ℕ) (image₀ image : List ℕ) (at out b left : ℕ) : Type 0 where
+-- the runs of some elements are still to be written: their elements from `out` on, they from block b on
+pub record Underway (width order extended : ℕ) (all : List Element) (area : List ℕ) (d front m : ℕ) (image₀ image : List ℕ) (left : List Element) (out b : ℕ) : Type 0 where
   pub runs : List Run
-  pub read : runs_from (below_of order) d area (elements_at width index at left) ≡ ok runs
-  pub index_room : out + length (packed_elements width b runs) ≡ front + length (elements_bytes width (elements_at width index 0 elements))
+  pub read : runs_from (below_of order) d area left ≡ ok runs
+  pub index_room : out + length (packed_elements width b runs) ≡ front + length (elements_bytes width all)
   pub area_room : block_position extended m (b + run_blocks runs) ≤ length image
-  pub whole : (rs : List Run) → runs_from (below_of order) d area (elements_at width index 0 elements) ≡ ok rs
+  pub whole : (rs : List Run) → runs_from (below_of order) d area all ≡ ok rs
       → write out (packed_elements width b runs) (write (block_position extended m b) (runs_bytes runs) image) ≡ runs_packed width front (block_position extended m 0) rs image₀
 
 -- the run of an element that the code reads, and those behind it
@@ -137,11 +130,11 @@ pub record RunHere (order : ℕ) (area : List ℕ) (d : ℕ) (runs : List Run) (
 module _ (order : ℕ) where
   -- it is so by the size that row 7 allows
   run_here : (area : List ℕ) (d : ℕ) (e : Element) (others : List Element) (runs : List Run) → runs_from (below_of order) d area (e ∷ others) ≡ ok runs → (blocks : ℕ)
-      → Size.Blocks blocks ≡ size_told d area e.block → RunHere order area d runs others e.block blocks e.headword
+      → size_told d area e.block ≡ Ok blocks → RunHere order area d runs others e.block blocks e.headword
   run_here area d e others runs h blocks told =
       let (r, rs, p, u, k) = runs_first (below_of order) d area e others runs h in
       let t : RunTold (below_of order) d area e (next_headword others) r = run_told (below_of order) d area e (next_headword others) r u in
-      let s : Size.Blocks blocks ≡ Size.Blocks r.size = told ∙ size_of_run (below_of order) d area e (next_headword others) r u in
+      let s : size_told d area e.block ≡ Ok r.size = size_of_run (below_of order) d area e (next_headword others) r u in
       let z : blocks ≡ r.size = cc in
       record {
         run = r;
@@ -154,30 +147,27 @@ module _ (order : ℕ) where
         others_read = k;
       }
 
-  -- a run that is read does not break row 7
-  not_broken : (area : List ℕ) (d : ℕ) (e : Element) (others : List Element) (runs : List Run) → runs_from (below_of order) d area (e ∷ others) ≡ ok runs → Size.Broken ≡ size_told d area e.block
-      → ⊥
-  not_broken area d e others runs h told =
+  -- a run that is read keeps row 7
+  row_kept : (area : List ℕ) (d : ℕ) (e : Element) (others : List Element) (runs : List Run) → runs_from (below_of order) d area (e ∷ others) ≡ ok runs → IsOk (size_told d area e.block)
+  row_kept area d e others runs h =
       let (r, rs, p, u, k) = runs_first (below_of order) d area e others runs h in
-      let s : Size.Broken ≡ Size.Blocks r.size = told ∙ size_of_run (below_of order) d area e (next_headword others) r u in
-      clash (cc)
+      rw (size_of_run (below_of order) d area e (next_headword others) r u)
 
   -- runs that are read have the bytes of their blocks
-  pub runs_whole : (d : ℕ) (area : List ℕ) (es : List Element) (rs : List Run) → 256 * d ≡ length area → runs_from (below_of order) d area es ≡ ok rs → Whole rs
-  runs_whole d area es rs long h = all_map (Holds (below_of order)) (λ r. length r.bytes ≡ 256 * r.size) (λ r k. k.whole) rs (runs_hold (below_of order) d area es rs (omega arith) h)
+  pub runs_whole : (d : ℕ) (area : List ℕ) (es : List Element) (rs : List Run) → 256 * d ≤ length area → runs_from (below_of order) d area es ≡ ok rs → Whole rs
+  runs_whole d area es rs long h = all_map (Holds (below_of order)) (λ r. length r.bytes ≡ 256 * r.size) (λ r k. k.whole) rs (runs_hold (below_of order) d area es rs long h)
 
 module _ (width order extended : ℕ) where
   -- at the start all are
-  pub underway_start : (index area image : List ℕ) (elements d front m : ℕ) → RunsFit width order extended index area elements d front m (length image)
-      → Underway width order extended index area elements d front m image image 0 front 0 elements
+  pub underway_start : (es : List Element) (area image : List ℕ) (d front m : ℕ) → RunsFit width order extended es area d front m (length image)
+      → Underway width order extended es area d front m image image es front 0
   unfolding Packing.runs_packed
-  underway_start index area image elements d front m v =
+  underway_start es area image d front m v =
       record {
         runs = v.runs;
         read = v.read;
         index_room =
-            ap (λ (k : ℕ). front + k) (packed_same width 0 v.runs
-            ∙ ap (λ (es : List Element). length (elements_bytes width es)) (runs_elements (below_of order) d area (elements_at width index 0 elements) v.runs v.read));
+            ap (λ (k : ℕ). front + k) (packed_same width 0 v.runs ∙ ap (λ (es : List Element). length (elements_bytes width es)) (runs_elements (below_of order) d area es v.runs v.read));
         area_room = omega (arith, v.area_room);
         whole = λ rs h. rw (same_value v.runs rs (sym v.read ∙ h));
       }
@@ -203,52 +193,39 @@ module _ (width order extended : ℕ) where
     unfolding Packing.runs_bytes
     here_bytes = ap runs_bytes w.runs_are ∙ rw w.bytes_are
 
-  module _ (index area : List ℕ) (elements d front m : ℕ) (image₀ image : List ℕ) (at out b left : ℕ) (v : Underway width order extended index area elements d front m image₀ image at out b left) where
+  module _ (all : List Element) (area : List ℕ) (d front m : ℕ) (image₀ image : List ℕ) (left : List Element) (out b : ℕ)
+      (v : Underway width order extended all area d front m image₀ image left out b) where
     -- at the end none is: the code stands where all elements end
-    pub underway_out : left ≤ 0 → out ≡ front + length (elements_bytes width (elements_at width index 0 elements))
-    unfolding Elements.elements_at
+    pub underway_out : left ≡ [] → out ≡ front + length (elements_bytes width all)
     underway_out z =
-        let k : left ≡ 0 = omega arith in
-        let e : v.runs ≡ [] = no_runs (below_of order) d area v.runs (rw k at v.read) in
+        let e : v.runs ≡ [] = no_runs (below_of order) d area v.runs (sym (ap (runs_from (below_of order) d area) z) ∙ v.read) in
         omega (arith, v.index_room, ap (λ (rs : List Run). length (packed_elements width b rs)) e, ap length (packed_none width b))
 
     -- and what stands there now is the whole written
-    pub underway_end : left ≤ 0 → (rs : List Run) → runs_from (below_of order) d area (elements_at width index 0 elements) ≡ ok rs
-        → image ≡ runs_packed width front (block_position extended m 0) rs image₀
-    unfolding Elements.elements_at Packing.runs_bytes
+    pub underway_end : left ≡ [] → (rs : List Run) → runs_from (below_of order) d area all ≡ ok rs → image ≡ runs_packed width front (block_position extended m 0) rs image₀
+    unfolding Packing.runs_bytes
     underway_end z rs h =
-        let k : left ≡ 0 = omega arith in
-        let e : v.runs ≡ [] = no_runs (below_of order) d area v.runs (rw k at v.read) in
+        let e : v.runs ≡ [] = no_runs (below_of order) d area v.runs (sym (ap (runs_from (below_of order) d area) z) ∙ v.read) in
         sym (ap (λ (qs : List Run). write out (packed_elements width b qs) (write (block_position extended m b) (runs_bytes qs) image)) e
         ∙ rw (packed_none width b) (write_none (write (block_position extended m b) [] image) out) ∙ write_none image (block_position extended m b))
         ∙ v.whole rs h
 
-    module _ (more : 0 < left) (inside : Inside width index at left) (long : 256 * d ≡ length area) (end : ℕ) (ends : end ≡ element_end width index at) (from : ℕ)
-        (number : from ≡ from_little_endian (bytes_at at width index)) (size : Size) (told : size ≡ size_told d area from) where
-      -- the headword here, as the code cuts it out
-      abbrev word : List ℕ
-      word = take (end - (at + width)) (drop (at + width) index)
+    module _ (e : Element) (others : List Element) (next : left ≡ e ∷ others) where
+      -- the next element and those behind it are read
+      read_here : runs_from (below_of order) d area (e ∷ others) ≡ ok v.runs
+      read_here = sym (ap (runs_from (below_of order) d area) next) ∙ v.read
 
-      -- it and those behind it are read
-      read_here : runs_from (below_of order) d area (element_at width index at ∷ elements_at width index (end + 1) (left - 1)) ≡ ok v.runs
-      read_here = sym (ap (runs_from (below_of order) d area) (elements_next width index at left more ∙ rw ends)) ∙ v.read
+      -- so it keeps row 7
+      pub underway_placed : IsOk (size_told d area e.block)
+      underway_placed = row_kept order area d e others v.runs read_here
 
-      -- so it does not break row 7
-      pub underway_broken : size ≡ Size.Broken → ⊥
-      unfolding Elements.element_at
-      underway_broken is =
-          not_broken order area d (element_at width index at) (elements_at width index (end + 1) (left - 1)) v.runs read_here (sym is ∙ told ∙ rw number)
-
-      module _ (blocks : ℕ) (is : size ≡ Size.Blocks blocks) where
+      module _ (blocks : ℕ) (is : size_told d area e.block ≡ Ok blocks) where
         -- the run here
-        here : RunHere order area d v.runs (elements_at width index (end + 1) (left - 1)) from blocks word
-        unfolding Elements.element_at Elements.element_headword BytesSpec.bytes_at
-        here =
-            let w : element_headword width index at ≡ word = rw ends in
-            rw (number, ← w) (run_here order area d (element_at width index at) (elements_at width index (end + 1) (left - 1)) v.runs read_here blocks (sym is ∙ told ∙ rw number))
+        here : RunHere order area d v.runs others e.block blocks e.headword
+        here = run_here order area d e others v.runs read_here blocks is
 
         -- it lies in the old area
-        pub run_inside : from + blocks ≤ d
+        pub run_inside : e.block + blocks ≤ d
         run_inside = here.inside
 
         -- and fits where it goes
@@ -256,28 +233,26 @@ module _ (width order extended : ℕ) where
         run_fits = omega (arith, v.area_room, here_blocks _ _ _ _ _ _ _ here b)
 
         -- the element fits in front of the runs
-        pub element_fits : out + width + 1 + length word ≤ front + length (elements_bytes width (elements_at width index 0 elements))
+        pub element_fits : out + width + 1 + length e.headword ≤ front + length (elements_bytes width all)
         element_fits = omega (arith, v.index_room, here_long _ _ _ _ _ _ _ here b)
 
         -- one run more
-        pub underway_turn : (to : ℕ) → to ≡ block_position extended m b → (image₁ image₂ : List ℕ) (out₁ : ℕ)
-            → front + length (elements_bytes width (elements_at width index 0 elements)) ≤ block_position extended m 0
-            → image₁ ≡ write to (bytes_at (256 * from) (256 * blocks) area) image
-            → image₂ ≡ write out (element_bytes width (record { block = b; headword = word })) image₁
-            → out₁ ≡ out + width + 1 + length word
-            → Underway width order extended index area elements d front m image₀ image₂ (end + 1) out₁ (b + blocks) (left - 1)
-        underway_turn to e₀ image₁ image₂ out₁ front e₁ e₂ e₃ =
-            let x : List ℕ = bytes_at (256 * from) (256 * blocks) area in
+        pub underway_turn : 256 * d ≤ length area → (to : ℕ) → to ≡ block_position extended m b → (image₁ image₂ : List ℕ) (out₁ : ℕ)
+            → front + length (elements_bytes width all) ≤ block_position extended m 0
+            → image₁ ≡ write to (bytes_at (256 * e.block) (256 * blocks) area) image
+            → image₂ ≡ write out (element_bytes width (record { block = b; headword = e.headword })) image₁
+            → out₁ ≡ out + width + 1 + length e.headword
+            → Underway width order extended all area d front m image₀ image₂ others out₁ (b + blocks)
+        underway_turn long to e₀ image₁ image₂ out₁ front e₁ e₂ e₃ =
+            let x : List ℕ = bytes_at (256 * e.block) (256 * blocks) area in
             let y : List ℕ = runs_bytes here.rest in
-            let e : Element = record { block = b; headword = word } in
-            let g : List ℕ = element_bytes width e in
+            let g : List ℕ = element_bytes width (record { block = b; headword = e.headword }) in
             let h : List ℕ = packed_elements width (b + blocks) here.rest in
-            let l : length x ≡ 256 * blocks = length_bytes_at area (256 * from) (256 * blocks) (omega (arith, run_inside)) in
-            let k : length y ≡ 256 * run_blocks here.rest
-            = runs_bytes_length here.rest (runs_whole order d area (elements_at width index (end + 1) (left - 1)) here.rest long here.others_read) in
-            let n : length g ≡ width + 1 + length word = element_size width e in
+            let l : length x ≡ 256 * blocks = length_bytes_at area (256 * e.block) (256 * blocks) (omega (arith, run_inside)) in
+            let k : length y ≡ 256 * run_blocks here.rest = runs_bytes_length here.rest (runs_whole order d area others here.rest long here.others_read) in
+            let n : length g ≡ width + 1 + length e.headword = element_size width (record { block = b; headword = e.headword }) in
             let sum : run_blocks v.runs ≡ blocks + run_blocks here.rest = here_blocks _ _ _ _ _ _ _ here b in
-            let room : length (packed_elements width b v.runs) ≡ width + 1 + length word + length h = here_long _ _ _ _ _ _ _ here b in
+            let room : length (packed_elements width b v.runs) ≡ width + 1 + length e.headword + length h = here_long _ _ _ _ _ _ _ here b in
             let s : image₂ ≡ write out g (write (block_position extended m b) x image) = e₂ ∙ ap (write out g) (e₁ ∙ ap (λ (k : ℕ). write k x image) e₀) in
             let z₁ : length (write (block_position extended m b) x image) ≡ length image = length_write (block_position extended m b) x image (omega (arith, v.area_room)) in
             let z : length image₂ ≡ length image = ap length s ∙ length_write out g (write (block_position extended m b) x image) (omega (arith, v.index_room, v.area_room)) ∙ z₁ in
@@ -293,11 +268,3 @@ module _ (width order extended : ℕ) where
                   ∙ ap₂ (λ (a c : List ℕ). write out a (write (block_position extended m b) c image)) (sym (here_elements _ _ _ _ _ _ _ here b)) (sym (here_bytes _ _ _ _ _ _ _ here b))
                   ∙ v.whole rs r;
             }
-
-  -- the room for elements that the caller gives
-  pub fit_front : (index area : List ℕ) (elements d front m long : ℕ) → RunsFit width order extended index area elements d front m long
-      → front + length (elements_bytes width (elements_at width index 0 elements)) ≤ block_position extended m 0
-  fit_front index area elements d front m long v = v.index_room
-
--- the needs of write_runs that no law of Underway answers
-pub ruleset write_laws = (inside_start, here_end, fit_front, rules)

@@ -134,7 +134,7 @@ module _ (s : List ℕ) (v : Overview) (a : AcceptedImage s v) (in_blocks : leng
 
     -- which have the bytes of their blocks
     runs_sized : Whole a.image.runs
-    runs_sized = runs_whole v.form.order v.d old_area old_elements a.image.runs (accepted_area s v a start here in_blocks) (accepted_runs s v a start here e number)
+    runs_sized = runs_whole v.form.order v.d old_area old_elements a.image.runs (omega (arith, accepted_area s v a start here in_blocks)) (accepted_runs s v a start here e number)
 
     module _ (m : ℕ) (needed : m ≡ blocks_needed e v.end) where
       -- the blocks found needed are the specification's
@@ -156,7 +156,7 @@ module _ (s : List ℕ) (v : Overview) (a : AcceptedImage s v) (in_blocks : leng
     -- runs fit behind an index that has room for their elements, where there is room for their blocks
     pub runs_fit : (m long : ℕ) → index_start v.form + length (elements_bytes v.form.width old_elements) ≤ area_start v.form m
         → block_position v.form.extended m (run_blocks a.image.runs) ≤ long
-        → RunsFit v.form.width v.form.order v.form.extended old_index old_area e v.d (index_start v.form) m long
+        → RunsFit v.form.width v.form.order v.form.extended old_elements old_area v.d (index_start v.form) m long
     runs_fit m long p q = record { runs = a.image.runs; read = accepted_runs s v a start here e number; index_room = p; area_room = q }
 
 -- ---- the slice

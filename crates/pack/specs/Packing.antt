@@ -5,11 +5,10 @@ use Rattle.spec.specs.Outcome.{ok}
 use Rattle.spec.specs.Bytes.{write, blocks_for}
 use Rattle.spec.specs.Header.{block_position}
 use Rattle.spec.specs.Run.{Run}
-use Rattle.spec.specs.Index.{elements_bytes}
+use Rattle.spec.specs.Index.{Element, elements_bytes}
 use Rattle.spec.specs.Blocks.{run_blocks}
 use Rattle.spec.specs.Check.{runs_from}
 use Rattle.spec.specs.Place.{element_of, packed}
-use Rattle.index.specs.Elements.{elements_at}
 
 -- how many blocks an index of so many elements needs, which take so many bytes
 unfoldable pub blocks_needed : ℕ → ℕ → ℕ
@@ -29,11 +28,11 @@ packed_elements width b rs = elements_bytes width (map element_of (packed b rs))
 unfoldable pub runs_packed : ℕ → ℕ → ℕ → List Run → List ℕ → List ℕ
 runs_packed width front base rs s = write front (packed_elements width 0 rs) (write base (runs_bytes rs) s)
 
--- the runs of an index and a data area are read; their elements fit from `front` on in an index of m blocks, and they behind it in a slice of that length
-pub record RunsFit (width order extended : ℕ) (index area : List ℕ) (elements d front m long : ℕ) : Type 0 where
+-- the runs of elements in a data area are read; the elements fit from `front` on in an index of m blocks, and they behind it in a slice of that length
+pub record RunsFit (width order extended : ℕ) (elements : List Element) (area : List ℕ) (d front m long : ℕ) : Type 0 where
   pub runs : List Run
-  pub read : runs_from (below_of order) d area (elements_at width index 0 elements) ≡ ok runs
-  pub index_room : front + length (elements_bytes width (elements_at width index 0 elements)) ≤ block_position extended m 0
+  pub read : runs_from (below_of order) d area elements ≡ ok runs
+  pub index_room : front + length (elements_bytes width elements) ≤ block_position extended m 0
   pub area_room : block_position extended m (run_blocks runs) ≤ long
 
 -- names all definitions of this module: who unfolds it unfolds them

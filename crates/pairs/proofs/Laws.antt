@@ -1,108 +1,48 @@
 -- What the scan of a headword's lead bytes shows, in the terms of the code.
-use Prim.Native.Nat.{ℕ, zero, suc, ◌-◌, ◌<◌, ◌≤◌}
+use Prim.Native.Nat.{ℕ, zero, suc, ◌+◌, ◌-◌, ◌%◌, ◌<◌, ◌≤◌}
 use mathlib.Core.Path.{◌≡◌, refl, sym, ap, ◌∙◌}
 use mathlib.Core.Bool.{Bool, true, false, not, false≢true}
-use mathlib.Core.List.{List}
+use mathlib.Core.List.{List, [], ◌∷◌, ◌++◌}
 use native.Mathlib.Omega.{arith}
 use lib.ListN.{length, get_or, take}
-use lib.Dec.{leb}
-use borrow.Author.Tests.{le-leb, lt-leb, lt-ltb, le-ltb, not-true, not-false}
+use lib.Dec.{eqb}
+use lib.Seq.{take-suc}
+use Rattle.std.specs.Prelude.{reverse}
+use Rattle.std.specs.List.{suffix_len, prefix_len}
+use Rattle.std.proofs.lemmas.List.{reverse-append}
+use borrow.Author.Tests.{eq-eqb, ne_eqb, eqb-true, eqb-false, lt-ltb, le-ltb}
 use Rattle.spec.specs.Pairs.{is_lead, second_next, second_behind, ends_inside, whole_front}
 use Rattle.spec.proofs.PairsLaws.{second_step, front_cut, front_kept}
 
--- ---- a lead byte, by its two ranges
-module _ (b : ℕ) where
-  -- none below both
-  pub lead_low : b < 0x81 → false ≡ is_lead b
-  unfolding is_lead
-  lead_low p = rw (lt-leb 0x81 b p, lt-leb 0xE0 b (omega arith))
+-- ---- lead bytes at the end
+-- one more is odd where the others are not
+odd_next : (n : ℕ) (t : Bool) → eqb (n % 2) 1 ≡ t → eqb ((1 + n) % 2) 1 ≡ not t
+odd_next n true e = let h = eqb-true (n % 2) 1 e in ne_eqb _ _ (omega arith)
+odd_next n false e = let h = eqb-false (n % 2) 1 e in eq-eqb _ _ (omega arith)
 
-  module _ (p : 0x81 ≤ b) where
-    -- those of the first
-    pub lead_first : b ≤ 0x9F → true ≡ is_lead b
-    unfolding is_lead
-    lead_first q = rw (le-leb 0x81 b p, le-leb b 0x9F q)
+-- whether the lead bytes at the end of bytes are odd in number
+abbrev pub odd_leads : List ℕ → Bool
+odd_leads l = eqb (suffix_len is_lead l % 2) 1
 
-    module _ (q : 0x9F < b) where
-      -- none between them
-      pub lead_between : b < 0xE0 → false ≡ is_lead b
-      unfolding is_lead
-      lead_between r = rw (le-leb 0x81 b p, lt-leb b 0x9F q, lt-leb 0xE0 b r)
-
-      -- those of the second, and none above both
-      pub lead_last : 0xE0 ≤ b → leb b 0xFC ≡ is_lead b
-      unfolding is_lead
-      lead_last r = rw (le-leb 0x81 b p, lt-leb b 0x9F q, le-leb 0xE0 b r)
-
--- ---- back over lead bytes
--- a test turned round where odd
-pub turned : Bool → Bool → Bool
-turned true t = not t
-turned false t = t
-
--- from n back to i stand lead bytes, an odd number of them or not
-abbrev pub LeadsBack : List ℕ → ℕ → ℕ → Bool → Type 0
-LeadsBack s n i odd = (i ≤ n) × (second_behind false (take n s) ≡ turned odd (second_behind false (take i s)))
-
--- at the start none
-pub back_none : (s : List ℕ) (n : ℕ) → LeadsBack s n n false
-unfolding turned
-back_none s n = (omega arith, refl)
-
--- one that fails, turned round
-turned_none : (odd : Bool) → turned odd false ≡ odd
-unfolding turned
-turned_none true = refl
-turned_none false = refl
-
--- turned round once more
-turned_more : (odd t : Bool) → turned odd (not t) ≡ turned (not odd) t
-unfolding turned
-turned_more true true = refl
-turned_more true false = refl
-turned_more false t = refl
-
--- behind a lead byte the test is turned round
-next_lead : (t : Bool) (b : ℕ) → is_lead b ≡ true → second_next t b ≡ not t
+-- the same with one byte more
+leads_next : (l : List ℕ) (b : ℕ) → odd_leads (l ++ b ∷ []) ≡ second_next (odd_leads l) b
 unfolding second_next
-next_lead true b e = refl
-next_lead false b e = e
+leads_next l b = rw reverse-append (go (is_lead b) refl (odd_leads l) refl)
+  where
+    go : (t : Bool) → is_lead b ≡ t → (u : Bool) → odd_leads l ≡ u → eqb (prefix_len is_lead (b ∷ reverse l) % 2) 1 ≡ second_next (odd_leads l) b
+    go true e true f = rw (e, f) (odd_next _ true f)
+    go true e false f = rw (f, e) (odd_next _ false f)
+    go false e true f = rw (e, f)
+    go false e false f = rw (e, f) (rw e refl)
 
--- behind another it fails
-next_other : (t : Bool) (b : ℕ) → is_lead b ≡ false → second_next t b ≡ false
-unfolding second_next
-next_other true b e = refl
-next_other false b e = e
-
-module _ (s : List ℕ) (n i : ℕ) (odd : Bool) (v : LeadsBack s n i odd) (l : n ≤ length s) where
-  -- where the byte at i is no second one, odd tells of that at n
-  known : second_behind false (take i s) ≡ false → odd ≡ second_behind false (take n s)
-  known e = sym (v.1 ∙ ap (turned odd) e ∙ turned_none odd)
-
-  -- at the headword's start
-  pub back_all : i ≤ 0 → odd ≡ second_behind false (take n s)
-  unfolding second_behind
-  back_all h =
-      let z : i ≡ 0 = omega arith in
-      known (ap (λ (j : ℕ). second_behind false (take j s)) z)
-
-  module _ (k : ℕ) (p : k < i) (t : Bool) (e : t ≡ is_lead (get_or s (i - 1) 0)) where
-    -- the test at i, by the byte in front of it
-    step : second_behind false (take i s) ≡ second_next (second_behind false (take (i - 1) s)) (get_or s (i - 1) 0)
-    step =
-        let one : suc (i - 1) ≡ i = omega arith in
-        ap (λ (j : ℕ). second_behind false (take j s)) (sym one) ∙ second_step s (i - 1) (omega (arith, v.0))
-
-    -- behind a byte that is none
-    pub back_stop : not t ≡ true → odd ≡ second_behind false (take n s)
-    back_stop h = known (step ∙ next_other _ _ (sym e ∙ not-true t h))
-
-    -- one more
-    pub back_more : not t ≡ false → LeadsBack s n (i - 1) (not odd)
-    back_more h = (
-      omega (arith, v.0),
-      v.1 ∙ ap (turned odd) (step ∙ next_lead _ _ (sym e ∙ not-false t h)) ∙ turned_more odd (second_behind false (take (i - 1) s)),
-    )
+-- they are where a byte behind them is the second of a pair
+pub leads_before : (s : List ℕ) (n : ℕ) → n ≤ length s → odd_leads (take n s) ≡ second_behind false (take n s)
+unfolding second_behind
+leads_before s zero l = refl
+leads_before s (suc n) l =
+    let b : ℕ = get_or s n 0 in
+    ap odd_leads (take-suc s n 0 (omega arith)) ∙ leads_next (take n s) b
+    ∙ ap (λ (t : Bool). second_next t b) (leads_before s n (omega arith)) ∙ sym (second_step s n (omega arith))
 
 -- ---- the front
 module _ (s : List ℕ) (n : ℕ) where

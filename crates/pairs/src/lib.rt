@@ -5,19 +5,11 @@ ghost use Rattle.std.specs.Prelude.{◌≡◌, false, ◌≤◌, length, take};
 ghost use Rattle.spec.specs.Pairs.{is_lead, second_behind, whole_front};
 
 // Whether a byte begins a pair, unless it is the second of one.
+#[tactic(auto, unfolding(spec::specs::Pairs::is_lead))]
 fn is_lead(b: u8) -> bool
     ensures { result ≡ is_lead b }
 {
-    if b < 0x81 {
-        return false;
-    }
-    if b <= 0x9F {
-        return true;
-    }
-    if b < 0xE0 {
-        return false;
-    }
-    b <= 0xFC
+    matches!(b, 0x81..=0x9F | 0xE0..=0xFC)
 }
 
 // Whether a byte at `n` is the second of a pair of `s`: an odd number of lead bytes stand right before it. Behind a letter one
@@ -26,16 +18,8 @@ fn is_second(s: &[u8], n: usize) -> bool
     requires { n ≤ length s.now }
     ensures { result ≡ second_behind false (take n s.now) }
 {
-    let mut i = n;
-    let mut odd = false;
-    while 0 < i {
-        if !is_lead(s[i - 1]) {
-            return odd;
-        }
-        odd = !odd;
-        i -= 1;
-    }
-    odd
+    let leads = s[..n].iter().rev().take_while(|b| is_lead(**b)).count();
+    leads % 2 == 1
 }
 
 // The largest front of at most `n` bytes of `s` that ends inside no pair.
@@ -44,10 +28,8 @@ pub fn whole_front(s: &[u8], n: usize) -> usize
     ensures value { result ≡ whole_front s.now n }
     ensures upper_bound { result ≤ n }
 {
-    if n < s.len() {
-        if is_second(s, n) {
-            return n - 1;
-        }
+    if n < s.len() && is_second(s, n) {
+        return n - 1;
     }
     n
 }

@@ -1,14 +1,17 @@
 // The part list of an entry: whether bytes are one, and a step through it, one part per call.
-ghost use Rattle.std.specs.Prelude.{◌≡◌, [], ◌∷◌, ◌+◌, ◌≤◌, ◌<◌, length, drop};
+#![tactic(auto)]
+
+ghost use Rattle.std.specs.Prelude.{Ok, Some, ◌≡◌, [], ◌∷◌, ◌+◌, ◌≤◌, ◌<◌, length, drop};
 ghost use Rattle.std.proofs.Math.Option.{some};
 ghost use Rattle.spec.specs.Outcome.{ok, accepted};
 ghost use Rattle.spec.specs.PartList.{kind_takes, part_from, list_ends, second_from, parts_from, part_found, step_among, part_step};
 ghost use Rattle.spec.specs.Answers.{part_step_answer};
 ghost use Rattle.partlist.specs.Spans.{part_in, end_part, EndInside, spans_parts, SpansInside};
 
-use spec::PartStep;
+use spec::{PartFound, Refusal};
 
 // the kinds of parts, and how many bytes each may have
+// Kept: the kinds are bytes, as they stand in a list and in `PartFound`; one test asks of them, which is no plainer by way of an enum.
 pub const EXAMPLE: u8 = 0x01;
 
 const LONGEST_EXAMPLE: usize = 20000;
@@ -22,17 +25,9 @@ pub const PARTS_END: u8 = 0x80;
 // the most bytes of a part list: a kind, the bytes and a zero byte of each part, and that byte
 pub const LONGEST_PARTS: usize = 21005;
 
-// Where a part ends, behind its zero byte, or that none stands there by the rules of a part.
-#[derive(Clone, Copy)]
-enum PartEnd {
-    Broken,
-    At(usize),
-}
-
 // The parts of a list by where they stand: the first begins at 0, the second where the first ends; the list's last byte is at `end`.
-#[derive(Clone, Copy)]
+#[derive(Clone, Copy, Debug, PartialEq, Eq)]
 enum Spans {
-    NoList,
     One { end: usize },
     Two { second: usize, end: usize },
 }
@@ -41,33 +36,26 @@ enum Spans {
 pub fn kind_takes(kind: u8, n: usize) -> bool
     ensures { result ≡ kind_takes kind n }
 {
-    if kind == EXAMPLE {
-        return n <= LONGEST_EXAMPLE;
+    match kind {
+        EXAMPLE => n <= LONGEST_EXAMPLE,
+        PRONUNCIATION => n <= LONGEST_PRONUNCIATION,
+        _ => false,
     }
-    if kind == PRONUNCIATION {
-        return n <= LONGEST_PRONUNCIATION;
-    }
-    false
 }
 
-// Where the part at `at` ends.
-fn part_end(list: &[u8], at: usize) -> PartEnd
+// Where the part at `at` ends, behind its zero byte; none if no part stands there by its rules.
+fn part_end(list: &[u8], at: usize) -> Option<usize>
     requires { at ≤ length list.now }
     ensures result_value { end_part list.now at result ≡ part_from (drop at list.now) }
     ensures end_inside { EndInside list.now at result }
 {
+    let kind = *list.get(at)?;
     let end = list.len();
-    if end <= at {
-        return PartEnd::Broken;
-    }
     let zero = scans::first_zero(list, at + 1, end);
     if end <= zero {
-        return PartEnd::Broken;
+        return None;
     }
-    if !kind_takes(list[at], zero - (at + 1)) {
-        return PartEnd::Broken;
-    }
-    PartEnd::At(zero + 1)
+    kind_takes(kind, zero - (at + 1)).then_some(zero + 1)
 }
 
 // Whether the list's last byte stands at `at`.
@@ -75,45 +63,33 @@ fn list_ends(list: &[u8], at: usize) -> bool
     requires { at ≤ length list.now }
     ensures { result ≡ list_ends (drop at list.now) }
 {
-    if list.len() != at + 1 {
-        return false;
-    }
-    list[at] == PARTS_END
+    list.len() == at + 1 && list[at] == PARTS_END
 }
 
 // The parts of a list whose first part ends at `second`, where the list goes on.
-fn find_second(list: &[u8], second: usize) -> Spans
+fn find_second(list: &[u8], second: usize) -> Option<Spans>
     requires { (2 ≤ second) × (second ≤ length list.now) }
     ensures result_value { spans_parts list.now result ≡ second_from (part_in list.now 0 second) (drop second list.now) }
     ensures spans_inside { SpansInside list.now result }
 {
-    let last = part_end(list, second);
-    let PartEnd::At(end) = last else {
-        return Spans::NoList;
-    };
+    let end = part_end(list, second)?;
     if list[second] == list[0] {
-        return Spans::NoList;
+        return None;
     }
     if !list_ends(list, end) {
-        return Spans::NoList;
+        return None;
     }
-    Spans::Two {
-        second: second,
-        end: end,
-    }
+    Some(Spans::Two { second, end })
 }
 
 // The parts of a list that is all of the slice.
-fn find_parts(list: &[u8]) -> Spans
+fn find_parts(list: &[u8]) -> Option<Spans>
     ensures result_value { spans_parts list.now result ≡ parts_from list.now }
     ensures spans_inside { SpansInside list.now result }
 {
-    let first = part_end(list, 0);
-    let PartEnd::At(end) = first else {
-        return Spans::NoList;
-    };
+    let end = part_end(list, 0)?;
     if list_ends(list, end) {
-        return Spans::One { end: end };
+        return Some(Spans::One { end });
     }
     find_second(list, end)
 }
@@ -122,62 +98,66 @@ fn find_parts(list: &[u8]) -> Spans
 pub fn parts_ok(list: &[u8]) -> bool
     ensures { result ≡ accepted (parts_from list.now) }
 {
-    let spans = find_parts(list);
-    match spans {
-        Spans::NoList => false,
-        Spans::One { .. } => true,
-        Spans::Two { .. } => true,
-    }
+    find_parts(list).is_some()
 }
 
 // What a step answers of the part from `at` up to `end`.
-fn part_at(list: &[u8], at: usize, end: usize) -> PartStep
+fn part_at(list: &[u8], at: usize, end: usize) -> PartFound
     requires { (at + 2 ≤ end) × (end ≤ length list.now) }
-    ensures { part_step_answer result ≡ ok (some (part_found at (part_in list.now at end))) }
+    ensures { part_step_answer (Ok (Some result)) ≡ ok (some (part_found at (part_in list.now at end))) }
 {
-    PartStep::Part(list[at], at + 1, end - (at + 2), end)
+    PartFound {
+        kind: list[at],
+        place: at + 1,
+        part_length: end - (at + 2),
+        next: end,
+    }
 }
 
 // The step in a list of one part.
-fn step_one(list: &[u8], end: usize, offset: usize) -> PartStep
+fn step_one(list: &[u8], end: usize, offset: usize) -> Result<Option<PartFound>, Refusal>
     requires { (2 ≤ end) × (end ≤ length list.now) }
     ensures { part_step_answer result ≡ step_among 0 (part_in list.now 0 end ∷ []) offset }
 {
     if offset == 0 {
-        return part_at(list, 0, end);
+        return Ok(Some(part_at(list, 0, end)));
     }
     if offset == end {
-        return PartStep::End;
+        return Ok(None);
     }
-    PartStep::Refused(16)
+    Err(Refusal::BadParts)
 }
 
 // The step in a list of two parts.
-fn step_two(list: &[u8], second: usize, end: usize, offset: usize) -> PartStep
+fn step_two(
+    list: &[u8],
+    second: usize,
+    end: usize,
+    offset: usize,
+) -> Result<Option<PartFound>, Refusal>
     requires { (2 ≤ second) × (second + 2 ≤ end) × (end ≤ length list.now) }
     ensures { part_step_answer result ≡ step_among 0 (part_in list.now 0 second ∷ part_in list.now second end ∷ []) offset }
 {
     if offset == 0 {
-        return part_at(list, 0, second);
+        return Ok(Some(part_at(list, 0, second)));
     }
     if offset == second {
-        return part_at(list, second, end);
+        return Ok(Some(part_at(list, second, end)));
     }
     if offset == end {
-        return PartStep::End;
+        return Ok(None);
     }
-    PartStep::Refused(16)
+    Err(Refusal::BadParts)
 }
 
 // The step: the part of a list at an offset, or the end.
-pub fn part_step(list: &[u8], offset: usize) -> PartStep
+pub fn part_step(list: &[u8], offset: usize) -> Result<Option<PartFound>, Refusal>
     ensures { part_step_answer result ≡ part_step list.now offset }
 {
-    let spans = find_parts(list);
-    match spans {
-        Spans::NoList => PartStep::Refused(16),
-        Spans::One { end } => step_one(list, end, offset),
-        Spans::Two { second, end } => step_two(list, second, end, offset),
+    match find_parts(list) {
+        None => Err(Refusal::BadParts),
+        Some(Spans::One { end }) => step_one(list, end, offset),
+        Some(Spans::Two { second, end }) => step_two(list, second, end, offset),
     }
 }
 
@@ -190,14 +170,14 @@ pub struct PartWalker<'a> {
 
 impl<'a> PartWalker<'a> {
     // A walk that stands at an offset of a list.
-    pub fn new(parts: &'a [u8], at: usize) -> PartWalker<'a>
+    pub fn new(parts: &'a [u8], at: usize) -> Self
         ensures { (result.parts ≡ parts.entry) × (result.at ≡ at) }
     {
         PartWalker { parts, at }
     }
 
     // The part where the walk stands, or the end.
-    pub fn step(self) -> PartStep
+    pub fn step(self) -> Result<Option<PartFound>, Refusal>
         ensures { part_step_answer result ≡ part_step self.entry.parts.now self.entry.at }
     {
         part_step(self.parts, self.at)
@@ -205,7 +185,7 @@ impl<'a> PartWalker<'a> {
 }
 
 // The step by way of a walker. Its parameters are plain, so that callers are covered.
-pub fn step_from(parts: &[u8], at: usize) -> PartStep
+pub fn step_from(parts: &[u8], at: usize) -> Result<Option<PartFound>, Refusal>
     ensures { part_step_answer result ≡ part_step parts.now at }
 {
     PartWalker::new(parts, at).step()

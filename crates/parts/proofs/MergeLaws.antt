@@ -1,13 +1,13 @@
 -- The entries left in a run, the change merged into them, and what each turn takes of them.
 use Prim.Native.Nat.{ℕ, zero, suc, ◌+◌, ◌-◌, ◌<◌, ◌≤◌}
-use mathlib.Core.Path.{◌≡◌, refl, sym, ap, ◌∙◌}
+use mathlib.Core.Path.{◌≡◌, refl, sym, ap, subst, ◌∙◌}
 use mathlib.Core.Logic.{◌⊎◌, inl, inr, ⊎_elim}
 use mathlib.Core.Bool.{Bool, true, false, not}
 use mathlib.Core.List.{List, [], ◌∷◌, ◌++◌, map}
 use mathlib.Core.Option.{Option, none, some}
 use native.Mathlib.Omega.{arith}
+use Rattle.std.specs.Prelude as std
 use lib.ListN.{length, take, drop}
-use lib.Dec.{eqb}
 use Rattle.spec.specs.Outcome.{Outcome, refused, ok}
 use Rattle.spec.specs.Lists.{all, filter, All}
 use Rattle.spec.specs.Bytes.{bytes_at, bytes_equal}
@@ -20,13 +20,14 @@ use Rattle.spec.proofs.OutcomeLaws.{ok_not_refused, same_value, bind_ok}
 use Rattle.spec.proofs.OrderLaws.{one_way, order_of}
 use Rattle.spec.proofs.ReadLaws.{entry_told, after_step, bytes_self}
 use Rattle.spec.proofs.SearchLaws.{other, other_way}
-use Rattle.scans.specs.declared.Comparison.{Comparison}
-use Rattle.scans.specs.declared.Comparison.TheVariants.{Below, Same, Above}
+use Rattle.std.specs.declared.cmp.Ordering.{Ordering}
+use Rattle.std.specs.declared.cmp.Ordering.TheVariants.{Less, Equal, Greater}
 use Rattle.scans.specs.Compare.{comparison}
 use Rattle.scans.proofs.Laws.{comparison_below, comparison_above, comparison_above_not, comparison_same, comparison_below_not}
+use Rattle.runs.specs.declared.EntryPlace.{EntryPlace}
 use Rattle.parts.specs.declared.Cursor.{Cursor}
 use Rattle.parts.specs.declared.Turn.{Turn}
-use Rattle.parts.specs.Merge.{entries_until, entries_left, merge, ahead, todo, turn_of}
+use Rattle.parts.specs.Merge.{entries_until, entries_left, merge, own_ahead, ahead, todo, turn_at, turn_of}
 
 -- ---- the entries left
 -- by what stands at the front
@@ -132,24 +133,24 @@ left_few below prev s = until_few below (suc (length s)) prev s
 -- ---- the change merged in
 module _ (below : HeadwordOrder) (a : Entry) where
   -- an entry below the new one stays in front
-  pub merge_below : (fresh : Bool) (e : Entry) (es : List Entry) → comparison below e.headword a.headword ≡ Below → merge below a fresh (e ∷ es) ≡ e ∷ merge below a fresh es
+  pub merge_below : (fresh : Bool) (e : Entry) (es : List Entry) → comparison below e.headword a.headword ≡ Less → merge below a fresh (e ∷ es) ≡ e ∷ merge below a fresh es
   unfolding merge
   merge_below true e es q = rw (q, merge)
   merge_below false e es q = rw (q, merge)
 
   -- one with its headword goes
-  pub merge_same : (fresh : Bool) (e : Entry) (es : List Entry) → comparison below e.headword a.headword ≡ Same → merge below a fresh (e ∷ es) ≡ merge below a fresh es
+  pub merge_same : (fresh : Bool) (e : Entry) (es : List Entry) → comparison below e.headword a.headword ≡ Equal → merge below a fresh (e ∷ es) ≡ merge below a fresh es
   unfolding merge
   merge_same true e es q = rw (q, merge)
   merge_same false e es q = rw (q, merge)
 
   -- before one above it the new one enters
-  pub merge_enters : (e : Entry) (es : List Entry) → comparison below e.headword a.headword ≡ Above → merge below a true (e ∷ es) ≡ a ∷ e ∷ merge below a false es
+  pub merge_enters : (e : Entry) (es : List Entry) → comparison below e.headword a.headword ≡ Greater → merge below a true (e ∷ es) ≡ a ∷ e ∷ merge below a false es
   unfolding merge
   merge_enters e es q = rw (q, merge)
 
   -- or it stays, where nothing is to come
-  pub merge_above : (e : Entry) (es : List Entry) → comparison below e.headword a.headword ≡ Above → merge below a false (e ∷ es) ≡ e ∷ merge below a false es
+  pub merge_above : (e : Entry) (es : List Entry) → comparison below e.headword a.headword ≡ Greater → merge below a false (e ∷ es) ≡ e ∷ merge below a false es
   unfolding merge
   merge_above e es q = rw (q, merge)
 
@@ -159,10 +160,10 @@ module _ (below : HeadwordOrder) (a : Entry) where
   merge_old [] = omega arith
   merge_old (e ∷ es) = go (merge_old es) (comparison below e.headword a.headword) refl
     where
-      go : length (merge below a false es) ≤ length es → (k : Comparison) → comparison below e.headword a.headword ≡ k → length (merge below a false (e ∷ es)) ≤ suc (length es)
-      go ih Below q = rw (merge_below false e es q) (omega arith)
-      go ih Same q = rw (merge_same false e es q) (omega arith)
-      go ih Above q = rw (merge_above e es q) (omega arith)
+      go : length (merge below a false es) ≤ length es → (k : Ordering) → comparison below e.headword a.headword ≡ k → length (merge below a false (e ∷ es)) ≤ suc (length es)
+      go ih Less q = rw (merge_below false e es q) (omega arith)
+      go ih Equal q = rw (merge_same false e es q) (omega arith)
+      go ih Greater q = rw (merge_above e es q) (omega arith)
 
   -- no more than one entry is new
   pub merge_few : (fresh : Bool) (es : List Entry) → length (merge below a fresh es) ≤ length es + 1
@@ -171,12 +172,12 @@ module _ (below : HeadwordOrder) (a : Entry) where
   merge_few false [] = omega arith
   merge_few fresh (e ∷ es) = go fresh (λ t. merge_few t es) (comparison below e.headword a.headword) refl
     where
-      go : (t : Bool) → ((u : Bool) → length (merge below a u es) ≤ length es + 1) → (k : Comparison) → comparison below e.headword a.headword ≡ k
+      go : (t : Bool) → ((u : Bool) → length (merge below a u es) ≤ length es + 1) → (k : Ordering) → comparison below e.headword a.headword ≡ k
           → length (merge below a t (e ∷ es)) ≤ suc (length es) + 1
-      go t ih Below q = rw (merge_below t e es q) (omega (arith, ih t))
-      go t ih Same q = rw (merge_same t e es q) (omega (arith, ih t))
-      go true ih Above q = rw (merge_enters e es q) (omega (arith, merge_old es))
-      go false ih Above q = rw (merge_above e es q) (omega (arith, ih false))
+      go t ih Less q = rw (merge_below t e es q) (omega (arith, ih t))
+      go t ih Equal q = rw (merge_same t e es q) (omega (arith, ih t))
+      go true ih Greater q = rw (merge_enters e es q) (omega (arith, merge_old es))
+      go false ih Greater q = rw (merge_above e es q) (omega (arith, ih false))
 
   -- a fact of the new entry and of all others
   pub merge_all : (P : Entry → Type 0) → P a → (fresh : Bool) (es : List Entry) → All P es → All P (merge below a fresh es)
@@ -185,11 +186,11 @@ module _ (below : HeadwordOrder) (a : Entry) where
   merge_all P p false [] h = tt
   merge_all P p fresh (e ∷ es) (h, hs) = go fresh (λ t. merge_all P p t es hs) (comparison below e.headword a.headword) refl
     where
-      go : (t : Bool) → ((u : Bool) → All P (merge below a u es)) → (k : Comparison) → comparison below e.headword a.headword ≡ k → All P (merge below a t (e ∷ es))
-      go t ih Below q = rw (merge_below t e es q) (h, ih t)
-      go t ih Same q = rw (merge_same t e es q) (ih t)
-      go true ih Above q = rw (merge_enters e es q) (p, (h, ih false))
-      go false ih Above q = rw (merge_above e es q) (h, ih false)
+      go : (t : Bool) → ((u : Bool) → All P (merge below a u es)) → (k : Ordering) → comparison below e.headword a.headword ≡ k → All P (merge below a t (e ∷ es))
+      go t ih Less q = rw (merge_below t e es q) (h, ih t)
+      go t ih Equal q = rw (merge_same t e es q) (ih t)
+      go true ih Greater q = rw (merge_enters e es q) (p, (h, ih false))
+      go false ih Greater q = rw (merge_above e es q) (h, ih false)
 
   module _ (order : IsOrder below) where
     -- an entry that is not to come again: the entry with its headword goes
@@ -198,12 +199,12 @@ module _ (below : HeadwordOrder) (a : Entry) where
     merge_remove [] = refl
     merge_remove (e ∷ es) = go (merge_remove es) (comparison below e.headword a.headword) refl
       where
-        go : merge below a false es ≡ remove a.headword es → (k : Comparison) → comparison below e.headword a.headword ≡ k → merge below a false (e ∷ es) ≡ remove a.headword (e ∷ es)
-        go ih Below q = merge_below false e es q ∙ ap (λ (l : List Entry). e ∷ l) ih
+        go : merge below a false es ≡ remove a.headword es → (k : Ordering) → comparison below e.headword a.headword ≡ k → merge below a false (e ∷ es) ≡ remove a.headword (e ∷ es)
+        go ih Less q = merge_below false e es q ∙ ap (λ (l : List Entry). e ∷ l) ih
             ∙ sym (filter_yes (λ d. not (bytes_equal d.headword a.headword)) e es (ap not (other below order e.headword a.headword (comparison_below below e.headword a.headword q))))
-        go ih Same q = merge_same false e es q ∙ ih
+        go ih Equal q = merge_same false e es q ∙ ih
             ∙ sym (filter_no (λ d. not (bytes_equal d.headword a.headword)) e es (rw (comparison_same below e.headword a.headword order q, bytes_self a.headword)))
-        go ih Above q = merge_above e es q ∙ ap (λ (l : List Entry). e ∷ l) ih
+        go ih Greater q = merge_above e es q ∙ ap (λ (l : List Entry). e ∷ l) ih
             ∙ sym (filter_yes (λ d. not (bytes_equal d.headword a.headword)) e es
             (ap not (other_way below order a.headword e.headword (comparison_above below e.headword a.headword q))))
 
@@ -229,19 +230,19 @@ module _ (below : HeadwordOrder) (a : Entry) where
         upper : Entry → Bool
         upper d = below a.headword d.headword
 
-        go : merge below a true es ≡ replace below a es → (k : Comparison) → comparison below e.headword a.headword ≡ k
+        go : merge below a true es ≡ replace below a es → (k : Ordering) → comparison below e.headword a.headword ≡ k
             → merge below a true (e ∷ es) ≡ filter lower (e ∷ es) ++ a ∷ filter upper (e ∷ es)
-        go ih Below q =
+        go ih Less q =
             merge_below true e es q
             ∙ rw (
               filter_yes lower e es (comparison_below below e.headword a.headword q),
               filter_no upper e es (comparison_below_not below e.headword a.headword order q),
             ) (ap (λ (l : List Entry). e ∷ l) ih)
-        go ih Same q =
+        go ih Equal q =
             let s : e.headword ≡ a.headword = comparison_same below e.headword a.headword order q in
             let i : below a.headword a.headword ≡ false = order.irreflexive a.headword in
             merge_same true e es q ∙ rw (filter_no lower e es (rw s i), filter_no upper e es (rw s i)) ih
-        go ih Above q =
+        go ih Greater q =
             let up : below a.headword e.headword ≡ true = comparison_above below e.headword a.headword q in
             let every : All (λ d. below a.headword d.headword ≡ true) es
             = all_map _ _ (λ d r. order.transitive a.headword e.headword d.headword up r) es (headwords_above e.headword es h) in
@@ -255,154 +256,150 @@ module _ (below : HeadwordOrder) (a : Entry) (es : List Entry) where
   unfolding merge
   new_alone q = rw q
 
-  new_before : (e : Entry) (rest : List Entry) → es ≡ e ∷ rest → comparison below e.headword a.headword ≡ Above → merge below a true es ≡ a ∷ merge below a false es
+  new_before : (e : Entry) (rest : List Entry) → es ≡ e ∷ rest → comparison below e.headword a.headword ≡ Greater → merge below a true es ≡ a ∷ merge below a false es
   new_before e rest q k = rw q (merge_enters below a e rest k ∙ ap (λ (l : List Entry). a ∷ l) (sym (merge_above below a e rest k)))
 
 -- ---- where reading stands
 module _ (order : ℕ) (run word : List ℕ) (c : Cursor) where
   -- no entry is left
-  pub ahead_none : eqb c.length 0 ≡ true → ahead order run word c ≡ []
-  unfolding ahead
-  ahead_none q = rw (q, ahead)
+  pub ahead_none : c.own ≡ std.None → ahead order run word c ≡ []
+  unfolding ahead own_ahead
+  ahead_none q = ap (own_ahead order run word) q
 
   -- an entry, and those behind it
-  pub ahead_some : eqb c.length 0 ≡ false
-      → ahead order run word c ≡ record { headword = take c.length word; body = bytes_at (c.zero + 1) (c.next - (c.zero + 1)) run }
-      ∷ entries_left (below_of order) (take c.length word) (drop c.next run)
-  unfolding ahead
-  ahead_some q = rw (q, ahead)
+  pub ahead_some : (e : EntryPlace) → c.own ≡ std.Some e
+      → ahead order run word c ≡ record { headword = take e.length word; body = bytes_at (e.zero + 1) (e.next - (e.zero + 1)) run }
+      ∷ entries_left (below_of order) (take e.length word) (drop e.next run)
+  unfolding ahead own_ahead
+  ahead_some e q = ap (own_ahead order run word) q
 
--- a turn by its tests: whether no old entry is left, whether the new one is to come, and how the old one stands to it
-abbrev turn_by : Bool → Bool → Comparison → Turn
-turn_by b fresh k = elim b [
-  | true ↦ elim fresh [ true ↦ Turn.New | false ↦ Turn.Done ]
-  | false ↦ elim k [ Below ↦ Turn.Old | Same ↦ Turn.Skip | Above ↦ elim fresh [ true ↦ Turn.New | false ↦ Turn.Old ] ]
-]
+-- what a turn tells where an old entry is left
+at_skip : (d e : EntryPlace) (f : Bool) (k : Ordering) → turn_at d f k ≡ Turn.Skip e → (d ≡ e) × (k ≡ Equal)
+unfolding turn_at
+at_skip d e f Less h = clash (cc)
+at_skip d e f Equal h = (cc, refl)
+at_skip d e true Greater h = clash (cc)
+at_skip d e false Greater h = clash (cc)
 
-by_done : (b f : Bool) (k : Comparison) → turn_by b f k ≡ Turn.Done → (b ≡ true) × (f ≡ false)
-by_done true true k h = clash (cc)
-by_done true false k h = (refl, refl)
-by_done false f Below h = clash (cc)
-by_done false f Same h = clash (cc)
-by_done false true Above h = clash (cc)
-by_done false false Above h = clash (cc)
+at_old : (d e : EntryPlace) (f : Bool) (k : Ordering) → turn_at d f k ≡ Turn.Old e → (d ≡ e) × ((k ≡ Less) ⊎ ((k ≡ Greater) × (f ≡ false)))
+unfolding turn_at
+at_old d e f Less h = (cc, inl refl)
+at_old d e f Equal h = clash (cc)
+at_old d e true Greater h = clash (cc)
+at_old d e false Greater h = (cc, inr (refl, refl))
 
-by_skip : (b f : Bool) (k : Comparison) → turn_by b f k ≡ Turn.Skip → (b ≡ false) × (k ≡ Same)
-by_skip true true k h = clash (cc)
-by_skip true false k h = clash (cc)
-by_skip false f Below h = clash (cc)
-by_skip false f Same h = (refl, refl)
-by_skip false true Above h = clash (cc)
-by_skip false false Above h = clash (cc)
+at_new : (d : EntryPlace) (f : Bool) (k : Ordering) → turn_at d f k ≡ Turn.New → (f ≡ true) × (k ≡ Greater)
+unfolding turn_at
+at_new d f Less h = clash (cc)
+at_new d f Equal h = clash (cc)
+at_new d true Greater h = (refl, refl)
+at_new d false Greater h = clash (cc)
 
-by_old : (b f : Bool) (k : Comparison) → turn_by b f k ≡ Turn.Old → (b ≡ false) × ((k ≡ Below) ⊎ ((k ≡ Above) × (f ≡ false)))
-by_old true true k h = clash (cc)
-by_old true false k h = clash (cc)
-by_old false f Below h = (refl, inl refl)
-by_old false f Same h = clash (cc)
-by_old false true Above h = clash (cc)
-by_old false false Above h = (refl, inr (refl, refl))
+at_done : (d : EntryPlace) (f : Bool) (k : Ordering) → turn_at d f k ≡ Turn.Done → ⊥
+unfolding turn_at
+at_done d f Less h = clash (cc)
+at_done d f Equal h = clash (cc)
+at_done d true Greater h = clash (cc)
+at_done d false Greater h = clash (cc)
 
-by_new : (b f : Bool) (k : Comparison) → turn_by b f k ≡ Turn.New → (f ≡ true) × ((b ≡ true) ⊎ ((b ≡ false) × (k ≡ Above)))
-by_new true true k h = (refl, inl refl)
-by_new true false k h = clash (cc)
-by_new false f Below h = clash (cc)
-by_new false f Same h = clash (cc)
-by_new false true Above h = (refl, inr (refl, refl))
-by_new false false Above h = clash (cc)
-
--- a turn where an old entry is left, by how it stands to the new one
-module _ (below : HeadwordOrder) (h word : List ℕ) (held : ℕ) (fresh : Bool) (b : eqb held 0 ≡ false) where
-  -- below the new one it is kept
-  pub turn_keeps : comparison below (take held word) h ≡ Below → turn_of below h fresh held word ≡ Turn.Old
+-- what a turn tells of where reading stands
+module _ (below : HeadwordOrder) (h word : List ℕ) where
+  -- nothing comes: no old entry is left, and no new one is to come
+  pub turn_done : (own : std.Option EntryPlace) (f : Bool) → turn_of below h word own f ≡ Turn.Done → (own ≡ std.None) × (f ≡ false)
   unfolding turn_of
-  turn_keeps q = ap (λ (t : Bool). turn_by t fresh (comparison below (take held word) h)) b ∙ ap (turn_by false fresh) q
+  turn_done std.None true q = clash (cc)
+  turn_done std.None false q = (refl, refl)
+  turn_done (std.Some d) f q = absurd (at_done d f (comparison below (take d.length word) h) q)
 
-  -- with its headword it is dropped
-  pub turn_skips : comparison below (take held word) h ≡ Same → turn_of below h fresh held word ≡ Turn.Skip
+  -- an old entry is dropped: it has the headword of the new one
+  pub turn_skip : (e : EntryPlace) (own : std.Option EntryPlace) (f : Bool) → turn_of below h word own f ≡ Turn.Skip e
+      → (own ≡ std.Some e) × (comparison below (take e.length word) h ≡ Equal)
   unfolding turn_of
-  turn_skips q = ap (λ (t : Bool). turn_by t fresh (comparison below (take held word) h)) b ∙ ap (turn_by false fresh) q
+  turn_skip e std.None true q = clash (cc)
+  turn_skip e std.None false q = clash (cc)
+  turn_skip e (std.Some d) f q =
+      let (p, k) = at_skip d e f (comparison below (take d.length word) h) q in
+      (ap std.Some p, ap (λ (x : EntryPlace). comparison below (take x.length word) h) (sym p) ∙ k)
 
-  -- above it, by whether the new one is to come
-  pub turn_enters : comparison below (take held word) h ≡ Above → turn_of below h fresh held word ≡ elim fresh [ true ↦ Turn.New | false ↦ Turn.Old ]
+  -- it is kept: it is below the new one, or above it and the new one is not to come
+  pub turn_old : (e : EntryPlace) (own : std.Option EntryPlace) (f : Bool) → turn_of below h word own f ≡ Turn.Old e
+      → (own ≡ std.Some e) × ((comparison below (take e.length word) h ≡ Less) ⊎ ((comparison below (take e.length word) h ≡ Greater) × (f ≡ false)))
   unfolding turn_of
-  turn_enters q = ap (λ (t : Bool). turn_by t fresh (comparison below (take held word) h)) b ∙ ap (turn_by false fresh) q
+  turn_old e std.None true q = clash (cc)
+  turn_old e std.None false q = clash (cc)
+  turn_old e (std.Some d) f q =
+      let (p, k) = at_old d e f (comparison below (take d.length word) h) q in (
+        ap std.Some p,
+        subst (λ (x : EntryPlace). (comparison below (take x.length word) h ≡ Less) ⊎ ((comparison below (take x.length word) h ≡ Greater) × (f ≡ false))) p k,
+      )
+
+  -- the new one enters: it was to come, and no old one is left or the next is above it
+  pub turn_new : (own : std.Option EntryPlace) (f : Bool) → turn_of below h word own f ≡ Turn.New
+      → (f ≡ true) × ((own ≡ std.None) ⊎ ((e : EntryPlace) × (own ≡ std.Some e) × (comparison below (take e.length word) h ≡ Greater)))
+  unfolding turn_of
+  turn_new std.None true q = (refl, inl refl)
+  turn_new std.None false q = clash (cc)
+  turn_new (std.Some d) f q =
+      let (p, k) = at_new d f (comparison below (take d.length word) h) q in
+      (p, inr (d, refl, k))
 
 -- the same cursor, the new entry no more to come
 abbrev pub taken : Cursor → Cursor
-taken c = record { length = c.length; zero = c.zero; next = c.next; fresh = false }
+taken c = record { own = c.own; fresh = false }
 
 -- what each turn takes of the entries to do
 module _ (order : ℕ) (run word h body : List ℕ) (c : Cursor) where
-  -- an old entry that is dropped has a headword
-  pub skip_some : turn_of (below_of order) h c.fresh c.length word ≡ Turn.Skip → eqb c.length 0 ≡ false
-  unfolding turn_of
-  skip_some q = (by_skip (eqb c.length 0) c.fresh (comparison (below_of order) (take c.length word) h) q).0
-
-  -- the same of one that is kept
-  pub old_some : turn_of (below_of order) h c.fresh c.length word ≡ Turn.Old → eqb c.length 0 ≡ false
-  unfolding turn_of
-  old_some q = (by_old (eqb c.length 0) c.fresh (comparison (below_of order) (take c.length word) h) q).0
-
-  -- a new entry that enters was to come
-  pub new_fresh : turn_of (below_of order) h c.fresh c.length word ≡ Turn.New → c.fresh ≡ true
-  unfolding turn_of
-  new_fresh q = (by_new (eqb c.length 0) c.fresh (comparison (below_of order) (take c.length word) h) q).0
-
   -- nothing
-  pub todo_done : turn_of (below_of order) h c.fresh c.length word ≡ Turn.Done → todo order run word h body c ≡ []
-  unfolding turn_of todo merge
+  pub todo_done : turn_of (below_of order) h word c.own c.fresh ≡ Turn.Done → todo order run word h body c ≡ []
+  unfolding todo merge
   todo_done q =
-      let (b, f) = by_done (eqb c.length 0) c.fresh (comparison (below_of order) (take c.length word) h) q in
+      let (b, f) = turn_done (below_of order) h word c.own c.fresh q in
       rw (ahead_none order run word c b, f)
 
-  -- the old entry, which the change drops
-  pub todo_skip : turn_of (below_of order) h c.fresh c.length word ≡ Turn.Skip
-      → todo order run word h body c ≡ merge (below_of order) (record { headword = h; body = body }) c.fresh (entries_left (below_of order) (take c.length word) (drop c.next run))
-  unfolding turn_of todo
-  todo_skip q =
-      let (b, k) = by_skip (eqb c.length 0) c.fresh (comparison (below_of order) (take c.length word) h) q in
-      rw (ahead_some order run word c b) (merge_same (below_of order) (record { headword = h; body = body }) c.fresh _ _ k)
-
-  -- the old entry
-  pub todo_old : turn_of (below_of order) h c.fresh c.length word ≡ Turn.Old
-      → todo order run word h body c ≡ record { headword = take c.length word; body = bytes_at (c.zero + 1) (c.next - (c.zero + 1)) run }
-      ∷ merge (below_of order) (record { headword = h; body = body }) c.fresh (entries_left (below_of order) (take c.length word) (drop c.next run))
-  unfolding turn_of todo
-  todo_old q =
-      let (b, k) = by_old (eqb c.length 0) c.fresh (comparison (below_of order) (take c.length word) h) q in
-      rw (ahead_some order run word c b) (
-      ⊎_elim (λ p. merge_below (below_of order) (record { headword = h; body = body }) c.fresh _ _ p)
-      (λ (p, f). rw f (merge_above (below_of order) (record { headword = h; body = body }) _ _ p)) k
-      )
-
-  -- what is ahead where nothing comes next: nothing
-  pub done_ahead : turn_of (below_of order) h c.fresh c.length word ≡ Turn.Done → ahead order run word c ≡ []
-  unfolding turn_of
-  done_ahead q = ahead_none order run word c (by_done (eqb c.length 0) c.fresh (comparison (below_of order) (take c.length word) h) q).0
-
-  -- the old entry that is dropped has the headword
-  pub skip_same : turn_of (below_of order) h c.fresh c.length word ≡ Turn.Skip → bytes_equal (take c.length word) h ≡ true
-  unfolding turn_of
-  skip_same q =
-      let (b, k) = by_skip (eqb c.length 0) c.fresh (comparison (below_of order) (take c.length word) h) q in
-      rw (comparison_same (below_of order) (take c.length word) h (order_of order) k) (bytes_self h)
-
-  -- the one that is kept has another
-  pub old_other : turn_of (below_of order) h c.fresh c.length word ≡ Turn.Old → bytes_equal (take c.length word) h ≡ false
-  unfolding turn_of
-  old_other q =
-      let (b, k) = by_old (eqb c.length 0) c.fresh (comparison (below_of order) (take c.length word) h) q in
-      ⊎_elim (λ p. other (below_of order) (order_of order) (take c.length word) h (comparison_below (below_of order) (take c.length word) h p))
-      (λ (p, f). other_way (below_of order) (order_of order) h (take c.length word) (comparison_above (below_of order) (take c.length word) h p)) k
+  -- what is ahead then: nothing
+  pub done_ahead : turn_of (below_of order) h word c.own c.fresh ≡ Turn.Done → ahead order run word c ≡ []
+  done_ahead q = ahead_none order run word c (turn_done (below_of order) h word c.own c.fresh q).0
 
   -- the new entry
-  pub todo_new : turn_of (below_of order) h c.fresh c.length word ≡ Turn.New → todo order run word h body c ≡ record { headword = h; body = body } ∷ todo order run word h body (taken c)
-  unfolding turn_of todo ahead
+  pub todo_new : turn_of (below_of order) h word c.own c.fresh ≡ Turn.New → todo order run word h body c ≡ record { headword = h; body = body } ∷ todo order run word h body (taken c)
+  unfolding todo ahead
   todo_new q =
       let a : Entry = record { headword = h; body = body } in
-      let (f, k) = by_new (eqb c.length 0) c.fresh (comparison (below_of order) (take c.length word) h) q in
+      let (f, k) = turn_new (below_of order) h word c.own c.fresh q in
       ap (λ (t : Bool). merge (below_of order) a t (ahead order run word c)) f
-      ∙ ⊎_elim (λ (b : eqb c.length 0 ≡ true). new_alone (below_of order) a (ahead order run word c) (ahead_none order run word c b))
-      (λ (w : (eqb c.length 0 ≡ false) × (comparison (below_of order) (take c.length word) h ≡ Above)). new_before (below_of order) a (ahead order run word c) _ _
-      (ahead_some order run word c w.0) w.1) k
+      ∙ ⊎_elim (λ b. new_alone (below_of order) a (ahead order run word c) (ahead_none order run word c b))
+      (λ (e, b, w). new_before (below_of order) a (ahead order run word c) _ _ (ahead_some order run word c e b) w) k
+
+  module _ (e : EntryPlace) where
+    -- the old entry, which the change drops
+    pub todo_skip : turn_of (below_of order) h word c.own c.fresh ≡ Turn.Skip e
+        → todo order run word h body c ≡ merge (below_of order) (record { headword = h; body = body }) c.fresh (entries_left (below_of order) (take e.length word) (drop e.next run))
+    unfolding todo
+    todo_skip q =
+        let (b, k) = turn_skip (below_of order) h word e c.own c.fresh q in
+        rw (ahead_some order run word c e b) (merge_same (below_of order) (record { headword = h; body = body }) c.fresh _ _ k)
+
+    -- it has the headword
+    pub skip_same : turn_of (below_of order) h word c.own c.fresh ≡ Turn.Skip e → bytes_equal (take e.length word) h ≡ true
+    skip_same q =
+        let (b, k) = turn_skip (below_of order) h word e c.own c.fresh q in
+        rw (comparison_same (below_of order) (take e.length word) h (order_of order) k) (bytes_self h)
+
+    -- the old entry, which it keeps
+    pub todo_old : turn_of (below_of order) h word c.own c.fresh ≡ Turn.Old e
+        → todo order run word h body c ≡ record { headword = take e.length word; body = bytes_at (e.zero + 1) (e.next - (e.zero + 1)) run }
+        ∷ merge (below_of order) (record { headword = h; body = body }) c.fresh (entries_left (below_of order) (take e.length word) (drop e.next run))
+    unfolding todo
+    todo_old q =
+        let (b, k) = turn_old (below_of order) h word e c.own c.fresh q in
+        rw (ahead_some order run word c e b) (
+        ⊎_elim (λ p. merge_below (below_of order) (record { headword = h; body = body }) c.fresh _ _ p)
+        (λ (p, f). rw f (merge_above (below_of order) (record { headword = h; body = body }) _ _ p)) k
+        )
+
+    -- it has another headword
+    pub old_other : turn_of (below_of order) h word c.own c.fresh ≡ Turn.Old e → bytes_equal (take e.length word) h ≡ false
+    old_other q =
+        let (b, k) = turn_old (below_of order) h word e c.own c.fresh q in
+        ⊎_elim (λ p. other (below_of order) (order_of order) (take e.length word) h (comparison_below (below_of order) (take e.length word) h p))
+        (λ (p, f). other_way (below_of order) (order_of order) h (take e.length word) (comparison_above (below_of order) (take e.length word) h p)) k

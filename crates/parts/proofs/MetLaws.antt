@@ -5,6 +5,7 @@ use mathlib.Core.Bool.{Bool, true, false, ◌||◌, true≢false}
 use mathlib.Core.List.{List, [], ◌∷◌}
 use mathlib.Core.Option.{Option}
 use lib.ListN.{take, drop}
+use Rattle.std.specs.Prelude as std
 use borrow.Author.Tests.{eq-eqb}
 use Rattle.spec.specs.Lists.{filter, first}
 use Rattle.spec.specs.Bytes.{bytes_equal}
@@ -13,12 +14,12 @@ use Rattle.spec.specs.Entry.{Entry}
 use Rattle.spec.specs.SortedList.{has_headword, lookup}
 use Rattle.spec.specs.Claim.{is_there}
 use Rattle.spec.proofs.ListsLaws.{or_right, filter_yes, filter_no}
+use Rattle.runs.specs.declared.EntryPlace.{EntryPlace}
 use Rattle.parts.specs.declared.Cursor.{Cursor}
-use Rattle.parts.specs.declared.Fit.{Fit}
 use Rattle.parts.specs.declared.Turn.{Turn}
 use Rattle.parts.specs.Merge.{entries_left, ahead, turn_of, Met}
 use Rattle.parts.specs.Part.{has_room, Appended}
-use Rattle.parts.proofs.MergeLaws.{ahead_some, taken, skip_some, old_some, done_ahead, skip_same, old_other}
+use Rattle.parts.proofs.MergeLaws.{ahead_some, taken, turn_skip, turn_old, done_ahead, skip_same, old_other}
 
 module _ (h : List ℕ) (e : Entry) (es : List Entry) where
   -- the first entry has the headword
@@ -36,21 +37,21 @@ module _ (h : List ℕ) (e : Entry) (es : List Entry) where
 pub met_start : (h : List ℕ) (es : List Entry) → Met h es false es
 met_start h es = record { told = refl }
 
-module _ (order : ℕ) (run word h : List ℕ) (c : Cursor) (t : Turn) (told : t ≡ turn_of (below_of order) h c.fresh c.length word) where
-  module _ (es₀ : List Entry) (found : Bool) (met : Met h es₀ found (ahead order run word c)) (word' : List ℕ) (c' : Cursor)
-      (p : ahead order run word' c' ≡ entries_left (below_of order) (take c.length word) (drop c.next run)) where
+module _ (order : ℕ) (run word h : List ℕ) (c : Cursor) (t : Turn) (told : t ≡ turn_of (below_of order) h word c.own c.fresh) where
+  module _ (es₀ : List Entry) (found : Bool) (met : Met h es₀ found (ahead order run word c)) (d : EntryPlace) (word' : List ℕ) (c' : Cursor)
+      (p : ahead order run word' c' ≡ entries_left (below_of order) (take d.length word) (drop d.next run)) where
     -- an old entry that is dropped is found
-    pub met_skip : t ≡ Turn.Skip → Met h es₀ true (ahead order run word' c')
+    pub met_skip : t ≡ Turn.Skip d → Met h es₀ true (ahead order run word' c')
     met_skip q =
-        let e = ahead_some order run word c (skip_some order run word h [] c (sym told ∙ q)) in
-        let k = ap (λ (es : List Entry). is_there (lookup h es)) e ∙ found_here h _ _ (skip_same order run word h [] c (sym told ∙ q)) in
+        let e = ahead_some order run word c d (turn_skip (below_of order) h word d c.own c.fresh (sym told ∙ q)).0 in
+        let k = ap (λ (es : List Entry). is_there (lookup h es)) e ∙ found_here h _ _ (skip_same order run word h [] c d (sym told ∙ q)) in
         record { told = sym (or_right found _ k) ∙ met.told }
 
     -- one that is kept has another headword
-    pub met_old : t ≡ Turn.Old → Met h es₀ found (ahead order run word' c')
+    pub met_old : t ≡ Turn.Old d → Met h es₀ found (ahead order run word' c')
     met_old q =
-        let e = ahead_some order run word c (old_some order run word h [] c (sym told ∙ q)) in
-        let k = ap (lookup h) e ∙ found_later h _ _ (old_other order run word h [] c (sym told ∙ q)) ∙ ap (lookup h) (sym p) in
+        let e = ahead_some order run word c d (turn_old (below_of order) h word d c.own c.fresh (sym told ∙ q)).0 in
+        let k = ap (lookup h) e ∙ found_later h _ _ (old_other order run word h [] c d (sym told ∙ q)) ∙ ap (lookup h) (sym p) in
         record { told = ap (λ (o : Option Entry). found || is_there o) (sym k) ∙ met.told }
 
   -- where nothing comes next, nothing is ahead
@@ -63,7 +64,7 @@ unfolding ahead
 met_new order run word h c es₀ found met = record { told = met.told }
 
 -- a part that has no room for an entry has entries
-pub full_some : (limit used : ℕ) (prev : List ℕ) (e : Entry) (part part' last : List ℕ) (r : Fit) → Appended limit used prev e part part' last r → r ≡ Fit.Full → used ≡ 0 → ⊥
+pub full_some : (limit used : ℕ) (prev : List ℕ) (e : Entry) (part part' last : List ℕ) (r : std.Option ℕ) → Appended limit used prev e part part' last r → r ≡ std.None → used ≡ 0 → ⊥
 unfolding has_room
 full_some limit used prev e part part' last r a z q = true≢false (sym (rw (eq-eqb used 0 q)) ∙ (a.0 z).0)
 

@@ -252,10 +252,6 @@ pub record Filled (limit : ℕ) (es₀ : List Entry) (part₀ : List ℕ) (es : 
   pub behind : es ≡ past_part limit 0 [] es₀
   pub size : used ≡ length (entries_bytes [] (part_of limit 0 [] es₀))
 
--- nothing is filled at first
-pub filling_start : (limit : ℕ) (es : List Entry) (part : List ℕ) → Filling limit es part es part [] 0
-filling_start limit es part = record { whole = refl; behind = refl; size = zero-add _ }
-
 module _ (limit : ℕ) (es₀ : List Entry) (part₀ part prev : List ℕ) (used : ℕ) where
   -- no entry is left
   pub filling_end : Filling limit es₀ part₀ [] part prev used → Filled limit es₀ part₀ [] part used

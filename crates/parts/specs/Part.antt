@@ -1,5 +1,5 @@
 -- One part of a cut at a time.
-use Rattle.std.specs.Prelude.{ℕ, ◌+◌, ◌≤◌, ◌≡◌, Bool, true, false, ◌||◌, List, [], ◌∷◌, map, length, take, leb, eqb}
+use Rattle.std.specs.Prelude.{ℕ, ◌+◌, ◌≤◌, ◌≡◌, Bool, true, false, ◌||◌, Option, Some, None, List, [], ◌∷◌, map, length, take, leb, eqb}
 use Rattle.spec.specs.Bytes.{write}
 use Rattle.spec.specs.Entry.{Entry, entry_bytes}
 use Rattle.spec.specs.Run.{Run}
@@ -7,7 +7,6 @@ use Rattle.spec.specs.Index.{elements_bytes}
 use Rattle.spec.specs.Blocks.{run_blocks}
 use Rattle.spec.specs.Place.{element_of}
 use Rattle.encoder.specs.Limits.{longest_entry}
-use Rattle.parts.specs.declared.Fit.{Fit}
 
 -- whether a part whose entries take so many bytes so far takes one more entry, by the limit, after the headword prev: always, as its first
 unfoldable pub has_room : ℕ → ℕ → List ℕ → Entry → Bool
@@ -30,10 +29,10 @@ past_part limit used prev (e ∷ es) = elim (has_room limit used prev e) [
 ]
 
 -- an entry appended to a part of so many bytes, by the limit, or no room for it
-abbrev pub Appended : ℕ → ℕ → List ℕ → Entry → List ℕ → List ℕ → List ℕ → Fit → Type 0
+abbrev pub Appended : ℕ → ℕ → List ℕ → Entry → List ℕ → List ℕ → List ℕ → Option ℕ → Type 0
 Appended limit used prev e part part' last r =
-    (r ≡ Fit.Full → (has_room limit used prev e ≡ false) × (part' ≡ part))
-    × ((u : ℕ) → r ≡ Fit.Used u
+    (r ≡ None → (has_room limit used prev e ≡ false) × (part' ≡ part))
+    × ((u : ℕ) → r ≡ Some u
     → (has_room limit used prev e ≡ true) × (u ≡ used + length (entry_bytes prev e)) × (part' ≡ write used (entry_bytes prev e) part) × (take (length e.headword) last ≡ e.headword)
     × (u ≤ longest_entry))
 

@@ -1,7 +1,7 @@
 // A run's entries with a change merged in, encoded part by part.
 #![tactic(auto)]
 
-ghost use Rattle.std.specs.Prelude.{◌≡◌, true, List, [], ◌∷◌, map, ◌+◌, ◌≤◌, ◌<◌, length, take, drop};
+ghost use Rattle.std.specs.Prelude.{◌≡◌, true, Some, List, [], ◌∷◌, map, ◌+◌, ◌≤◌, ◌<◌, length, take, drop};
 ghost use Rattle.spec.specs.Bytes.{write, no_zero};
 ghost use Rattle.spec.specs.Order.{below_of};
 ghost use Rattle.spec.specs.Entry.{Entry, headword_ok};
@@ -17,49 +17,39 @@ ghost use Rattle.parts.specs.Room.{largest_limit, part_room};
 
 use encoder::entry_size;
 use header::Form;
-use runs::{Step, WORD};
-use scans::Comparison;
+use runs::{EntryPlace, WORD};
+use std::cmp::Ordering;
 
 // The bytes of a part's buffer.
 pub const PART: usize = 3328;
 
 // An edit of a run: what the file fixes, and whether a new entry enters.
-#[derive(Clone, Copy)]
+#[derive(Clone, Copy, Debug, PartialEq, Eq)]
 pub struct Edit {
     pub form: Form,
     pub fresh: bool,
 }
 
-// Where the merging stands: the next of the run's own entries, read already, and whether the new entry is still to come. The
-// entry's headword is the first `length` bytes of a buffer, `zero` is where its zero byte is, and its body stands from there
-// up to `next`. A length of 0: none is left.
-#[derive(Clone, Copy)]
+// Where the merging stands: the next of the run's own entries, read already, if one is left, and whether the new entry is still to come.
+#[derive(Clone, Copy, Debug, PartialEq, Eq)]
 pub struct Cursor {
-    pub length: usize,
-    pub zero: usize,
-    pub next: usize,
+    pub own: Option<EntryPlace>,
     pub fresh: bool,
 }
 
 // What comes next: nothing, an old entry that the change drops, an old entry that it keeps, or the new entry.
-#[derive(Clone, Copy)]
+#[derive(Clone, Copy, Debug, PartialEq, Eq)]
 enum Turn {
     Done,
-    Skip,
-    Old,
+    Skip(EntryPlace),
+    Old(EntryPlace),
     New,
-}
-
-// What came of one entry more in a part: no room, or the bytes used then.
-#[derive(Clone, Copy)]
-enum Fit {
-    Full,
-    Used(usize),
 }
 
 // An encoded part: how many bytes its entries take, whether an old entry was dropped on the way, and where the merging stands
 // behind it.
-#[derive(Clone, Copy)]
+// Kept: 0 bytes for no part left, not an Option<Part>: `found` is told then too, where the run's only entry is dropped.
+#[derive(Clone, Copy, Debug, PartialEq, Eq)]
 pub struct Part {
     pub used: usize,
     pub found: bool,
@@ -68,7 +58,7 @@ pub struct Part {
 
 // The parts of a changed run: how many, the bytes of their index elements, and their blocks; and whether the run has an entry
 // with the headword of the change.
-#[derive(Clone, Copy)]
+#[derive(Clone, Copy, Debug, PartialEq, Eq)]
 pub struct Sizes {
     pub parts: usize,
     pub bytes: usize,
@@ -92,55 +82,29 @@ pub fn advance(
     ensures cursor_ok { CursorOk run.now word.new result }
     ensures word_len_unchanged { length word.new ≡ length word.old }
 {
-    let st = runs::read_entry(order, run, at, word, held);
-    match st {
-        Step::Broken => Cursor {
-            length: 0,
-            zero: 0,
-            next: 0,
-            fresh: fresh,
-        },
-        Step::End => Cursor {
-            length: 0,
-            zero: 0,
-            next: 0,
-            fresh: fresh,
-        },
-        Step::Entry { length, zero, next } => Cursor {
-            length: length,
-            zero: zero,
-            next: next,
-            fresh: fresh,
-        },
-    }
+    let own = runs::read_entry(order, run, at, word, held).unwrap_or(None);
+    Cursor { own, fresh }
 }
 
-// What comes next, where the next old entry's headword is the first `held` bytes of `word`.
-fn next_turn(order: usize, word: &[u8], held: usize, fresh: bool, h: &[u8]) -> Turn
-    requires { held ≤ length word.now }
-    ensures { result ≡ turn_of (below_of order) h.now fresh held word.now }
+// What comes next, where the next old entry's headword is at the front of `word`.
+fn next_turn(order: usize, word: &[u8], cursor: Cursor, h: &[u8]) -> Turn
+    requires { (e : EntryPlace) → cursor.own ≡ Some e → e.length ≤ length word.now }
+    ensures { result ≡ turn_of (below_of order) h.now word.now cursor.own cursor.fresh }
 {
-    if held == 0 {
-        if fresh {
-            return Turn::New;
-        }
-        return Turn::Done;
-    }
-    let c = scans::compare(order, &word[..held], h);
-    match c {
-        Comparison::Below => Turn::Old,
-        Comparison::Same => Turn::Skip,
-        Comparison::Above => {
-            if fresh {
-                return Turn::New;
-            }
-            Turn::Old
-        }
+    let own = cursor.own;
+    let Some(e) = own else {
+        return if cursor.fresh { Turn::New } else { Turn::Done };
+    };
+    match scans::compare(order, &word[..e.length], h) {
+        Ordering::Less => Turn::Old(e),
+        Ordering::Equal => Turn::Skip(e),
+        Ordering::Greater if cursor.fresh => Turn::New,
+        Ordering::Greater => Turn::Old(e),
     }
 }
 
 // One entry more in a part, after one whose headword is the first `held` bytes of `last`: a first one always has room, another
-// where the part then encodes in `limit` bytes. Its headword is then in `last`.
+// where the part then encodes in `limit` bytes. Its headword is then in `last`. Answers the bytes used then, or that there is no room.
 fn append(
     limit: usize,
     part: &mut [u8],
@@ -149,7 +113,7 @@ fn append(
     held: usize,
     headword: &[u8],
     body: &[u8],
-) -> Fit
+) -> Option<usize>
     requires in_bounds { (1 ≤ length headword.now) × (length headword.now ≤ longest_headword) × (length body.now ≤ longest_body) }
     requires held_le_longest_headword { (held ≤ longest_headword) × (longest_headword ≤ length last.old) × (part_room ≤ length part.old) × (used ≤ longest_entry) × (limit ≤ largest_limit) }
     ensures appended { Appended limit used (take held last.old) (record { headword = headword.now; body = body.now })
@@ -158,14 +122,12 @@ fn append(
 {
     let size = entry_size(&last[..held], headword, body);
     let whole = used + size;
-    if 0 < used {
-        if limit < whole + 4 {
-            return Fit::Full;
-        }
+    if 0 < used && limit < whole + 4 {
+        return None;
     }
     encoder::put_entry(part, used, &last[..held], headword, body);
     byteops::copy(last, 0, headword, 0, headword.len());
-    Fit::Used(whole)
+    Some(whole)
 }
 
 // The next part: as many entries as it holds, encoded from the front of `part` on.
@@ -197,73 +159,47 @@ pub fn encode_part(
     let mut held = 0;
     let mut used = 0;
     let mut found = false;
-    let mut cur = start;
+    let mut cursor = start;
     loop {
-        let length = cur.length;
-        let zero = cur.zero;
-        let next = cur.next;
-        let fresh = cur.fresh;
-        let t = next_turn(order, word, length, fresh, h);
+        let t = next_turn(order, word, cursor, h);
         match t {
-            Turn::Done => {
-                return Part {
-                    used: used,
-                    found: found,
-                    cursor: cur,
-                };
-            }
-            Turn::Skip => {
+            Turn::Done => break,
+            Turn::Skip(e) => {
                 found = true;
-                cur = advance(order, run, next, word, length, fresh);
+                cursor = advance(order, run, e.next, word, e.length, cursor.fresh);
             }
-            Turn::Old => {
+            Turn::Old(e) => {
+                let old_body = &run[e.zero + 1..e.next];
                 let fit = append(
                     limit,
                     part,
                     used,
                     &mut last,
                     held,
-                    &word[..length],
-                    &run[zero + 1..next],
+                    &word[..e.length],
+                    old_body,
                 );
-                match fit {
-                    Fit::Full => {
-                        return Part {
-                            used: used,
-                            found: found,
-                            cursor: cur,
-                        };
-                    }
-                    Fit::Used(whole) => {
-                        used = whole;
-                        held = length;
-                        cur = advance(order, run, next, word, length, fresh);
-                    }
-                }
+                let Some(whole) = fit else { break };
+                used = whole;
+                held = e.length;
+                cursor = advance(order, run, e.next, word, e.length, cursor.fresh);
             }
             Turn::New => {
                 let fit = append(limit, part, used, &mut last, held, h, body);
-                match fit {
-                    Fit::Full => {
-                        return Part {
-                            used: used,
-                            found: found,
-                            cursor: cur,
-                        };
-                    }
-                    Fit::Used(whole) => {
-                        used = whole;
-                        held = h.len();
-                        cur = Cursor {
-                            length: length,
-                            zero: zero,
-                            next: next,
-                            fresh: false,
-                        };
-                    }
-                }
+                let Some(whole) = fit else { break };
+                used = whole;
+                held = h.len();
+                cursor = Cursor {
+                    own: cursor.own,
+                    fresh: false,
+                };
             }
         }
+    }
+    Part {
+        used,
+        found,
+        cursor,
     }
 }
 
@@ -296,13 +232,13 @@ pub fn measure(edit: Edit, run: &[u8], h: &[u8], body: &[u8]) -> Sizes
     let mut found = false;
     loop {
         let p = encode_part(form, run, cur, &mut word, h, body, &mut part);
-        found = found | p.found;
+        found |= p.found;
         if p.used == 0 {
             return Sizes {
-                parts: parts,
-                bytes: bytes,
-                blocks: blocks,
-                found: found,
+                parts,
+                bytes,
+                blocks,
+                found,
             };
         }
         let long = form.width + 1 + head_length(&part, p.used);

@@ -1,17 +1,32 @@
 // The calls from C, as include/pdic.h declares them.
 #![tactic(auto)]
 
-ghost use Rattle.std.specs.Prelude.{◌≡◌, not, ◌∷◌, eqb};
+ghost use Rattle.std.specs.Prelude.{◌≡◌, ℕ, Result, not, ◌∷◌, eqb};
 ghost use Rattle.spec.specs.Lists.{◌∈◌};
 ghost use Rattle.spec.specs.Calls.{create, check, look_up, walk, insert, delete, optimise};
+ghost use Rattle.spec.specs.Answers.{code, code_or_absent, lent_number, lent_number_or_absent, length_answer, delete_answer};
 ghost use Rattle.spec.specs.Rows.{No};
 ghost use Rattle.spec.specs.CallRows.{change_numbers};
 ghost use Rattle.pdic.specs.Lent.{create_lent, check_lent, look_up_lent, walk_lent, change_lent, delete_lent};
 
-use spec::{CheckAnswer, DeleteAnswer, LengthAnswer, LookUpAnswer, NewFile, WalkAnswer};
+use spec::{NewFile, Refusal};
 
 // What a call returns where there is no such entry.
 const ABSENT: u32 = 100;
+
+// What a call returns that answers a length: the length goes to the number lent for it, a refusal leaves that as it is.
+fn tell_length(answer: Result<usize, Refusal>, new_len: &mut usize) -> u32
+    ensures returned { result ≡ code (length_answer answer) }
+    ensures new_len_after { new_len.new ≡ lent_number (λ l. l) new_len.old (length_answer answer) }
+{
+    match answer {
+        Err(refusal) => refusal.into(),
+        Ok(n) => {
+            *new_len = n;
+            0
+        }
+    }
+}
 
 #[unsafe(no_mangle)]
 pub extern "C" fn pdic_create(image: &mut [u8], version: u8, ident: u64, new_len: &mut usize) -> u32
@@ -23,17 +38,10 @@ pub extern "C" fn pdic_create(image: &mut [u8], version: u8, ident: u64, new_len
         ≡ create_lent (create image.old (record { version = version; identifier = ident })) new_len.old }
 {
     let new = NewFile {
-        version: version,
+        version,
         identifier: ident,
     };
-    let r = editor::create(image, new);
-    match r {
-        LengthAnswer::Refused(k) => k,
-        LengthAnswer::Done(n) => {
-            *new_len = n;
-            0
-        }
-    }
+    tell_length(editor::create(image, new), new_len)
 }
 
 #[unsafe(no_mangle)]
@@ -55,14 +63,13 @@ pub extern "C" fn pdic_check(
         ≡ check_lent (check image.now len)
         headwords.old index_blocks.old data_blocks.old free_blocks.old }
 {
-    let r = reader::check(image, len);
-    match r {
-        CheckAnswer::Refused(k) => k,
-        CheckAnswer::Counted(h, i, d, f) => {
-            *headwords = h as u64;
-            *index_blocks = i as u64;
-            *data_blocks = d as u64;
-            *free_blocks = f as u64;
+    match reader::check(image, len) {
+        Err(refusal) => refusal.into(),
+        Ok(counts) => {
+            *headwords = counts.headwords as u64;
+            *index_blocks = counts.index_blocks as u64;
+            *data_blocks = counts.data_blocks as u64;
+            *free_blocks = counts.free_blocks as u64;
             0
         }
     }
@@ -86,13 +93,12 @@ pub extern "C" fn pdic_look_up(
         ≡ look_up_lent (look_up image.now len headword.now text.old)
         attribute.old text_len.old }
 {
-    let r = reader::look_up(image, len, headword, text);
-    match r {
-        LookUpAnswer::Refused(k) => k,
-        LookUpAnswer::Absent => ABSENT,
-        LookUpAnswer::Found(a, n) => {
-            *attribute = a;
-            *text_len = n;
+    match reader::look_up(image, len, headword, text) {
+        Err(refusal) => refusal.into(),
+        Ok(None) => ABSENT, // nothing is written
+        Ok(Some(found)) => {
+            *attribute = found.attribute;
+            *text_len = found.text_length;
             0
         }
     }
@@ -122,14 +128,13 @@ pub extern "C" fn pdic_walk(
         (walk image.now len (not (eqb above 0)) headword.now headword_out.old text.old)
         attribute.old headword_len.old text_len.old }
 {
-    let r = reader::walk(image, len, headword, above != 0, headword_out, text);
-    match r {
-        WalkAnswer::Refused(k) => k,
-        WalkAnswer::Absent => ABSENT,
-        WalkAnswer::Found(a, m, n) => {
-            *attribute = a;
-            *headword_len = m;
-            *text_len = n;
+    match reader::walk(image, len, headword, above != 0, headword_out, text) {
+        Err(refusal) => refusal.into(),
+        Ok(None) => ABSENT,
+        Ok(Some(entry)) => {
+            *attribute = entry.attribute;
+            *headword_len = entry.headword_length;
+            *text_len = entry.text_length;
             0
         }
     }
@@ -154,14 +159,10 @@ pub extern "C" fn pdic_insert(
         ≡ change_lent (insert image.old len work.old headword.now attribute text.now)
         new_len.old }
 {
-    let r = editor::insert(image, len, work, headword, attribute, text);
-    match r {
-        LengthAnswer::Refused(k) => k,
-        LengthAnswer::Done(n) => {
-            *new_len = n;
-            0
-        }
-    }
+    tell_length(
+        editor::insert(image, len, work, headword, attribute, text),
+        new_len,
+    )
 }
 
 #[unsafe(no_mangle)]
@@ -180,11 +181,10 @@ pub extern "C" fn pdic_delete(
     }
         ≡ delete_lent (delete image.old len work.old headword.now) new_len.old }
 {
-    let r = editor::delete(image, len, work, headword);
-    match r {
-        DeleteAnswer::Refused(k) => k,
-        DeleteAnswer::Absent => ABSENT,
-        DeleteAnswer::Removed(n) => {
+    match editor::delete(image, len, work, headword) {
+        Err(refusal) => refusal.into(),
+        Ok(None) => ABSENT,
+        Ok(Some(n)) => {
             *new_len = n;
             0
         }
@@ -209,12 +209,5 @@ pub extern "C" fn pdic_optimise(
     ensures never_fifteen { No (result ≡ 15) }
     ensures known_number { result ∈ 0 ∷ change_numbers }
 {
-    let r = editor::optimise(image, len, work);
-    match r {
-        LengthAnswer::Refused(k) => k,
-        LengthAnswer::Done(n) => {
-            *new_len = n;
-            0
-        }
-    }
+    tell_length(editor::optimise(image, len, work), new_len)
 }

@@ -30,7 +30,7 @@ use Rattle.placing.proofs.SpreadLaws.{SpreadIs, free_perm, spread_place, spread_
 use Rattle.elements.specs.Renewed.{number_after, renewed}
 use Rattle.elements.proofs.Laws.{number_moved, number_kept, renewed_none_all}
 use Rattle.runs.specs.Size.{size_told}
-use Rattle.runs.specs.declared.Size.{Size}
+use Rattle.std.specs.Prelude.{Ok}
 use Rattle.runs.proofs.SizeLaws.{blocks_told}
 use Rattle.moves.specs.Moved.{noted, starts, size_at, freed, tabled, moved_written}
 use Rattle.moves.proofs.Laws.{noted_append, size_by}
@@ -131,7 +131,7 @@ marked_from g D ms rs m = record { inside = λ x p q. m.inside x (omega arith) (
 -- ---- runs copied
 -- the area tells the size of a run
 abbrev pub Told : List ℕ → ℕ → Run → Type 0
-Told area D r = Size.Blocks r.size ≡ size_told D area r.block
+Told area D r = Ok r.size ≡ size_told D area r.block
 
 -- what a table of new places must say of a run that is copied
 abbrev Copied : List ℕ → ℕ → List ℕ → List Move → Run → Type 0
@@ -256,7 +256,7 @@ module _ (area : List ℕ) (D g k : ℕ) (before after : List Run) (ms₀ : List
 
     -- so code has it
     moving_sizes : All (λ r. size_at area D r.block ≡ r.size) mv
-    moving_sizes = all_map (Told area D) _ (λ r e. sym (size_by area D r.block r.size _ e refl)) mv moving_told
+    moving_sizes = all_map (Told area D) _ (λ r e. sym (size_by area D r.block r.size e)) mv moving_told
 
     -- in order
     sizes : map (size_at area D) (starts 0 g T₀) ≡ map (λ r. r.size) mv

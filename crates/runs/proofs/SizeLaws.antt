@@ -17,47 +17,39 @@ use Rattle.spec.specs.Check.{run_from}
 use Rattle.spec.proofs.ListsLaws.{clash}
 use Rattle.spec.proofs.PartLaws.{length_bytes_at}
 use Rattle.spec.proofs.ReadLaws.{RunTold, run_told}
-use Rattle.runs.specs.Size.{size_told, SizeInside}
-use Rattle.runs.specs.declared.Size.{Size}
-
--- a size that is refused is not one of blocks
-pub broken_size : (D b : ℕ) → SizeInside D b Size.Broken
-broken_size D b n h = clash (cc)
+use Rattle.runs.specs.Size.{size_told}
+use Rattle.spec.specs.Answers.{number_of}
+use Rattle.spec.specs.declared.Refusal.{Refusal}
+use Rattle.std.specs.Prelude.{Result, Ok, Err}
 
 module _ (D : ℕ) (area : List ℕ) (b : ℕ) where
   -- number not below D
-  pub size_number : D ≤ b → Size.Broken ≡ size_told D area b
+  pub size_number : D ≤ b → Err Refusal.BadPlace ≡ size_told D area b
   unfolding size_told
   size_number p = rw (le-ltb b D p)
 
   module _ (p : b < D) (n : ℕ) (count : n ≡ from_little_endian (bytes_at (256 * b) 2 area)) where
     -- size 0
-    pub size_none : n ≡ 0 → Size.Broken ≡ size_told D area b
+    pub size_none : n ≡ 0 → Err Refusal.BadPlace ≡ size_told D area b
     unfolding size_told
     size_none z = rw (lt-ltb b D p, ← count, eq-eqb n 0 z)
 
     module _ (some_blocks : n ≡ 0 → ⊥) where
       -- top bit set
-      pub size_top : 32_767 < n → Size.Broken ≡ size_told D area b
+      pub size_top : 32_767 < n → Err Refusal.BadPlace ≡ size_told D area b
       unfolding size_told
       size_top q = rw (lt-ltb b D p, ← count, ne_eqb n 0 some_blocks, lt-ltb 32_767 n q)
 
       module _ (few : n ≤ 32_767) where
         -- run past the data area
-        pub size_past : D - b < n → Size.Broken ≡ size_told D area b
+        pub size_past : D - b < n → Err Refusal.BadPlace ≡ size_told D area b
         unfolding size_told
         size_past q = rw (lt-ltb b D p, ← count, ne_eqb n 0 some_blocks, le-ltb 32_767 n few, lt-ltb D (b + n) (omega arith))
 
         -- a run that keeps row 7
-        pub size_good : n ≤ D - b → Size.Blocks n ≡ size_told D area b
+        pub size_good : n ≤ D - b → Ok n ≡ size_told D area b
         unfolding size_told
         size_good q = rw (lt-ltb b D p, ← count, ne_eqb n 0 some_blocks, le-ltb 32_767 n few, le-ltb D (b + n) (omega arith))
-
-        -- and where it stands
-        pub size_inside : n ≤ D - b → SizeInside D b (Size.Blocks n)
-        size_inside q m h =
-            let e : n ≡ m = cc in
-            (omega (arith, e, some_blocks), omega (arith, e), omega (arith, e))
 
 -- tests of one row, one after the other
 refused_in_turn : (a b c d : Bool) (o : Outcome Run) → (a || b || c || d) ≡ true
@@ -77,26 +69,26 @@ none_of false false false true h = clash (cc)
 none_of false false false false h = (refl, refl, refl, refl)
 
 -- a size that is refused by a test
-test_broken : (t : Bool) (n : ℕ) → cond t Size.Broken (Size.Blocks n) ≡ Size.Broken → t ≡ true
-test_broken true n h = refl
-test_broken false n h = clash (cc)
+test_broken : (t : Bool) (n : ℕ) (r : Refusal) → cond t (Err Refusal.BadPlace) (Ok n) ≡ Err r → (t ≡ true) × (r ≡ Refusal.BadPlace)
+test_broken true n r h = (refl, cc)
+test_broken false n r h = clash (cc)
 
 -- a size of blocks by a test
-test_blocks : (t : Bool) (n m : ℕ) → cond t Size.Broken (Size.Blocks n) ≡ Size.Blocks m → (t ≡ false) × (m ≡ n)
+test_blocks : (t : Bool) (n m : ℕ) → cond t (Err Refusal.BadPlace) (Ok n) ≡ Ok m → (t ≡ false) × (m ≡ n)
 test_blocks true n m h = clash (cc)
 test_blocks false n m h = (refl, cc)
 
-module _ (D : ℕ) (area : List ℕ) (b : ℕ) (size : Size) (told : size ≡ size_told D area b) where
+module _ (D : ℕ) (area : List ℕ) (b : ℕ) (size : Result ℕ Refusal) (told : size ≡ size_told D area b) where
   -- a size that is refused is row 7
-  pub broken_seven : size ≡ Size.Broken → (below : HeadwordOrder) (e : Element) (next : Option (List ℕ)) → e.block ≡ b → run_from below D area e next ≡ refused 7
-  unfolding size_told run_from
-  broken_seven h below e next q =
+  pub broken_seven : (r : Refusal) → size ≡ Err r → (below : HeadwordOrder) (e : Element) (next : Option (List ℕ)) → e.block ≡ b → run_from below D area e next ≡ refused (number_of r)
+  unfolding size_told run_from number_of
+  broken_seven r h below e next q =
       let n : ℕ = from_little_endian (bytes_at (256 * b) 2 area) in
-      let t = test_broken (not (ltb b D) || eqb n 0 || ltb 32_767 n || ltb D (b + n)) n (sym told ∙ h) in
-      rw q (refused_in_turn (not (ltb b D)) (eqb n 0) (ltb 32_767 n) (ltb D (b + n)) _ t)
+      let (t, seven) = test_broken (not (ltb b D) || eqb n 0 || ltb 32_767 n || ltb D (b + n)) n r (sym told ∙ h) in
+      rw (q, seven) (refused_in_turn (not (ltb b D)) (eqb n 0) (ltb 32_767 n) (ltb D (b + n)) _ t)
 
   -- what any other size tells
-  pub blocks_told : (n : ℕ) → size ≡ Size.Blocks n → (b < D) × (n ≡ from_little_endian (bytes_at (256 * b) 2 area)) × (1 ≤ n) × (n ≤ 32_767) × (b + n ≤ D)
+  pub blocks_told : (n : ℕ) → size ≡ Ok n → (b < D) × (n ≡ from_little_endian (bytes_at (256 * b) 2 area)) × (1 ≤ n) × (n ≤ 32_767) × (b + n ≤ D)
   unfolding size_told
   blocks_told m h =
       let n : ℕ = from_little_endian (bytes_at (256 * b) 2 area) in
@@ -106,7 +98,7 @@ module _ (D : ℕ) (area : List ℕ) (b : ℕ) (size : Size) (told : size ≡ si
 
 -- a run that is read has the size that is told
 pub size_of_run : (below : HeadwordOrder) (D : ℕ) (area : List ℕ) (e : Element) (next : Option (List ℕ)) (r : Run) → run_from below D area e next ≡ ok r
-    → size_told D area e.block ≡ Size.Blocks r.size
+    → size_told D area e.block ≡ Ok r.size
 size_of_run below D area e next r h =
     let k : RunTold below D area e next r = run_told below D area e next r h in
     let j : e.block + r.size ≤ D = rw (← k.block) k.inside in
@@ -126,9 +118,3 @@ slice_same area b n =
 -- as many as it has blocks
 pub slice_long : (area : List ℕ) (b n D : ℕ) → 256 * D ≤ length area → b + n ≤ D → length (run_slice area b n) ≡ 256 * n
 slice_long area b n D l p = rw (slice_same area b n) (length_bytes_at area (256 * b) (256 * n) (omega arith))
-
--- room for its count
-pub slice_count : (area : List ℕ) (b n D : ℕ) (size : Size) → SizeInside D b size → size ≡ Size.Blocks n → 256 * D ≡ length area → 2 ≤ length (run_slice area b n)
-slice_count area b n D size inside h l =
-    let (some_blocks, few, fits) = inside n h in
-    omega (arith, some_blocks, slice_long area b n D (omega (arith, l)) fits)

@@ -23,11 +23,12 @@ pub cleared_none : (d : List ℕ) → d ≡ write 0 (zeros 0) d
 unfolding zeros
 cleared_none d = sym (write_none d 0)
 
--- zeros behind the first i
-pub cleared_more : (d₀ d d₁ : List ℕ) (i k : ℕ) → d ≡ write 0 (zeros i) d₀ → d₁ ≡ write i (zeros k) d → d₁ ≡ write 0 (zeros (i + k)) d₀
+-- k zeros behind the first i, m in all
+pub cleared_more : (d₀ d d₁ : List ℕ) (i k m : ℕ) → i + k ≡ m → d ≡ write 0 (zeros i) d₀ → d₁ ≡ write i (zeros k) d → d₁ ≡ write 0 (zeros m) d₀
 unfolding zeros
-cleared_more d₀ d d₁ i k h e =
-    written_behind d₀ d d₁ (zeros i) (zeros k) 0 i (omega arith) (omega (arith, length_zeros i)) h e ∙ ap (λ (x : List ℕ). write 0 x d₀) (replicate-append-replicate i k 0)
+cleared_more d₀ d d₁ i k m r h e =
+    written_behind d₀ d d₁ (zeros i) (zeros k) 0 i (omega arith) (omega (arith, length_zeros i)) h e
+    ∙ ap (λ (x : List ℕ). write 0 x d₀) (replicate-append-replicate i k 0 ∙ ap zeros r)
 
 -- and up to the end
 pub cleared_whole : (d₀ d d₁ : List ℕ) (i n : ℕ) → d ≡ write 0 (zeros i) d₀ → d₁ ≡ write i (zeros (n - i)) d → i ≤ n → n ≡ length d₀ → d₁ ≡ zeros (length d₀)
@@ -35,5 +36,5 @@ unfolding write
 cleared_whole d₀ d d₁ i n h e p l =
     let w : i + (n - i) ≡ n = omega arith in
     let r : drop (0 + length (zeros n)) d₀ ≡ [] = drop_of_length-le d₀ {i = (0 + length (zeros n))} (omega (arith, length_zeros n)) in
-    let z : d₁ ≡ write 0 (zeros n) d₀ = rw w at (cleared_more d₀ d d₁ i (n - i) h e) in
+    let z : d₁ ≡ write 0 (zeros n) d₀ = cleared_more d₀ d d₁ i (n - i) n w h e in
     z ∙ ap (λ (x : List ℕ). zeros n ++ x) r ∙ append-nil (zeros n) ∙ ap zeros l

@@ -12,7 +12,8 @@ use borrow.Author.Tests.{le-leb, lt-leb}
 use Rattle.spec.specs.Bytes.{from_little_endian, bytes_at}
 use Rattle.spec.specs.Claim.{Call}
 use Rattle.script.specs.Script.{headword_size, text_size, call_size, kinds, call_of, front_call, FrontOf, calls_from, calls_of, told, Played, played_from, played}
-use Rattle.script.specs.declared.Front.{Front}
+use Rattle.std.specs.Prelude as std
+use Rattle.std.specs.Prelude.{Some, None}
 
 -- nothing stands past the end
 none_past : (l : List Call) (i : ℕ) → length l ≤ i → get_elem? l i ≡ none
@@ -48,11 +49,11 @@ front_broken w s p = rw (lt-leb (call_size s) (length s) p, front_call) (go (leb
 
 -- The size of the first call.
 -- a script too short for the front of a call
-pub size_short : (s : List ℕ) → length s < 5 → FrontOf s Front.End
+pub size_short : (s : List ℕ) → length s < 5 → FrontOf s None
 size_short s p w = front_broken w s (omega arith)
 
 -- another kind
-pub size_kind : (s : List ℕ) → 5 < get_or s 0 0 → FrontOf s Front.End
+pub size_kind : (s : List ℕ) → 5 < get_or s 0 0 → FrontOf s None
 unfolding front_call
 size_kind s p w = go w (leb 5 (length s) && leb (call_size s) (length s))
   where
@@ -61,11 +62,11 @@ size_kind s p w = go w (leb 5 (length s) && leb (call_size s) (length s))
     go w false = refl
 
 -- a call that does not fit
-pub size_past : (s : List ℕ) (a b : ℕ) → a ≡ get_or s 1 0 → b ≡ from_little_endian (bytes_at 2 2 s) → length s < 5 + a + b → FrontOf s Front.End
+pub size_past : (s : List ℕ) (a b : ℕ) → a ≡ get_or s 1 0 → b ≡ from_little_endian (bytes_at 2 2 s) → length s < 5 + a + b → FrontOf s None
 size_past s a b e f p w = front_broken w s (omega arith)
 
 -- a call
-pub size_whole : (s : List ℕ) (a b : ℕ) → a ≡ get_or s 1 0 → b ≡ from_little_endian (bytes_at 2 2 s) → 5 + a + b ≤ length s → get_or s 0 0 ≤ 5 → FrontOf s (Front.Call (5 + a + b))
+pub size_whole : (s : List ℕ) (a b : ℕ) → a ≡ get_or s 1 0 → b ≡ from_little_endian (bytes_at 2 2 s) → 5 + a + b ≤ length s → get_or s 0 0 ≤ 5 → FrontOf s (Some (5 + a + b))
 size_whole s a b e f p k = (rw (e, f), p, k)
 
 -- where the script ends it has no calls
@@ -133,15 +134,15 @@ rest_is : (script : List ℕ) (at : ℕ) → take (length script - at) (drop at 
 rest_is script at = rw (← length-drop at script, take-length (drop at script))
 
 -- a call at the front: its size, and that the script holds it whole
-front_told : (s : List ℕ) (r : Front) → FrontOf s r → (size : ℕ) → r ≡ Front.Call size → (size ≡ call_size s) × (size ≤ length s) × (get_or s 0 0 ≤ 5)
+front_told : (s : List ℕ) (r : std.Option ℕ) → FrontOf s r → (size : ℕ) → r ≡ Some size → (size ≡ call_size s) × (size ≤ length s) × (get_or s 0 0 ≤ 5)
 front_told s r known size q = subst (FrontOf s) q known
 
 -- a call that has a size is there
-pub size_told : (s : List ℕ) (r : Front) → FrontOf s r → (size : ℕ) → r ≡ Front.Call size → (call_size s ≤ length s) × (get_or s 0 0 ≤ 5)
+pub size_told : (s : List ℕ) (r : std.Option ℕ) → FrontOf s r → (size : ℕ) → r ≡ Some size → (call_size s ≤ length s) × (get_or s 0 0 ≤ 5)
 size_told s r known size q = let (a, b, d) = front_told s r known size q in (omega arith, d)
 
 -- it ends inside the script, behind where it starts
-pub size_inside : (script : List ℕ) (at : ℕ) (r : Front) → FrontOf (take (length script - at) (drop at script)) r → at ≤ length script → (size : ℕ) → r ≡ Front.Call size
+pub size_inside : (script : List ℕ) (at : ℕ) (r : std.Option ℕ) → FrontOf (take (length script - at) (drop at script)) r → at ≤ length script → (size : ℕ) → r ≡ Some size
     → (1 ≤ size) × (at + size ≤ length script)
 size_inside script at r known p size q =
     let (a, b, d) = front_told (take (length script - at) (drop at script)) r known size q in
@@ -149,10 +150,10 @@ size_inside script at r known p size q =
     (omega arith, omega arith)
 
 -- The loop. X is what is to come of the whole script.
-module _ (w : ℕ) (script : List ℕ) (at n L : ℕ) (s work codes : List ℕ) (X : Played) (inv : played_from n (calls_of w (drop at script)) s L work codes ≡ X) (r : Front)
+module _ (w : ℕ) (script : List ℕ) (at n L : ℕ) (s work codes : List ℕ) (X : Played) (inv : played_from n (calls_of w (drop at script)) s L work codes ≡ X) (r : std.Option ℕ)
     (known : FrontOf (take (length script - at) (drop at script)) r) where
   -- the end
-  pub played_end : r ≡ Front.End → record { image = s; length_after = L; work = work; codes = codes } ≡ X
+  pub played_end : r ≡ None → record { image = s; length_after = L; work = work; codes = codes } ≡ X
   unfolding calls_of played_from
   played_end e =
       let none_left : calls_of w (drop at script) ≡ [] = calls_none w (length (drop at script)) (drop at script)
@@ -160,7 +161,7 @@ module _ (w : ℕ) (script : List ℕ) (at n L : ℕ) (s work codes : List ℕ) 
       sym (ap (λ (cs : List Call). played_from n cs s L work codes) none_left) ∙ inv
 
   -- a turn
-  pub played_turn : (size : ℕ) → r ≡ Front.Call size → length work ≡ w → (code : ℕ) (s' : List ℕ) (L' : ℕ) (work' : List ℕ)
+  pub played_turn : (size : ℕ) → r ≡ Some size → length work ≡ w → (code : ℕ) (s' : List ℕ) (L' : ℕ) (work' : List ℕ)
       → ((c : Call) → call_of (length work) (take (length script - at) (drop at script)) ≡ some c → record { code = code; image = s'; length_after = L'; work = work' } ≡ told s L work c)
       → (codes' : List ℕ) → codes' ≡ set codes n code
       → played_from (n + 1) (calls_of w (drop (at + size) script)) s' L' work' codes' ≡ X

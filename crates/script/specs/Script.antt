@@ -11,7 +11,10 @@ use Rattle.spec.specs.Check.{Image, image_in, entries_of}
 use Rattle.spec.specs.Calls.{work_after}
 use Rattle.spec.specs.Claim.{Call, look_up_call, walk_call, insert_call, delete_call, optimise_call, perform, is_refused, list_step, Matches, History}
 use Rattle.spec.specs.Claim.{Observed, absent, text_found, entry_found, done, removed}
-use Rattle.script.specs.declared.Front.{Front}
+use Rattle.std.specs.Prelude as std
+use Rattle.std.specs.Prelude.{Result, Ok, Err, Some, None}
+use Rattle.spec.specs.Answers.{number_of}
+use Rattle.spec.specs.declared.Refusal.{Refusal}
 
 -- the length of the headword of the call at the front of s
 abbrev pub headword_size : List ℕ → ℕ
@@ -45,9 +48,9 @@ unfoldable pub front_call : ℕ → List ℕ → Option Call
 front_call w s = elim (leb 5 (length s) && leb (call_size s) (length s)) [ true ↦ call_of w s | false ↦ none ]
 
 -- what is known of the front of s: where the script ends it has no call, else one of that size, which it holds whole
-abbrev pub FrontOf : List ℕ → Front → Type 0
-FrontOf s Front.End = (w : ℕ) → front_call w s ≡ none
-FrontOf s (Front.Call n) = (n ≡ call_size s) × (n ≤ length s) × (get_or s 0 0 ≤ 5)
+abbrev pub FrontOf : List ℕ → std.Option ℕ → Type 0
+FrontOf s None = (w : ℕ) → front_call w s ≡ none
+FrontOf s (Some n) = (n ≡ call_size s) × (n ≤ length s) × (get_or s 0 0 ≤ 5)
 
 -- the calls of a script, at most n
 unfoldable pub calls_from : ℕ → ℕ → List ℕ → List Call
@@ -66,6 +69,12 @@ code_of (ok (text_found a t n)) = 0
 code_of (ok (entry_found h t a m n)) = 0
 code_of (ok done) = 0
 code_of (ok removed) = 0
+
+-- the code of an answer that may be absent
+unfoldable pub found_code : {A : Type 0} → Result (std.Option A) Refusal → ℕ
+found_code (Err r) = number_of r
+found_code (Ok None) = 100
+found_code (Ok (Some a)) = 0
 
 -- the working slice after a call: a reading call is not lent it; "all zero after each changing call, except that 1 and 2 leave it untouched"
 unfoldable pub work_left : Call → Outcome Observed → List ℕ → List ℕ
@@ -121,5 +130,5 @@ Claimed cs s L image length_after =
 
 -- names all definitions of this module: who unfolds it unfolds them
 unfoldable pub open_script : Unit {0}
-unfolding kinds call_of front_call calls_from calls_of code_of work_left told played_from played fed Claimed
+unfolding kinds call_of front_call calls_from calls_of code_of found_code work_left told played_from played fed Claimed
 open_script = tt

@@ -4,44 +4,65 @@
 ghost use Rattle.std.specs.Prelude.{◌≡◌, ◌+◌, ◌<◌, ◌≤◌, length, get_or, set};
 ghost use Rattle.std.proofs.Math.Option.{some};
 ghost use Rattle.spec.specs.Bytes.{zeros};
-ghost use Rattle.spec.specs.Claim.{Call, look_up_call, walk_call, insert_call, delete_call, optimise_call, perform};
-ghost use Rattle.script.specs.Script.{call_size, call_of, FrontOf, calls_of, code_of, told, played, Claimed};
+ghost use Rattle.spec.specs.Claim.{Call, new_length, look_up_call, walk_call, insert_call, delete_call, optimise_call, perform};
+ghost use Rattle.spec.specs.Answers.{code, length_answer};
+ghost use Rattle.script.specs.Script.{call_size, call_of, FrontOf, calls_of, code_of, found_code, told, played, Claimed};
 
-use byteops::{LONGEST_HEADWORD, LONGEST_TEXT, read_u16, wide};
-use spec::{DeleteAnswer, LengthAnswer, LookUpAnswer, WalkAnswer};
+use byteops::{LONGEST_HEADWORD, LONGEST_TEXT, read_u16};
+use spec::Refusal;
 
 // The code of a call that finds no such entry.
 const ABSENT: u32 = 100;
 
 // What comes of a call: its code, and the length that stands then.
-#[derive(Clone, Copy)]
+#[derive(Clone, Copy, Debug, PartialEq, Eq)]
 struct After {
     code: u32,
     len: usize,
 }
 
-// What stands at the front of a script: a call of so many bytes, or none, where the script ends.
-#[derive(Clone, Copy)]
-enum Front {
-    End,
-    Call(usize),
-}
-
-// The front of a script.
-fn first_call(s: &[u8]) -> Front
+// How many bytes the call at the front of a script takes, if it is there whole; none: the script ends.
+fn first_call(s: &[u8]) -> Option<usize>
     ensures { FrontOf s.now result }
 {
     if s.len() < 5 {
-        return Front::End;
+        return None;
     }
     if 5 < s[0] {
-        return Front::End;
+        return None;
     }
-    let size = 5 + wide(s[1]) + read_u16(s, 2);
+    let size = 5 + usize::from(s[1]) + read_u16(s, 2);
     if s.len() < size {
-        return Front::End;
+        return None;
     }
-    Front::Call(size)
+    Some(size)
+}
+
+// The code of a call that looks for an entry.
+fn found_code<T: Copy>(answer: Result<Option<T>, Refusal>) -> u32
+    ensures { result ≡ found_code answer }
+{
+    match answer {
+        Err(refusal) => refusal.into(),
+        Ok(found) => match found {
+            None => ABSENT,
+            Some(_) => 0,
+        },
+    }
+}
+
+// What comes of a call that answers a length: a refusal leaves the length that stood.
+fn after_change(answer: Result<usize, Refusal>, len: usize) -> After
+    ensures code { result.code ≡ code (length_answer answer) }
+    ensures len { result.len ≡ new_length len (length_answer answer) }
+{
+    match answer {
+        Err(refusal) => After {
+            code: refusal.into(),
+            len,
+        },
+        Ok(n) => After { code: 0, len: n },
+    }
 }
 
 // A look up: its code.
@@ -49,12 +70,7 @@ fn look_up(image: &[u8], len: usize, headword: &[u8]) -> u32
     ensures { result ≡ code_of (perform image.now len (look_up_call headword.now (zeros 3000))).observed }
 {
     let mut text = [0u8; LONGEST_TEXT];
-    let r = reader::look_up(image, len, headword, &mut text);
-    match r {
-        LookUpAnswer::Refused(k) => k,
-        LookUpAnswer::Absent => ABSENT,
-        LookUpAnswer::Found(_, _) => 0,
-    }
+    found_code(reader::look_up(image, len, headword, &mut text))
 }
 
 // A walk: its code.
@@ -63,12 +79,7 @@ fn walk(image: &[u8], len: usize, headword: &[u8], above: bool) -> u32
 {
     let mut word = [0u8; LONGEST_HEADWORD];
     let mut text = [0u8; LONGEST_TEXT];
-    let r = reader::walk(image, len, headword, above, &mut word, &mut text);
-    match r {
-        WalkAnswer::Refused(k) => k,
-        WalkAnswer::Absent => ABSENT,
-        WalkAnswer::Found(_, _, _) => 0,
-    }
+    found_code(reader::walk(image, len, headword, above, &mut word, &mut text))
 }
 
 // An insertion.
@@ -89,11 +100,8 @@ fn insert(
         ≡ told image.old len work.old
         (insert_call (zeros (length work.old)) headword.now attribute text.now) }
 {
-    let r = editor::insert(image, len, work, headword, attribute, text);
-    match r {
-        LengthAnswer::Refused(k) => After { code: k, len: len },
-        LengthAnswer::Done(n) => After { code: 0, len: n },
-    }
+    let answer = editor::insert(image, len, work, headword, attribute, text);
+    after_change(answer, len)
 }
 
 // A deletion.
@@ -107,14 +115,13 @@ fn delete(image: &mut [u8], len: usize, work: &mut [u8], headword: &[u8]) -> Aft
         ≡ told image.old len work.old
         (delete_call (zeros (length work.old)) headword.now) }
 {
-    let r = editor::delete(image, len, work, headword);
-    match r {
-        DeleteAnswer::Refused(k) => After { code: k, len: len },
-        DeleteAnswer::Absent => After {
-            code: ABSENT,
-            len: len,
+    match editor::delete(image, len, work, headword) {
+        Err(refusal) => After {
+            code: refusal.into(),
+            len,
         },
-        DeleteAnswer::Removed(n) => After { code: 0, len: n },
+        Ok(None) => After { code: ABSENT, len },
+        Ok(Some(n)) => After { code: 0, len: n },
     }
 }
 
@@ -129,14 +136,11 @@ fn optimise(image: &mut [u8], len: usize, work: &mut [u8]) -> After
         ≡ told image.old len work.old
         (optimise_call (zeros (length work.old))) }
 {
-    let r = editor::optimise(image, len, work);
-    match r {
-        LengthAnswer::Refused(k) => After { code: k, len: len },
-        LengthAnswer::Done(n) => After { code: 0, len: n },
-    }
+    after_change(editor::optimise(image, len, work), len)
 }
 
 // The call at the front of a script, which holds it whole.
+// Kept: a call's kind is the byte of the script; an enum would name each kind once more, in a match of its own.
 fn perform(s: &[u8], image: &mut [u8], len: usize, work: &mut [u8]) -> After
     requires { (call_size s.now ≤ length s.now) × (get_or s.now 0 0 ≤ 5) }
     ensures work_after { (c : Call) → call_of (length work.old) s.now ≡ some c
@@ -149,35 +153,28 @@ fn perform(s: &[u8], image: &mut [u8], len: usize, work: &mut [u8]) -> After
         ≡ told image.old len work.old c }
     ensures code_bound { result.code < 256 }
 {
-    let kind = s[0];
-    let word = 5 + wide(s[1]);
+    let word = 5 + usize::from(s[1]);
     let headword = &s[5..word];
-    if kind == 0 {
-        return After {
+    match s[0] {
+        0 => After {
             code: look_up(image, len, headword),
-            len: len,
-        };
-    }
-    if kind == 1 {
-        return After {
+            len,
+        },
+        1 => After {
             code: walk(image, len, headword, false),
-            len: len,
-        };
-    }
-    if kind == 2 {
-        return After {
+            len,
+        },
+        2 => After {
             code: walk(image, len, headword, true),
-            len: len,
-        };
+            len,
+        },
+        3 => {
+            let end = word + read_u16(s, 2);
+            insert(image, len, work, headword, s[4], &s[word..end])
+        }
+        4 => delete(image, len, work, headword),
+        _ => optimise(image, len, work),
     }
-    if kind == 3 {
-        let end = word + read_u16(s, 2);
-        return insert(image, len, work, headword, s[4], &s[word..end]);
-    }
-    if kind == 4 {
-        return delete(image, len, work, headword);
-    }
-    optimise(image, len, work)
 }
 
 // Stores the code of call `n`, if there is room.
@@ -206,21 +203,12 @@ pub fn play(script: &[u8], image: &mut [u8], len: usize, work: &mut [u8], codes:
     let mut l = len;
     let mut at = 0;
     let mut n = 0;
-    loop {
-        let rest = &script[at..];
-        let first = first_call(rest);
-        match first {
-            Front::End => {
-                return l;
-            }
-            Front::Call(size) => {
-                let done = perform(rest, image, l, work);
-                let code = done.code;
-                put_code(codes, n, code);
-                l = done.len;
-                at += size;
-                n += 1;
-            }
-        }
+    while let Some(size) = first_call(&script[at..]) {
+        let done = perform(&script[at..], image, l, work);
+        put_code(codes, n, done.code);
+        l = done.len;
+        at += size;
+        n += 1;
     }
+    l
 }

@@ -1,5 +1,5 @@
 -- What the returns and the turns of the loop show, in the terms of the code.
-use Prim.Native.Nat.{ℕ, zero, suc, ◌+◌, ◌-◌, ◌*◌, ◌/◌, ◌<◌, ◌≤◌}
+use Prim.Native.Nat.{ℕ, zero, suc, ◌+◌, ◌-◌, ◌*◌, ◌<◌, ◌≤◌}
 use mathlib.Core.Path.{◌≡◌, refl, sym, ap, ◌∙◌}
 use mathlib.Core.Logic.{◌⊎◌, inl, inr}
 use mathlib.Core.Bool.{Bool, true, false, not}
@@ -7,9 +7,6 @@ use mathlib.Core.List.{List, [], ◌∷◌}
 use mathlib.Core.Option.{Option, none, some}
 use native.Mathlib.Omega.{arith}
 use lib.ListN.{length, take, drop}
-use mir.Syntax.{w64}
-use mir.Val.{Fits}
-use mir.Facts.{Fits-below}
 use Rattle.spec.specs.Outcome.{refused, ok}
 use Rattle.spec.specs.Lists as Lists
 use Rattle.spec.specs.Bytes.{from_little_endian, bytes_at, no_zero}
@@ -23,22 +20,32 @@ use Rattle.spec.specs.SortedList as SortedList
 use Rattle.spec.specs.SortedList.{walk_takes, successor}
 use Rattle.spec.proofs.OutcomeLaws.{ok_not_refused}
 use Rattle.spec.proofs.OrderLaws.{order_of}
-use Rattle.spec.proofs.ReadLaws.{entries_unbroken, entries_ended, entries_more, no_runs, runs_first, run_told, RunsAscend, runs_ascend}
+use Rattle.spec.proofs.ReadLaws.{entries_ended, entries_more, no_runs, runs_first, run_told, RunsAscend, runs_ascend}
 use Rattle.spec.proofs.SearchLaws.{or_else, walk_stops, successor_here, successor_later, run_passed, run_last, run_next}
 use Rattle.spec.proofs.WriteLaws.{bytes_at_within}
 use Rattle.runs.specs.Step as StepSpec
-use Rattle.runs.specs.Step.{step_entry}
+use Rattle.runs.specs.Step.{Step, step_entry}
 use Rattle.runs.specs.Size.{size_told}
-use Rattle.runs.specs.declared.Step.{Step}
-use Rattle.runs.specs.declared.Size.{Size}
+use Rattle.runs.specs.declared.EntryPlace.{EntryPlace}
+use Rattle.std.specs.Prelude as std
+use Rattle.std.specs.Prelude.{Ok, Err, Some, None, MatchOption, IsSome}
+use Rattle.std.specs.Result.{result_unwrap_or}
+use Rattle.spec.proofs.ListsLaws.{clash}
+use Rattle.spec.specs.Answers.{number_of}
+use Rattle.spec.specs.declared.Refusal.{Refusal}
 use Rattle.runs.proofs.Laws.{told_broken, told_end, told_entry, told_no_zero, none_clean}
 use Rattle.runs.proofs.SizeLaws.{broken_seven, blocks_told, run_slice, slice_same, slice_long}
 use Rattle.index.specs.Elements as Elements
 use Rattle.index.specs.Elements.{element_end, element_headword, element_at, elements_at, Inside, concerned_from}
 use Rattle.index.specs.declared.Place.{Place}
-use Rattle.index.proofs.Laws.{inside_start, inside_next, elements_next, concerned_rule, concerned_stops}
-use Rattle.seek.specs.Spot.{step_found, spot_entry, SpotInside, first_entries}
-use Rattle.seek.specs.declared.Spot.{Spot}
+use Rattle.index.specs.Walk.{stored}
+use Rattle.index.specs.declared.walk.Element as given
+use Rattle.index.proofs.Laws.{elements_next, elements_count, concerned_rule, concerned_stops}
+use Rattle.seek.specs.Spot.{spot_entry, SpotInside, first_entries}
+
+-- what a search answers
+abbrev pub Spot : Type 0
+Spot = std.Option EntryPlace
 
 -- ---- takes
 -- a test that tells whether a walk from h may answer an entry with the headword u
@@ -78,10 +85,10 @@ module _ (below : HeadwordOrder) (above : Bool) (h u : List ℕ) where
 -- what entries that were read tell of the first step, whatever the bound
 module _ (low : HeadwordOrder) (prev s : List ℕ) (es : List Entry) where
   -- no entry rule is broken
-  never_broken : (fuel : ℕ) → entries_from low fuel prev s ≡ ok es → read_entry low prev s ≡ refused 8 → ⊥
+  never_broken : (fuel : ℕ) → entries_from low fuel prev s ≡ ok es → (k : ℕ) → read_entry low prev s ≡ refused k → ⊥
   unfolding entries_from
-  never_broken zero h r = ok_not_refused es 8 (sym h)
-  never_broken (suc m) h r = entries_unbroken low m prev s es h r
+  never_broken zero h k r = ok_not_refused es 8 (sym h)
+  never_broken (suc m) h k r = ok_not_refused es k (sym h ∙ rw r)
 
   -- at the end there are none
   ended : (fuel : ℕ) → entries_from low fuel prev s ≡ ok es → read_entry low prev s ≡ ok none → es ≡ []
@@ -104,8 +111,8 @@ unfolding SortedList.successor Lists.filter Lists.first
 successor_none below above h = refl
 
 -- what a search through a run finds, where its entries can be read
-abbrev pub FoundIn : HeadwordOrder → HeadwordOrder → Bool → List ℕ → List ℕ → List ℕ → Step → Type 0
-FoundIn low below above h run word r = (fuel : ℕ) (es : List Entry) → entries_from low fuel [] (drop 2 run) ≡ ok es → step_found run word r ≡ successor below above h es
+abbrev pub FoundIn : HeadwordOrder → HeadwordOrder → Bool → List ℕ → List ℕ → List ℕ → Spot → Type 0
+FoundIn low below above h run word r = (fuel : ℕ) (es : List Entry) → entries_from low fuel [] (drop 2 run) ≡ ok es → spot_entry run word r ≡ successor below above h es
 
 -- the entries from a position on, which answer as all do
 pub record Onward (low : HeadwordOrder) (below : HeadwordOrder) (above : Bool) (h prev s : List ℕ) (all : List Entry) : Type 0 where
@@ -137,228 +144,170 @@ passing_start low below above h run word p q =
       rest = λ fuel es r. record { fuel = fuel; entries = es; read = r; same = refl };
     }
 
+-- an entry that a step found
+entry_of_step : (st : Step) (e : EntryPlace) → result_unwrap_or st None ≡ Some e → st ≡ Ok (Some e)
+entry_of_step (Err k) e p = clash (cc)
+entry_of_step (Ok None) e p = clash (cc)
+entry_of_step (Ok (Some d)) e p = ap Ok p
+
 module _ (low : HeadwordOrder) (order : ℕ) (above : Bool) (h run word₀ word : List ℕ) (pos held : ℕ) (v : Passing low (below_of order) above h run word₀ word pos held) (st : Step) (word' : List ℕ)
     (step : step_entry run word' st ≡ read_entry low (take held word) (drop pos run)) where
-  -- an entry rule is broken: the entries cannot be read
-  pub find_broken : st ≡ Step.Broken → FoundIn low (below_of order) above h run word' Step.End
-  find_broken q fuel es r =
-      let o = v.rest fuel es r in
-      absurd (never_broken low (take held word) (drop pos run) o.entries o.fuel o.read (told_broken low (take held word) (drop pos run) run word' st step q))
+  -- an entry rule is broken, so that the entries cannot be read, or they end
+  pub find_end : result_unwrap_or st None ≡ None → FoundIn low (below_of order) above h run word' None
+  unfolding spot_entry
+  find_end p fuel es r = go (v.rest fuel es r) st refl
+    where
+      go : Onward low (below_of order) above h (take held word) (drop pos run) es → (t : Step) → st ≡ t → none ≡ successor (below_of order) above h es
+      go o (Err k) q =
+          absurd (never_broken low (take held word) (drop pos run) o.entries o.fuel o.read (number_of k)
+          (told_broken low (take held word) (drop pos run) run word' st step k q))
+      go o (Ok None) q =
+          let e : o.entries ≡ [] = ended low (take held word) (drop pos run) o.entries o.fuel o.read (told_end low (take held word) (drop pos run) run word' st step q) in
+          sym (o.same ∙ ap (successor (below_of order) above h) e ∙ successor_none (below_of order) above h)
+      go o (Ok (Some e)) q =
+          let none_there : ◌≡◌ {A = Spot} (Some e) None = rw q at p in
+          clash (cc)
 
-  -- the entries end
-  pub find_end : st ≡ Step.End → FoundIn low (below_of order) above h run word' Step.End
-  unfolding step_found
-  find_end q fuel es r =
-      let o = v.rest fuel es r in
-      let e : o.entries ≡ [] = ended low (take held word) (drop pos run) o.entries o.fuel o.read (told_end low (take held word) (drop pos run) run word' st step q) in
-      sym (o.same ∙ ap (successor (below_of order) above h) e ∙ successor_none (below_of order) above h)
+  module _ (e : EntryPlace) (p : result_unwrap_or st None ≡ Some e) (b : Bool) (t : TakesTold (below_of order) above h (take e.length word') b) where
+    q : st ≡ Ok (Some e)
+    q = entry_of_step st e p
 
-  module _ (k z x : ℕ) (q : st ≡ Step.Entry k z x) (b : Bool) (t : TakesTold (below_of order) above h (take k word') b) where
     -- the entry of the step
     abbrev found : Entry
-    found = record { headword = take k word'; body = bytes_at (z + 1) (x - (z + 1)) run }
+    found = record { headword = take e.length word'; body = bytes_at (e.zero + 1) (e.next - (e.zero + 1)) run }
 
     -- it is the next of the entries
     onward : (fuel : ℕ) (es : List Entry) → entries_from low fuel [] (drop 2 run) ≡ ok es
-        → (m : ℕ) × (ds : List Entry) × (entries_from low m (take k word') (drop x run) ≡ ok ds) × (successor (below_of order) above h es ≡ successor (below_of order) above h (found ∷ ds))
+        → (m : ℕ) × (ds : List Entry) × (entries_from low m (take e.length word') (drop e.next run) ≡ ok ds) × (successor (below_of order) above h es ≡ successor (below_of order) above h (found ∷ ds))
     onward fuel es r =
         let o = v.rest fuel es r in
         let (m, ds, u, e)
-        = went_on low (take held word) (drop pos run) o.entries o.fuel o.read found (drop x run)
-        (told_entry low (take held word) (drop pos run) run word' st step k z x q) in
+        = went_on low (take held word) (drop pos run) o.entries o.fuel o.read found (drop e.next run)
+        (told_entry low (take held word) (drop pos run) run word' st step e q) in
         (m, ds, u, o.same ∙ ap (successor (below_of order) above h) e)
 
     -- the entry is taken
-    pub find_entry : b ≡ true → FoundIn low (below_of order) above h run word' (Step.Entry k z x)
-    unfolding step_found
+    pub find_entry : b ≡ true → FoundIn low (below_of order) above h run word' (Some e)
+    unfolding spot_entry
     find_entry y fuel es r =
         let (m, ds, u, e) = onward fuel es r in
         sym (e ∙ successor_here (below_of order) (order_of order) above h found ds (sym (t found.body) ∙ y))
 
     -- it is passed
-    pub find_turn : b ≡ false → pos + 3 ≤ z → z + 2 ≤ x → x ≤ length run → k ≤ 248 → length word' ≡ length word → Passing low (below_of order) above h run word₀ word' x k
-    find_turn y p₁ p₂ p₃ p₄ l =
+    pub find_turn : b ≡ false → StepSpec.Inside pos run st → length word' ≡ length word → Passing low (below_of order) above h run word₀ word' e.next e.length
+    find_turn y inside l =
+        let i = inside e q in
         record {
-          start = omega (arith, v.start);
-          inside = p₃;
+          start = omega (arith, v.start, i.0, i.1);
+          inside = i.2;
           room = omega (arith, v.room);
           kept = l ∙ v.kept;
-          short = p₄;
-          clean = told_no_zero low (take held word) (drop pos run) run word' st step k z x q;
+          short = i.5;
+          clean = told_no_zero low (take held word) (drop pos run) run word' st step e q;
           rest = λ fuel es r.
               let (m, ds, u, e) = onward fuel es r in
               record { fuel = m; entries = ds; read = u; same = e ∙ successor_later (below_of order) (order_of order) above h found ds (sym (t found.body) ∙ y) };
         }
 
-module _ (at : ℕ) (run : List ℕ) (st : Step) (h : StepSpec.Inside at run st) (n z e : ℕ) (q : st ≡ Step.Entry n z e) where
-  -- an entry behind a position is behind each before it
-  pub inside_from : (from : ℕ) → from ≤ at → StepSpec.Inside from run (Step.Entry n z e)
-  inside_from from p n' z' e' s =
-      let (a₀, a₁, a₂, a₃, a₄, a₅) = h n' z' e' (q ∙ s) in
-      (omega arith, a₁, a₂, a₃, a₄, a₅)
+    -- behind a position it is behind each before it
+    pub inside_from : StepSpec.Inside pos run st → StepSpec.Inside 2 run (Ok (Some e))
+    inside_from h d s =
+        let (a₀, a₁, a₂, a₃, a₄, a₅) = h d (q ∙ s) in
+        (omega (arith, v.start), a₁, a₂, a₃, a₄, a₅)
 
 -- ---- find_at
 -- what a search in the run of an element finds, where that can be read
 abbrev pub FoundAt : HeadwordOrder → HeadwordOrder → Bool → List ℕ → ℕ → List ℕ → Element → List ℕ → Spot → Type 0
 FoundAt low below above h D area e word r = (next : Option (List ℕ)) (q : Run) → run_from low D area e next ≡ ok q → spot_entry area word r ≡ successor below above h q.entries
 
--- the same for the data blocks that an area has
-abbrev pub FoundAtAll : HeadwordOrder → HeadwordOrder → Bool → List ℕ → List ℕ → Element → List ℕ → Spot → Type 0
-FoundAtAll low below above h area e word r = (D : ℕ) → 256 * D ≡ length area → FoundAt low below above h D area e word r
-
--- which are as many as its length tells
-blocks_same : (area : List ℕ) (D B : ℕ) → D ≡ length area / 256 → 256 * B ≡ length area → D ≡ B
-blocks_same area D B d l = omega (arith, d, l)
-
-module _ (w : ℕ) (low : HeadwordOrder) (below : HeadwordOrder) (above : Bool) (h index : List ℕ) (at D : ℕ) (area : List ℕ) (b : ℕ)
-    (num : b ≡ from_little_endian (bytes_at at w index)) (size : Size) (told : size ≡ size_told D area b) (d : D ≡ length area / 256) where
+module _ (low : HeadwordOrder) (below : HeadwordOrder) (above : Bool) (h : List ℕ) (D : ℕ) (area : List ℕ) (d : Element) where
   -- row 7: there is no run
-  pub at_unplaced : (word : List ℕ) → size ≡ Size.Broken → FoundAtAll low below above h area (element_at w index at) word Spot.Absent
-  unfolding element_at
-  at_unplaced word z B long next q r =
-      let s : D ≡ B = blocks_same area D B d long in
-      absurd (ok_not_refused q 7 (sym (rw (← s) at r) ∙ broken_seven D area b size told z low (element_at w index at) next (sym num)))
+  pub at_unplaced : (word : List ℕ) (k : Refusal) → Err k ≡ size_told D area d.block → FoundAt low below above h D area d word None
+  at_unplaced word k told next q r = absurd (ok_not_refused q (number_of k) (sym r ∙ broken_seven D area d.block (Err k) told k refl low d next refl))
 
-  module _ (n : ℕ) (blocks : size ≡ Size.Blocks n) where
+  module _ (whole : 256 * D ≤ length area) (n : ℕ) (told : Ok n ≡ size_told D area d.block) where
     -- the run is placed as row 7 asks
-    placed : (b < D) × (n ≡ from_little_endian (bytes_at (256 * b) 2 area)) × (1 ≤ n) × (n ≤ 32_767) × (b + n ≤ D)
-    placed = blocks_told D area b size told n blocks
-
-    -- its blocks lie inside the data area
-    inside_area : b + n ≤ D
-    inside_area = placed.4
+    placed : (d.block < D) × (n ≡ from_little_endian (bytes_at (256 * d.block) 2 area)) × (1 ≤ n) × (n ≤ 32_767) × (d.block + n ≤ D)
+    placed = blocks_told D area d.block (Ok n) told n refl
 
     -- so many bytes are searched
-    slice_bytes : length (run_slice area b n) ≡ 256 * n
-    slice_bytes = slice_long area b n D (omega (arith, d)) inside_area
+    slice_bytes : length (run_slice area d.block n) ≡ 256 * n
+    slice_bytes = slice_long area d.block n D whole placed.4
 
-    -- so do its bytes
-    pub at_area : 256 * b + 256 * n ≤ length area
-    at_area = omega (arith, inside_area, d)
-
-    -- it has its count
-    pub at_count : 2 ≤ length (run_slice area b n)
-    at_count = omega (arith, slice_bytes, placed.2)
+    -- its bytes lie inside the data area
+    at_area : 256 * d.block + 256 * n ≤ length area
+    at_area = omega (arith, placed.4, whole)
 
     -- the bytes searched are the run's
-    same_run : (B : ℕ) → 256 * B ≡ length area → (next : Option (List ℕ)) (q : Run) → run_from low B area (element_at w index at) next ≡ ok q
-        → entries_from low (suc (length q.bytes)) [] (drop 2 (run_slice area b n)) ≡ ok q.entries
-    unfolding element_at
-    same_run B long next q r =
-        let t = run_told low B area (element_at w index at) next q r in
-        let p : q.block ≡ b = t.block ∙ sym num in
-        let s : q.size ≡ n = t.size ∙ rw (← num) (sym placed.1) in
-        let e : q.bytes ≡ run_slice area b n = t.bytes ∙ rw (p, s) (sym (slice_same area b n)) in
+    same_run : (next : Option (List ℕ)) (q : Run) → run_from low D area d next ≡ ok q → entries_from low (suc (length q.bytes)) [] (drop 2 (run_slice area d.block n)) ≡ ok q.entries
+    same_run next q r =
+        let t = run_told low D area d next q r in
+        let s : q.size ≡ n = t.size ∙ sym placed.1 in
+        let e : q.bytes ≡ run_slice area d.block n = t.bytes ∙ rw (t.block, s) (sym (slice_same area d.block n)) in
         rw (← e) t.read
 
-    module _ (word : List ℕ) (st : Step) (f : FoundIn low below above h (run_slice area b n) word st) where
-      -- nothing is found up to a broken rule
-      pub at_broken : st ≡ Step.Broken → FoundAtAll low below above h area (element_at w index at) word Spot.Absent
-      unfolding step_found spot_entry
-      at_broken y B long next q r = sym (ap (step_found (run_slice area b n) word) y) ∙ f (suc (length q.bytes)) q.entries (same_run B long next q r)
+    module _ (word : List ℕ) (p : Spot) (f : FoundIn low below above h (run_slice area d.block n) word p) where
+      -- nothing is found
+      pub at_end : p ≡ None → FoundAt low below above h D area d word None
+      unfolding spot_entry
+      at_end y next q r = sym (ap (spot_entry (run_slice area d.block n) word) y) ∙ f (suc (length q.bytes)) q.entries (same_run next q r)
 
-      -- or up to the end of the run
-      pub at_end : st ≡ Step.End → FoundAtAll low below above h area (element_at w index at) word Spot.Absent
-      unfolding step_found spot_entry
-      at_end y B long next q r = sym (ap (step_found (run_slice area b n) word) y) ∙ f (suc (length q.bytes)) q.entries (same_run B long next q r)
+      module _ (i : StepSpec.Inside 2 (run_slice area d.block n) (Ok p)) (e : EntryPlace) (y : p ≡ Some e) where
+        -- where an entry that is found stands in its run
+        here : (5 ≤ e.zero) × (e.zero + 2 ≤ e.next) × (e.next ≤ 256 * n) × (e.next ≤ e.zero + 3002) × (1 ≤ e.length) × (e.length ≤ 248)
+        here =
+            let (a₀, a₁, a₂, a₃, a₄, a₅) = i e (ap Ok y) in
+            (a₀, a₁, omega (arith, slice_bytes), a₃, a₄, a₅)
 
-      -- an entry is found
-      pub at_entry : StepSpec.Inside 2 (run_slice area b n) st → (k z e : ℕ) → st ≡ Step.Entry k z e
-          → FoundAtAll low below above h area (element_at w index at) word (Spot.At k (256 * b + z) (256 * b + e))
-      unfolding step_found spot_entry
-      at_entry i k z e y B long next q r =
-          let (a₀, a₁, a₂, a₃, a₄, a₅) = i k z e y in
-          let body_same : bytes_at (z + 1) (e - (z + 1)) (run_slice area b n) ≡ bytes_at (256 * b + z + 1) (256 * b + e - (256 * b + z + 1)) area = shifted z e a₁ (omega (arith, slice_bytes)) in
-          let u : spot_entry area word (Spot.At k (256 * b + z) (256 * b + e)) ≡ step_found (run_slice area b n) word (Step.Entry k z e) = rw body_same in
-          u ∙ sym (ap (step_found (run_slice area b n) word) y) ∙ f (suc (length q.bytes)) q.entries (same_run B long next q r)
-        where
-          shifted : (z e : ℕ) → z + 2 ≤ e → e ≤ 256 * n → bytes_at (z + 1) (e - (z + 1)) (run_slice area b n) ≡ bytes_at (256 * b + z + 1) (256 * b + e - (256 * b + z + 1)) area
-          shifted z e p s =
-              let l : 256 * b + e - (256 * b + z + 1) ≡ e - (z + 1) = omega arith in
-              let m : 256 * b + (z + 1) ≡ 256 * b + z + 1 = omega arith in
-              rw (l, ← m, slice_same area b n) (bytes_at_within (256 * b) (256 * n) (z + 1) (e - (z + 1)) area (omega arith))
+        -- it is found
+        pub at_entry : FoundAt low below above h D area d word (Some (record { length = e.length; zero = 256 * d.block + e.zero; next = 256 * d.block + e.next }))
+        unfolding spot_entry
+        at_entry next q r =
+            let b : ℕ = d.block in
+            let l : 256 * b + e.next - (256 * b + e.zero + 1) ≡ e.next - (e.zero + 1) = omega arith in
+            let m : 256 * b + (e.zero + 1) ≡ 256 * b + e.zero + 1 = omega arith in
+            let body_same : bytes_at (e.zero + 1) (e.next - (e.zero + 1)) (run_slice area b n) ≡ bytes_at (256 * b + e.zero + 1) (256 * b + e.next - (256 * b + e.zero + 1)) area
+            = rw (l, ← m, slice_same area b n) (bytes_at_within (256 * b) (256 * n) (e.zero + 1) (e.next - (e.zero + 1)) area (omega (arith, here))) in
+            let u : spot_entry area word (Some (record { length = e.length; zero = 256 * b + e.zero; next = 256 * b + e.next })) ≡ spot_entry (run_slice area b n) word (Some e) = rw body_same in
+            u ∙ sym (ap (spot_entry (run_slice area b n) word) y) ∙ f (suc (length q.bytes)) q.entries (same_run next q r)
 
-    module _ (st : Step) (i : StepSpec.Inside 2 (run_slice area b n) st) (k z e : ℕ) (y : st ≡ Step.Entry k z e) where
-      -- inside the data area
-      pub at_inside : SpotInside area (Spot.At k (256 * b + z) (256 * b + e))
-      at_inside k' z' e' s =
-          let (a₀, a₁, a₂, a₃, a₄, a₅) = i k z e y in
-          let x : k ≡ k' = cc in
-          let u : 256 * b + z ≡ z' = cc in
-          let v : 256 * b + e ≡ e' = cc in
-          (omega arith, omega (arith, slice_bytes, at_area), omega arith, omega arith, omega arith)
+        -- inside the data area
+        pub at_inside : SpotInside area (Some (record { length = e.length; zero = 256 * d.block + e.zero; next = 256 * d.block + e.next }))
+        at_inside = (omega (arith, here), omega (arith, here, at_area), omega (arith, here), here.4, here.5)
 
-      module _ (few : length area ≤ 4_294_967_040) where
-        -- its zero byte's position fits
-        pub at_zero_fits : Fits w64 (256 * b + z)
-        at_zero_fits =
-            let (a₀, a₁, a₂, a₃, a₄, a₅) = i k z e y in
-            Fits-below {n = 4_294_967_296} tt (omega (arith, slice_bytes, at_area))
+-- ---- find_next
+-- what a search in the first run of elements finds, where their runs can be read
+abbrev pub FoundFirst : HeadwordOrder → HeadwordOrder → Bool → List ℕ → ℕ → List ℕ → List Element → List ℕ → Spot → Type 0
+FoundFirst low below above h D area es word r = (rs : List Run) → runs_from low D area es ≡ ok rs → spot_entry area word r ≡ successor below above h (first_entries rs)
 
-        -- and so does its end
-        pub at_next_fits : Fits w64 (256 * b + e)
-        at_next_fits =
-            let (a₀, a₁, a₂, a₃, a₄, a₅) = i k z e y in
-            Fits-below {n = 4_294_967_296} tt (omega (arith, slice_bytes, at_area))
+module _ (low : HeadwordOrder) (below : HeadwordOrder) (above : Bool) (h : List ℕ) (D : ℕ) (area : List ℕ) (es : List Element) (word : List ℕ) where
+  -- there is no run
+  pub next_none : es ≡ [] → FoundFirst low below above h D area es word None
+  unfolding first_entries spot_entry
+  next_none z rs r = rw (no_runs low D area rs (rw z at r)) (sym (successor_none below above h))
 
-    module _ (few : length area ≤ 4_294_967_040) where
-      -- the number of the run's bytes fits
-      pub at_size_fits : Fits w64 (256 * n)
-      at_size_fits = Fits-below {n = 4_294_967_296} tt (omega (arith, at_area))
+  -- the run of the next element
+  pub next_found : (d : Element) (ds : List Element) → es ≡ d ∷ ds → (a : Spot) → FoundAt low below above h D area d word a → FoundFirst low below above h D area es word a
+  unfolding first_entries
+  next_found d ds z a f rs r =
+      let (q, qs, y, u, k) = runs_first low D area d ds rs (rw z at r) in
+      rw y (f (next_headword ds) q u)
 
-      -- and so does where they end
-      pub at_stop_fits : Fits w64 (256 * b + 256 * n)
-      at_stop_fits = Fits-below {n = 4_294_967_296} tt (omega (arith, at_area))
+-- ---- seek
+-- what a search through the runs of elements finds, where they can be read
+abbrev pub Sought : HeadwordOrder → HeadwordOrder → Bool → List ℕ → ℕ → List ℕ → List Element → List ℕ → Spot → Type 0
+Sought low below above h D area es word r = (rs : List Run) → runs_from low D area es ≡ ok rs → spot_entry area word r ≡ successor below above h (all_entries rs)
+
+-- no elements, no runs
+pub seek_none : (low : HeadwordOrder) (below : HeadwordOrder) (above : Bool) (h : List ℕ) (D : ℕ) (area word : List ℕ) (es : List Element) → es ≡ [] → Sought low below above h D area es word None
+unfolding Check.all_entries spot_entry
+seek_none low below above h D area word es z rs r = rw (no_runs low D area rs (rw z at r)) (sym (successor_none below above h))
+
+-- the first of elements, and the others
+first_is : (d e : Element) (ds es : List Element) → d ∷ ds ≡ e ∷ es → (d ≡ e) × (ds ≡ es)
+first_is d e ds es h = (cc, cc)
 
 module _ (w : ℕ) where
-  -- ---- find_next
-  -- what a search in the first run of elements finds, where their runs can be read
-  abbrev pub FoundFirst : HeadwordOrder → HeadwordOrder → Bool → List ℕ → ℕ → List ℕ → List Element → List ℕ → Spot → Type 0
-  FoundFirst low below above h D area es word r = (rs : List Run) → runs_from low D area es ≡ ok rs → spot_entry area word r ≡ successor below above h (first_entries rs)
-
-  -- the same for the data blocks that an area has
-  abbrev pub FoundFirstAll : HeadwordOrder → HeadwordOrder → Bool → List ℕ → List ℕ → List Element → List ℕ → Spot → Type 0
-  FoundFirstAll low below above h area es word r = (D : ℕ) → 256 * D ≡ length area → FoundFirst low below above h D area es word r
-
-  module _ (low : HeadwordOrder) (below : HeadwordOrder) (above : Bool) (h area index : List ℕ) (at left : ℕ) (word : List ℕ) where
-    -- there is no other run
-    pub next_none : left ≡ 1 → FoundFirstAll low below above h area (elements_at w index (element_end w index at + 1) (left - 1)) word Spot.Absent
-    unfolding Elements.elements_at first_entries spot_entry
-    next_none z D long rs r = rw (no_runs low D area rs (rw z at r)) (sym (successor_none below above h))
-
-    -- the run of the next element
-    pub next_found : 1 ≤ left → (left ≡ 1 → ⊥) → (a : Spot) (end : ℕ) → end ≡ element_end w index at
-        → FoundAtAll low below above h area (element_at w index (end + 1)) word a
-        → FoundFirstAll low below above h area (elements_at w index (element_end w index at + 1) (left - 1)) word a
-    unfolding first_entries
-    next_found p z a end e f D long rs r =
-        let others : List Element = elements_at w index (element_end w index (element_end w index at + 1) + 1) (left - 1 - 1) in
-        let (q, qs, y, u, k)
-        = runs_first low D area (element_at w index (element_end w index at + 1)) others rs
-        (rw (elements_next w index (element_end w index at + 1) (left - 1) (omega arith)) at r) in
-        let g : FoundAt low below above h D area (element_at w index (element_end w index at + 1)) word a = rw e at (f D long) in
-        rw y (g (next_headword others) q u)
-
-  module _ (index : List ℕ) (at left : ℕ) (i : Inside w index at left) (p : 1 ≤ left) where
-    -- the next one has its number
-    pub number_next : (left ≡ 1 → ⊥) → (end : ℕ) → end ≡ element_end w index at → end + 1 + w ≤ length index
-    number_next z end e = rw e (inside_start w index (element_end w index at + 1) (left - 1) (inside_next w index at left i p) (omega arith))
-
-  -- ---- seek
-  -- what a search through the runs of elements finds, where they can be read
-  abbrev pub Sought : HeadwordOrder → HeadwordOrder → Bool → List ℕ → ℕ → List ℕ → List Element → List ℕ → Spot → Type 0
-  Sought low below above h D area es word r = (rs : List Run) → runs_from low D area es ≡ ok rs → spot_entry area word r ≡ successor below above h (all_entries rs)
-
-  -- the same for the data blocks that an area has
-  abbrev pub SoughtAll : HeadwordOrder → HeadwordOrder → Bool → List ℕ → List ℕ → List Element → List ℕ → Spot → Type 0
-  SoughtAll low below above h area es word r = (D : ℕ) → 256 * D ≡ length area → Sought low below above h D area es word r
-
-  -- no elements, no runs
-  pub seek_none : (low : HeadwordOrder) (below : HeadwordOrder) (above : Bool) (h area index word : List ℕ) (elements : ℕ) → elements ≡ 0
-      → SoughtAll low below above h area (elements_at w index 0 elements) word Spot.Absent
-  unfolding Elements.elements_at Check.all_entries spot_entry
-  seek_none low below above h area index word elements z D long rs r = rw (no_runs low D area rs (rw z at r)) (sym (successor_none below above h))
-
   module _ (low : HeadwordOrder) (order : IsOrder low) (above : Bool) (h : List ℕ) (D : ℕ) (area index : List ℕ) where
     -- the answer among entries
     abbrev answer : List Entry → Option Entry
@@ -460,35 +409,48 @@ module _ (w : ℕ) where
 
       module _ (word : List ℕ) (found : Spot) (f : FoundAt low low above h D area (element_at w index c.at) word found) where
         -- the run concerned has the answer
-        sought_here : (k z e : ℕ) → found ≡ Spot.At k z e → Sought low low above h D area (elements_at w index 0 elements) word (Spot.At k z e)
+        sought_here : (e : EntryPlace) → found ≡ Some e → Sought low low above h D area (elements_at w index 0 elements) word (Some e)
         unfolding spot_entry
-        sought_here k z e y rs r =
+        sought_here e y rs r =
             let d = concerned_divided rs r in
-            let s : spot_entry area word (Spot.At k z e) ≡ answer d.run.entries = rw y at (f d.behind d.run d.read) in
+            let s : spot_entry area word (Some e) ≡ answer d.run.entries = rw y at (f d.behind d.run d.read) in
             sym (d.same ∙ rw (← s))
 
         -- the next one has it
-        sought_next : found ≡ Spot.Absent → (word' : List ℕ) (a : Spot) → FoundFirst low low above h D area (elements_at w index (element_end w index c.at + 1) (c.left - 1)) word' a
+        sought_next : found ≡ None → (word' : List ℕ) (a : Spot) → FoundFirst low low above h D area (elements_at w index (element_end w index c.at + 1) (c.left - 1)) word' a
             → Sought low low above h D area (elements_at w index 0 elements) word' a
         unfolding spot_entry
         sought_next y word' a g rs r =
             let d = concerned_divided rs r in
-            let s : spot_entry area word Spot.Absent ≡ answer d.run.entries = rw y at (f d.behind d.run d.read) in
+            let s : spot_entry area word None ≡ answer d.run.entries = rw y at (f d.behind d.run d.read) in
             g d.others d.read_others ∙ sym (d.same ∙ rw (← s))
 
-  module _ (order : ℕ) (above : Bool) (h area index : List ℕ) (elements : ℕ) (some_elements : elements ≡ 0 → ⊥) (c : Place)
-      (concerned : c ≡ concerned_from w (below_of order) index h 0 (elements - 1)) (some_left : 1 ≤ c.left) where
-    -- the run concerned has the answer
-    pub seek_here : (word : List ℕ) (found : Spot) (k z e : ℕ) → found ≡ Spot.At k z e
-        → FoundAtAll (below_of order) (below_of order) above h area (element_at w index c.at) word found
-        → SoughtAll (below_of order) (below_of order) above h area (elements_at w index 0 elements) word (Spot.At k z e)
-    seek_here word found k z e y f D long =
-        sought_here (below_of order) (order_of order) above h D area index elements some_elements c concerned some_left word found (f D long) k z e y
+  -- where elements are left an iterator gives one
+  pub some_given : (index : List ℕ) (at left : ℕ) (from ds : List Element) → from ≡ elements_at w index at left → 1 ≤ left
+      → (next : std.Option given.Element) → MatchOption next ((from ≡ []) × (ds ≡ [])) (λ e. from ≡ stored e ∷ ds) → IsSome next
+  some_given index at left from ds all some_left None steps =
+      let l : length (elements_at w index at left) ≡ 0 = ap length (sym all ∙ steps.0) in
+      absurd (omega (arith, l, some_left, elements_count w index at left))
+  some_given index at left from ds all some_left (Some e) steps = refl
 
-    -- the next one has it
-    pub seek_next : (word' : List ℕ) (a : Spot)
-        → FoundFirstAll (below_of order) (below_of order) above h area (elements_at w index (element_end w index c.at + 1) (c.left - 1)) word' a
-        → (word : List ℕ) (found : Spot) → FoundAtAll (below_of order) (below_of order) above h area (element_at w index c.at) word found
-        → found ≡ Spot.Absent → SoughtAll (below_of order) (below_of order) above h area (elements_at w index 0 elements) word' a
-    seek_next word' a g word found f y D long =
-        sought_next (below_of order) (order_of order) above h D area index elements some_elements c concerned some_left word found (f D long) y word' a (g D long)
+  module _ (order : ℕ) (above : Bool) (h : List ℕ) (D : ℕ) (area index : List ℕ) (at elements : ℕ) (start : at ≡ 0) (some_elements : elements ≡ 0 → ⊥) (c : Place)
+      (concerned : c ≡ concerned_from w (below_of order) index h 0 (elements - 1)) (some_left : 1 ≤ c.left) (from : List Element)
+      (given : from ≡ elements_at w index c.at c.left) where
+    module _ (d : Element) (ds : List Element) (split : from ≡ d ∷ ds) where
+      parts : (d ≡ element_at w index c.at) × (ds ≡ elements_at w index (element_end w index c.at + 1) (c.left - 1))
+      parts = first_is _ _ _ _ (sym split ∙ given ∙ elements_next w index c.at c.left some_left)
+
+      -- it has the answer
+      pub seek_here : (word : List ℕ) (e : EntryPlace) → FoundAt (below_of order) (below_of order) above h D area d word (Some e)
+          → Sought (below_of order) (below_of order) above h D area (elements_at w index at elements) word (Some e)
+      seek_here word e f =
+          rw start
+          (sought_here (below_of order) (order_of order) above h D area index elements some_elements c concerned some_left word (Some e) (rw parts.0 at f) e refl)
+
+      -- the next one has it
+      pub seek_next : (word' : List ℕ) (a : Spot) → FoundFirst (below_of order) (below_of order) above h D area ds word' a
+          → (word : List ℕ) (found : Spot) → FoundAt (below_of order) (below_of order) above h D area d word found
+          → found ≡ None → Sought (below_of order) (below_of order) above h D area (elements_at w index at elements) word' a
+      seek_next word' a g word found f y =
+          rw start
+          (sought_next (below_of order) (order_of order) above h D area index elements some_elements c concerned some_left word found (rw parts.0 at f) y word' a (rw parts.1 at g))

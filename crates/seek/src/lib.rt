@@ -2,7 +2,7 @@
 // taken, else the first of the next run.
 #![tactic(auto)]
 
-ghost use Rattle.std.specs.Prelude.{◌≡◌, List, [], ℕ, ◌+◌, ◌-◌, ◌*◌, ◌≤◌, length, drop};
+ghost use Rattle.std.specs.Prelude.{◌≡◌, Ok, List, [], ℕ, ◌≤◌, length, drop};
 ghost use Rattle.spec.specs.Outcome.{ok};
 ghost use Rattle.spec.specs.Order.{below_of};
 ghost use Rattle.spec.specs.Entry.{Entry};
@@ -10,33 +10,19 @@ ghost use Rattle.spec.specs.Run.{Run, entries_from};
 ghost use Rattle.spec.specs.Check.{run_from, runs_from, all_entries};
 ghost use Rattle.spec.specs.SortedList.{walk_takes, successor};
 ghost use Rattle.std.proofs.Math.Option.{Option};
-ghost use Rattle.byteops.specs.Width.{Width};
-ghost use Rattle.index.specs.Elements.{element_end, element_at, elements_at, Inside};
+ghost use Rattle.index.specs.Walk as walk;
 ghost use Rattle.runs.specs.Step as step;
-ghost use Rattle.seek.specs.Spot.{step_found, spot_entry, SpotInside, first_entries};
+ghost use Rattle.seek.specs.Spot.{spot_entry, SpotInside, first_entries};
 
-use byteops::read_number;
-use header::Form;
-use index::Place;
-use runs::{Size, Step};
-
-// An entry in the data area: its headword is the first `length` bytes of a buffer, `zero` is where its zero byte is, and its
-// body stands from there up to `next`.
-#[derive(Clone, Copy)]
-pub enum Spot {
-    Absent,
-    At {
-        length: usize,
-        zero: usize,
-        next: usize,
-    },
-}
+use header::Area;
+use index::{Element, Elements};
+use runs::EntryPlace;
 
 // Whether a walk from `h` may answer an entry with that headword.
 fn takes(order: usize, above: bool, h: &[u8], headword: &[u8]) -> bool
     ensures { (body : List ℕ) → result ≡ walk_takes (below_of order) above h.now (record { headword = headword.now; body = body }) }
 {
-    if h.len() == 0 {
+    if h.is_empty() {
         return true;
     }
     if above {
@@ -46,136 +32,108 @@ fn takes(order: usize, above: bool, h: &[u8], headword: &[u8]) -> bool
 }
 
 // The first entry of a run that a walk from `h` may answer.
-fn find_in_run(order: usize, run: &[u8], above: bool, h: &[u8], word: &mut [u8]) -> Step
+fn find_in_run(
+    order: usize,
+    run: &[u8],
+    above: bool,
+    h: &[u8],
+    word: &mut [u8],
+) -> Option<EntryPlace>
     requires { (2 ≤ length run.now) × (248 ≤ length word.old) }
     ensures as_read { (fuel : ℕ) (es : List Entry) → entries_from (below_of order) fuel [] (drop 2 run.now) ≡ ok es
-        → step_found run.now word.new result ≡ successor (below_of order) above h.now es }
-    ensures inside { step.Inside 2 run.now result }
+        → spot_entry run.now word.new result ≡ successor (below_of order) above h.now es }
+    ensures inside { step.Inside 2 run.now (Ok result) }
     ensures word_len_unchanged { length word.new ≡ length word.old }
 {
     let mut pos = 2;
     let mut held = 0;
-    loop {
-        let st = runs::read_entry(order, run, pos, word, held);
-        match st {
-            Step::Broken => {
-                return Step::End;
-            }
-            Step::End => {
-                return Step::End;
-            }
-            Step::Entry { length, zero, next } => {
-                if takes(order, above, h, &word[..length]) {
-                    return Step::Entry {
-                        length: length,
-                        zero: zero,
-                        next: next,
-                    };
-                }
-                pos = next;
-                held = length;
-            }
+    while let Some(entry) = runs::read_entry(order, run, pos, word, held).unwrap_or(None) {
+        if takes(order, above, h, &word[..entry.length]) {
+            return Some(entry);
         }
+        pos = entry.next;
+        held = entry.length;
     }
+    None
 }
 
-// The same of the run of the element at `at`, in the data area.
+// The same of the run of an element, by its place in the data area.
 fn find_at(
-    form: Form,
-    index: &[u8],
-    at: usize,
-    area: &[u8],
+    order: usize,
+    element: Element,
+    area: Area,
     above: bool,
     h: &[u8],
     word: &mut [u8],
-) -> Spot
-    requires width { Width form.width × (at + form.width ≤ length index.now) }
-    requires area_len_bound { (length area.now ≤ 4294967040) × (248 ≤ length word.old) }
-    ensures as_read { (D : ℕ) → 256 * D ≡ length area.now → (next : Option (List ℕ)) (q : Run)
-        → run_from (below_of form.order) D area.now (element_at form.width index.now at) next ≡ ok q
-        → spot_entry area.now word.new result ≡ successor (below_of form.order) above h.now q.entries }
-    ensures spot_inside { SpotInside area.now result }
+) -> Option<EntryPlace>
+    requires { 248 ≤ length word.old }
+    ensures as_read { (next : Option (List ℕ)) (q : Run)
+        → run_from (below_of order) area.entry.blocks area.entry.bytes.now (walk.stored element.entry) next ≡ ok q
+        → spot_entry area.entry.bytes.now word.new result ≡ successor (below_of order) above h.now q.entries }
+    ensures spot_inside { SpotInside area.entry.bytes.now result }
     ensures word_len_unchanged { length word.new ≡ length word.old }
 {
-    let b = read_number(index, at, form.width);
-    let d = area.len() / 256;
-    let told = runs::run_size(area, d, b);
-    let Size::Blocks(size) = told else {
-        return Spot::Absent;
+    let b = element.number;
+    let Ok(size) = runs::run_size(area, b) else {
+        return None;
     };
     let start = 256 * b;
     let end = start + 256 * size;
-    let st = find_in_run(form.order, &area[start..end], above, h, word);
-    match st {
-        Step::Broken => Spot::Absent,
-        Step::End => Spot::Absent,
-        Step::Entry { length, zero, next } => {
-            let body = start + zero;
-            let behind = start + next;
-            Spot::At {
-                length: length,
-                zero: body,
-                next: behind,
-            }
-        }
-    }
+    let entry = find_in_run(order, &area.bytes[start..end], above, h, word)?;
+    let zero = start + entry.zero;
+    let next = start + entry.next;
+    Some(EntryPlace {
+        length: entry.length,
+        zero,
+        next,
+    })
 }
 
-// The same of the run behind that of the element at `from`, if there is one.
+// The same of the run of the next element, if there is one.
 fn find_next(
-    form: Form,
-    index: &[u8],
-    from: Place,
-    area: &[u8],
+    order: usize,
+    mut elements: Elements,
+    area: Area,
     above: bool,
     h: &[u8],
     word: &mut [u8],
-) -> Spot
-    requires width { Width form.width × (1 ≤ from.left) × Inside form.width index.now from.at from.left }
-    requires area_len_bound { (length area.now ≤ 4294967040) × (248 ≤ length word.old) }
-    ensures as_read { (D : ℕ) → 256 * D ≡ length area.now → (rs : List Run)
-        → runs_from (below_of form.order) D area.now
-        (elements_at form.width index.now (element_end form.width index.now from.at + 1) (from.left - 1)) ≡ ok rs
-        → spot_entry area.now word.new result ≡ successor (below_of form.order) above h.now (first_entries rs) }
-    ensures spot_inside { SpotInside area.now result }
+) -> Option<EntryPlace>
+    requires { 248 ≤ length word.old }
+    ensures as_read { (rs : List Run) → runs_from (below_of order) area.entry.blocks area.entry.bytes.now (walk.elements elements.entry) ≡ ok rs
+        → spot_entry area.entry.bytes.now word.new result ≡ successor (below_of order) above h.now (first_entries rs) }
+    ensures spot_inside { SpotInside area.entry.bytes.now result }
     ensures word_len_unchanged { length word.new ≡ length word.old }
 {
-    if from.left == 1 {
-        return Spot::Absent;
-    }
-    let next = index::element_end(form.width, index, from.at) + 1;
-    find_at(form, index, next, area, above, h, word)
+    let element = elements.next()?;
+    find_at(order, element, area, above, h, word)
 }
 
-// The least entry not below `h`, or above it, of the runs of so many elements.
+// The least entry not below `h`, or above it, of the runs of all elements of an index.
 pub fn seek(
-    form: Form,
-    index: &[u8],
-    elements: usize,
-    area: &[u8],
+    order: usize,
+    elements: Elements,
+    area: Area,
     above: bool,
     h: &[u8],
     word: &mut [u8],
-) -> Spot
-    requires width { Width form.width × Inside form.width index.now 0 elements }
-    requires area_len_bound { (length area.now ≤ 4294967040) × (248 ≤ length word.old) }
-    ensures as_read { (D : ℕ) → 256 * D ≡ length area.now → (rs : List Run)
-        → runs_from (below_of form.order) D area.now (elements_at form.width index.now 0 elements) ≡ ok rs
-        → spot_entry area.now word.new result ≡ successor (below_of form.order) above h.now (all_entries rs) }
-    ensures spot_inside { SpotInside area.now result }
+) -> Option<EntryPlace>
+    requires from_start { elements.at ≡ 0 }
+    requires word_room { 248 ≤ length word.old }
+    ensures as_read { (rs : List Run) → runs_from (below_of order) area.entry.blocks area.entry.bytes.now (walk.elements elements.entry) ≡ ok rs
+        → spot_entry area.entry.bytes.now word.new result ≡ successor (below_of order) above h.now (all_entries rs) }
+    ensures spot_inside { SpotInside area.entry.bytes.now result }
     ensures word_len_unchanged { length word.new ≡ length word.old }
 {
-    if elements == 0 {
-        return Spot::Absent;
+    if elements.left == 0 {
+        return None;
     }
-    let p = index::concerned(form.width, form.order, index, elements, h);
-    let found = find_at(form, index, p.at, area, above, h, word);
-    match found {
-        Spot::At { length, zero, next } => Spot::At {
-            length: length,
-            zero: zero,
-            next: next,
-        },
-        Spot::Absent => find_next(form, index, p, area, above, h, word),
+    let index = elements.index;
+    let width = elements.width;
+    let p = index::concerned(width, order, index, elements.left, h);
+    let mut from = Elements::new(index, width, p.at, p.left);
+    let first = from.next().unwrap();
+    match find_at(order, first, area, above, h, word) {
+        Some(entry) => Some(entry),
+        None => find_next(order, from, area, above, h, word),
     }
 }

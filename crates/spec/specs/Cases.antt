@@ -1,10 +1,7 @@
 -- Cases of our own beside document 01's examples: rows with literal answers and literal bytes for every call, every refusal and both kinds of file.
 use Rattle.std.specs.Prelude.{ℕ, Bool, true, false, ◌&&◌, List, [], ◌∷◌, ◌++◌, map, length, take, replicate, T, eqb}
-use Rattle.spec.specs.declared.LengthAnswer.{LengthAnswer}
-use Rattle.spec.specs.declared.CheckAnswer.{CheckAnswer}
-use Rattle.spec.specs.declared.LookUpAnswer.{LookUpAnswer}
-use Rattle.spec.specs.declared.WalkAnswer.{WalkAnswer}
-use Rattle.spec.specs.declared.DeleteAnswer.{DeleteAnswer}
+use Rattle.std.specs.Prelude.{Some, None, Ok, Err}
+use Rattle.spec.specs.declared.Refusal.{Refusal}
 use Rattle.spec.specs.Ascii.{ascii}
 use Rattle.spec.specs.Lists.{all}
 use Rattle.spec.specs.Bytes.{bytes_at, bytes_equal, zeros}
@@ -14,7 +11,7 @@ use Rattle.spec.specs.Run.{Run, entries_bytes, encoded_size}
 use Rattle.spec.specs.Check.{image_in}
 use Rattle.spec.specs.Place.{Grown, cut, grown}
 use Rattle.spec.specs.Calls.{create, check, look_up, walk}
-use Rattle.spec.specs.Answers.{length_answer, check_answer, look_up_answer, walk_answer, delete_answer, code, code_or_absent, lent_number, lent_number_or_absent, open_answers}
+use Rattle.spec.specs.Answers.{number_of, length_answer, check_answer, look_up_answer, walk_answer, delete_answer, code, code_or_absent, lent_number, lent_number_or_absent, open_answers}
 use Rattle.spec.specs.Listing.{listing, column}
 use Rattle.spec.specs.CallRows.{change_numbers}
 use Rattle.spec.specs.declared.NewFile.{NewFile}
@@ -585,19 +582,42 @@ cases =
     ∷ formats file4 (256 ∷ 2 ∷ 65_536 ∷ 1_024 ∷ [])
     ∷ formats file5 (256 ∷ 2 ∷ 65_536 ∷ 1_024 ∷ [])
     -- the engine's answers and the C codes
-    ∷ gives (told_length (length_answer (LengthAnswer.Done 256)) ++ told_length (length_answer (LengthAnswer.Refused 15))) (256 ∷ 0 ∷ 15 ∷ [])
-    ∷ gives (told_figures (check_answer (CheckAnswer.Counted 1 2 3 4)) ++ told_figures (check_answer (CheckAnswer.Refused 9))) (1 ∷ 2 ∷ 3 ∷ 4 ∷ 0 ∷ 9 ∷ [])
-    ∷ gives (told_text (look_up_answer (LookUpAnswer.Found 1 2)) ++ told_text (look_up_answer LookUpAnswer.Absent) ++ told_text (look_up_answer (LookUpAnswer.Refused 14))) (1 ∷ 2 ∷ 0 ∷ 14 ∷ [])
-    ∷ gives (told_entry (walk_answer (WalkAnswer.Found 1 2 3)) ++ told_entry (walk_answer WalkAnswer.Absent) ++ told_entry (walk_answer (WalkAnswer.Refused 12))) (1 ∷ 2 ∷ 3 ∷ 0 ∷ 12 ∷ [])
-    ∷ gives (told_removed (delete_answer (DeleteAnswer.Removed 512)) ++ told_removed (delete_answer DeleteAnswer.Absent) ++ told_removed (delete_answer (DeleteAnswer.Refused 2))) (512 ∷ 0 ∷ 2 ∷ [])
-    ∷ gives (code (check_answer (CheckAnswer.Counted 1 2 3 4)) ∷ code (check_answer (CheckAnswer.Refused 9)) ∷ []) (0 ∷ 9 ∷ [])
-    ∷ gives (code_or_absent (look_up_answer (LookUpAnswer.Found 1 2)) ∷ code_or_absent (look_up_answer LookUpAnswer.Absent)
-    ∷ code_or_absent (look_up_answer (LookUpAnswer.Refused 14)) ∷ []) (0 ∷ 100 ∷ 14 ∷ [])
-    ∷ gives (lent_number (λ c. c.headwords) 77 (check_answer (CheckAnswer.Counted 1 2 3 4)) ∷ lent_number (λ c. c.headwords) 77 (check_answer (CheckAnswer.Refused 9)) ∷ []) (1 ∷ 77 ∷ [])
+    ∷ gives (told_length (length_answer (Ok 256)) ++ told_length (length_answer (Err Refusal.Full))) (256 ∷ 0 ∷ 15 ∷ [])
+    ∷ gives (told_figures (check_answer (Ok (record { headwords = 1; index_blocks = 2; data_blocks = 3; free_blocks = 4 }))) ++ told_figures (check_answer (Err Refusal.BadBlocks)))
+    (1 ∷ 2 ∷ 3 ∷ 4 ∷ 0 ∷ 9 ∷ [])
+    ∷ gives (told_text (look_up_answer (Ok (Some (record { attribute = 1; text_length = 2 })))) ++ told_text (look_up_answer (Ok None)) ++ told_text (look_up_answer (Err Refusal.ShortOutput)))
+    (1 ∷ 2 ∷ 0 ∷ 14 ∷ [])
+    ∷ gives (told_entry (walk_answer (Ok (Some (record { attribute = 1; headword_length = 2; text_length = 3 })))) ++ told_entry (walk_answer (Ok None))
+    ++ told_entry (walk_answer (Err Refusal.BadHeadword))) (1 ∷ 2 ∷ 3 ∷ 0 ∷ 12 ∷ [])
+    ∷ gives (told_removed (delete_answer (Ok (Some 512))) ++ told_removed (delete_answer (Ok None)) ++ told_removed (delete_answer (Err Refusal.ShortWork))) (512 ∷ 0 ∷ 2 ∷ [])
     ∷ gives
-    (lent_number_or_absent (λ f. f.text_length) 77 (look_up_answer (LookUpAnswer.Found 1 2))
-    ∷ lent_number_or_absent (λ f. f.text_length) 77 (look_up_answer LookUpAnswer.Absent)
-    ∷ lent_number_or_absent (λ f. f.text_length) 77 (look_up_answer (LookUpAnswer.Refused 14))
+    (number_of Refusal.BadLength
+    ∷ number_of Refusal.ShortWork
+    ∷ number_of Refusal.BadVersion
+    ∷ number_of Refusal.LeftOut
+    ∷ number_of Refusal.BadAreas
+    ∷ number_of Refusal.BadIndex
+    ∷ number_of Refusal.BadPlace
+    ∷ number_of Refusal.BadRun
+    ∷ number_of Refusal.BadBlocks
+    ∷ number_of Refusal.BadCounts
+    ∷ number_of Refusal.ReadOnly
+    ∷ number_of Refusal.BadHeadword
+    ∷ number_of Refusal.BadText
+    ∷ number_of Refusal.ShortOutput
+    ∷ number_of Refusal.Full
+    ∷ number_of Refusal.BadParts
+    ∷ [])
+    (1 ∷ 2 ∷ 3 ∷ 4 ∷ 5 ∷ 6 ∷ 7 ∷ 8 ∷ 9 ∷ 10 ∷ 11 ∷ 12 ∷ 13 ∷ 14 ∷ 15 ∷ 16 ∷ [])
+    ∷ gives (code (check_answer (Ok (record { headwords = 1; index_blocks = 2; data_blocks = 3; free_blocks = 4 }))) ∷ code (check_answer (Err Refusal.BadBlocks)) ∷ []) (0 ∷ 9 ∷ [])
+    ∷ gives (code_or_absent (look_up_answer (Ok (Some (record { attribute = 1; text_length = 2 })))) ∷ code_or_absent (look_up_answer (Ok None))
+    ∷ code_or_absent (look_up_answer (Err Refusal.ShortOutput)) ∷ []) (0 ∷ 100 ∷ 14 ∷ [])
+    ∷ gives (lent_number (λ c. c.headwords) 77 (check_answer (Ok (record { headwords = 1; index_blocks = 2; data_blocks = 3; free_blocks = 4 })))
+    ∷ lent_number (λ c. c.headwords) 77 (check_answer (Err Refusal.BadBlocks)) ∷ []) (1 ∷ 77 ∷ [])
+    ∷ gives
+    (lent_number_or_absent (λ f. f.text_length) 77 (look_up_answer (Ok (Some (record { attribute = 1; text_length = 2 }))))
+    ∷ lent_number_or_absent (λ f. f.text_length) 77 (look_up_answer (Ok None))
+    ∷ lent_number_or_absent (λ f. f.text_length) 77 (look_up_answer (Err Refusal.ShortOutput))
     ∷ [])
     (2 ∷ 77 ∷ 77 ∷ [])
     ∷ after file4 1_792 two_free free_probes

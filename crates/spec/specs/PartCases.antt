@@ -1,7 +1,8 @@
 -- Cases of our own for part lists and the step through them (document 02, F-5): rows with literal bytes and literal answers.
-use Rattle.std.specs.Prelude.{ℕ, true, List, [], ◌∷◌, ◌++◌, length, T}
+use Rattle.std.specs.Prelude.{ℕ, List, [], ◌∷◌, ◌++◌, length, T}
 use Rattle.std.proofs.Math.Option.{Option, none, some}
-use Rattle.spec.specs.declared.PartStep.{PartStep}
+use Rattle.std.specs.Prelude.{Some, None, Ok, Err}
+use Rattle.spec.specs.declared.Refusal.{Refusal}
 use Rattle.spec.specs.Outcome.{Outcome, refused, ok}
 use Rattle.spec.specs.Lists.{all}
 use Rattle.spec.specs.PartList.{EntryPart, PartAt, parts_from, part_step}
@@ -88,7 +89,8 @@ part_cases =
     ∷ steps (two_parts ++ 0 ∷ []) 0 (refusal 16)
     ∷ steps (two_parts ++ 0 ∷ []) 7 (refusal 16)
     -- the engine's answers
-    ∷ gives (told_part (part_step_answer (PartStep.Part 1 2 3 4)) ++ told_part (part_step_answer PartStep.End) ++ told_part (part_step_answer (PartStep.Refused 16))) (1 ∷ 2 ∷ 3 ∷ 4 ∷ 0 ∷ 16 ∷ [])
+    ∷ gives (told_part (part_step_answer (Ok (Some (record { kind = 1; place = 2; part_length = 3; next = 4 })))) ++ told_part (part_step_answer (Ok None))
+    ++ told_part (part_step_answer (Err Refusal.BadParts))) (1 ∷ 2 ∷ 3 ∷ 4 ∷ 0 ∷ 16 ∷ [])
     ∷ []
 
 -- THE THEOREM: every row holds

@@ -9,7 +9,6 @@ use native.Mathlib.Omega.{arith}
 use lib.ListN.{length, drop, length-map}
 use lib.Seq.{drop-drop}
 use lib.Dec.{eqb}
-use borrow.Author.Rules.{rules}
 use borrow.Author.Tests.{eq-eqb, ne_eqb, eqb-false}
 use Rattle.spec.specs.Outcome.{ok}
 use Rattle.spec.specs.Lists as Lists
@@ -32,10 +31,11 @@ use Rattle.marks.proofs.Laws.{drop_take}
 use Rattle.index.specs.Elements as Elements
 use Rattle.index.specs.Elements.{element_end, element_headword, element_at, elements_at, elements_end, Inside, concerned_from}
 use Rattle.index.specs.declared.Place as IndexPlace
-use Rattle.index.proofs.Laws.{element_end_past, inside_start, inside_end, inside_next, elements_next, elements_count, end_turn, concerned_rule, concerned_stops}
+use Rattle.index.proofs.Laws.{element_end_past, inside_end, inside_next, elements_next, elements_count, end_turn, concerned_rule, concerned_stops}
 use Rattle.elements.proofs.Laws.{elements_length, elements_split, inside_split, ends_split}
 use Rattle.runs.specs.Size.{size_told}
-use Rattle.runs.specs.declared.Size.{Size}
+use Rattle.std.specs.Prelude.{Ok, Err}
+use Rattle.spec.specs.declared.Refusal.{Refusal}
 use Rattle.runs.proofs.SizeLaws.{size_of_run}
 use Rattle.target.specs.Told.{entries_start, entries_part, no_target, NoRun, OneRun, TargetTold}
 use Rattle.target.specs.declared.Target.{Target}
@@ -68,9 +68,6 @@ start_most b size = go (eqb size 0) refl
     go : (t : Bool) → eqb size 0 ≡ t → (elim t [ true ↦ 256 * b | false ↦ 256 * b + 2 ]) ≤ 256 * (b + size)
     go true e = omega arith
     go false e = let z = eqb-false size 0 e in omega (arith, z)
-
--- every need of entries_start
-pub ruleset start_laws = (start_none, start_some, rules)
 
 -- ---- runs and their elements
 -- a run that was read by its own element
@@ -247,14 +244,6 @@ module _ (width order : ℕ) (index h : List ℕ) (elements : ℕ) (some_element
   pub left_fewer : c.left ≤ elements
   left_fewer = here.fewer
 
-  -- nor are those behind it
-  pub after_fewer : c.left - 1 ≤ elements
-  after_fewer = omega (arith, here.fewer)
-
-  -- nor all others
-  pub others_fewer : elements - c.left + (c.left - 1) ≤ elements
-  others_fewer = omega (arith, here.fewer)
-
   -- those before it and those from it on are all
   sum : elements ≡ (elements - c.left) + c.left
   sum = omega (arith, here.fewer)
@@ -327,7 +316,7 @@ module _ (width order : ℕ) (index h : List ℕ) (elements : ℕ) (some_element
           inl (rw w e)
       go (inr z) = inr (empty (elements - c.left) x z m)
 
-  module _ (D : ℕ) (area : List ℕ) (b : ℕ) (num : b ≡ from_little_endian (bytes_at c.at width index)) (size : Size) (sized : size ≡ size_told D area b) where
+  module _ (D : ℕ) (area : List ℕ) (b : ℕ) (num : b ≡ from_little_endian (bytes_at c.at width index)) where
     -- the runs parted at it
     abbrev At : List Run → Type 0
     At rs = Parted rs (elements_at width index 0 (elements - c.left)) (element_at width index c.at) (elements_at width index (element_end width index c.at + 1) (c.left - 1))
@@ -351,17 +340,17 @@ module _ (width order : ℕ) (index h : List ℕ) (elements : ℕ) (some_element
       own_block = ap (λ (e : Element). e.block) parts.run_is ∙ sym num
 
       -- and the size that is told there
-      own_size : size ≡ Size.Blocks parts.run.size
+      own_size : size_told D area b ≡ Ok parts.run.size
       unfolding element_of
-      own_size = sized ∙ rw (own_block) at (size_of_run (below_of order) D area (element_of parts.run) known.next parts.run known.read)
+      own_size = rw (own_block) at (size_of_run (below_of order) D area (element_of parts.run) known.next parts.run known.read)
 
     -- where row 7 is broken, the runs are not read
-    pub told_broken : size ≡ Size.Broken → (t : Target) (rs : List Run) → runs_from (below_of order) D area (elements_at width index 0 elements) ≡ ok rs
+    pub told_broken : (r : Refusal) → Err r ≡ size_told D area b → (t : Target) (rs : List Run) → runs_from (below_of order) D area (elements_at width index 0 elements) ≡ ok rs
         → TargetTold width order index area elements h rs t
-    told_broken broken t rs read = let e = own_size rs read in clash (cc)
+    told_broken r broken t rs read = let e = own_size rs read in clash (cc)
 
     -- what is told of it
-    pub told_some : (end : ℕ) → end ≡ element_end width index c.at → (blocks : ℕ) → size ≡ Size.Blocks blocks
+    pub told_some : (end : ℕ) → end ≡ element_end width index c.at → (blocks : ℕ) → Ok blocks ≡ size_told D area b
         → (rs : List Run) → runs_from (below_of order) D area (elements_at width index 0 elements) ≡ ok rs
         → TargetTold width order index area elements h rs (record { at = c.at; end = end + 1; before = elements - c.left; after = c.left - 1; block = b; size = blocks })
     told_some end ends blocks sized_so rs read =
@@ -406,9 +395,6 @@ module _ (width order : ℕ) (index h : List ℕ) (elements : ℕ) (some_element
   -- its element ends inside the index
   pub end_inside : (end : ℕ) → end ≡ element_end width index c.at → end + 1 ≤ length index
   end_inside end e = omega (arith, inside_end width index c.at c.left inside_parts.1 some_left)
-
--- the numbers of find_run
-pub ruleset run_laws = (left_fewer, after_fewer, others_fewer, end_inside, inside_start, rules)
 
 -- ---- for the crates above
 -- the blocks of runs taken apart at one

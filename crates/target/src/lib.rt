@@ -6,18 +6,17 @@ ghost use Rattle.spec.specs.Order.{below_of};
 ghost use Rattle.spec.specs.Outcome.{ok};
 ghost use Rattle.spec.specs.Run.{Run};
 ghost use Rattle.spec.specs.Check.{runs_from};
-ghost use Rattle.byteops.specs.Width.{Width};
-ghost use Rattle.index.specs.Elements.{elements_at, Inside};
+ghost use Rattle.index.specs.Walk as walk;
 ghost use Rattle.target.specs.Told.{entries_start, no_target, TargetTold};
 
 use byteops::read_number;
-use header::Form;
-use index::element_end;
-use runs::Size;
+use header::Area;
+use index::{Elements, element_end};
 
 // The run concerned: its element stands in the index from `at` up to `end`, with so many elements before and after it; its
 // first block, and its number of blocks. With no run all are 0.
-#[derive(Clone, Copy)]
+// Kept: no Option<Target>, since all that reads it, the index copied before and behind and the run's bytes, is right at 0 with no case.
+#[derive(Clone, Copy, Debug, PartialEq, Eq)]
 pub struct Target {
     pub at: usize,
     pub end: usize,
@@ -41,41 +40,35 @@ fn no_run() -> Target
     }
 }
 
-// The run that a change of the headword h goes to, of so many index elements. None also where the run that the index names breaks row 7.
-pub fn find_run(
-    form: Form,
-    index: &[u8],
-    elements: usize,
-    area: &[u8],
-    d: usize,
-    h: &[u8],
-) -> Target
-    requires width { Width form.width × Inside form.width index.now 0 elements }
-    requires d_in_bounds { (256 * d ≤ length area.now) × (d ≤ 16777215) }
-    ensures target_told { (rs : List Run) → runs_from (below_of form.order) d area.now (elements_at form.width index.now 0 elements) ≡ ok rs
-        → TargetTold form.width form.order index.now area.now elements h.now rs result }
-    ensures size_bound { (result.block + result.size ≤ d) × (result.size ≤ 32767) × (result.at ≤ result.end) × (result.end ≤ length index.now) × (result.before + result.after ≤ elements) }
+// The run that a change of the headword h goes to, of all elements of an index. None also where the run that the index names breaks row 7.
+pub fn find_run(order: usize, elements: Elements, area: Area, h: &[u8]) -> Target
+    requires from_start { elements.at ≡ 0 }
+    ensures target_told { (rs : List Run) → runs_from (below_of order) area.entry.blocks area.entry.bytes.now (walk.elements elements.entry) ≡ ok rs
+        → TargetTold elements.entry.width order elements.entry.index.now area.entry.bytes.now elements.entry.left h.now rs result }
+    ensures size_bound { (result.block + result.size ≤ area.entry.blocks) × (result.size ≤ 32767) × (result.at ≤ result.end)
+        × (result.end ≤ length elements.entry.index.now) × (result.before + result.after ≤ elements.entry.left) }
 {
-    if elements == 0 {
+    let index = elements.index;
+    let width = elements.width;
+    let count = elements.left;
+    if count == 0 {
         return no_run();
     }
-    let width = form.width;
-    let p = index::concerned(width, form.order, index, elements, h);
+    let p = index::concerned(width, order, index, count, h);
     let after = p.left - 1;
-    let before = elements - p.left;
+    let before = count - p.left;
     let next = element_end(width, index, p.at) + 1;
     let block = read_number(index, p.at, width);
-    let size = runs::run_size(area, d, block);
-    match size {
-        Size::Broken => no_run(),
-        Size::Blocks(blocks) => Target {
-            at: p.at,
-            end: next,
-            before: before,
-            after: after,
-            block: block,
-            size: blocks,
-        },
+    let Ok(size) = runs::run_size(area, block) else {
+        return no_run();
+    };
+    Target {
+        at: p.at,
+        end: next,
+        before,
+        after,
+        block,
+        size,
     }
 }
 

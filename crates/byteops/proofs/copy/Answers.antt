@@ -1,23 +1,20 @@
--- The loop has stored the first i bytes; the last 32 may go over some of them.
+-- The bytes passed are copied, then the rest.
+use Prim.Native.Nat.{◌*◌, ◌%◌}
 use mathlib.Core.Path.{refl}
 use native.Mathlib.Omega.{arith}
-use Rattle.byteops.proofs.Stores.{chunk_none, chunk_more, chunk_last}
+use Rattle.byteops.proofs.Stores.{copied_none, copied_more, part_copied}
 use Rattle.byteops.proofs.copy.Goals as goal
 
-pub returns-then-n-lt32-clause-dst_after : goal.returns-then-n-lt32-clause-dst_after
-returns-then-n-lt32-clause-dst_after c = c.copy_words.ensures.dst_after
-
 pub loop-i-init : goal.loop-i-init
-loop-i-init c = (omega arith, refl, chunk_none _ _ _ _)
+loop-i-init c = copied_none _ _ _ _
 
 pub loop-i-preserved : goal.loop-i-preserved
-loop-i-preserved c = (
-  omega arith,
-  omega arith,
-  chunk_more _ _ _ _ _ _ _ _ _ c.loop-i.invariant.2 c.requires.0 c.requires.1 c.loop-i-test.true
-      c.loop-i.invariant.0 c.copy_32.ensures.dst_after,
-)
+loop-i-preserved c =
+    copied_more _ _ _ c.args.src.now c.args.at c.args.from (32 * c.loop-i.i) 32 _ _ _ (omega arith) (omega arith) (omega arith) refl refl c.loop-i.invariant
+    c.copy_part.ensures.dst_after
 
 pub returns-clause-dst_after : goal.returns-clause-dst_after
-returns-clause-dst_after c = chunk_last _ _ _ _ _ _ _ _ _ c.loop-i.invariant.2 c.requires.0 c.requires.1 c.if-n-lt32.false c.loop-i-test.false
-    c.loop-i.invariant.0 c.copy_32-2.ensures.dst_after
+returns-clause-dst_after c =
+    copied_more _ _ _ c.args.src.now c.args.at c.args.from (32 * c.loop-i.i) (c.args.n % 32) _ _ _ (omega arith) (omega arith) (omega arith) (omega arith) (omega arith)
+    c.loop-i.invariant
+    (part_copied _ _ _ _ _ _ _ _ (omega arith) (omega arith) (omega arith) c.copy_from_slice.ensures.after)

@@ -1,22 +1,16 @@
 -- `change` meets its contract.
 use mathlib.Core.Path.{◌≡◌, refl, ap, ◌∙◌}
 use mathlib.Core.Bool.{true}
-use mathlib.Core.List.{[]}
 use native.Mathlib.Omega.{arith}
 use lib.ListN.{length, take}
 use Rattle.marks.specs.Marks.{marks}
 use Rattle.marks.proofs.Laws.{length_marks, length_range}
-use Rattle.inspect.proofs.Accepted.{accepted_few, accepted_blocks}
+use Rattle.inspect.proofs.Accepted.{accepted_blocks}
 use Rattle.change.specs.Ready.{old_length}
 use Rattle.change.specs.Drafted.{Begun}
 use Rattle.change.proofs.FinishLaws.{marks_long, change_index, begins, still_ready}
 use borrow.Author.Rules.{rules}
 use Rattle.change.proofs.change.Goals as goal
-
-pub overflow_add-old : goal.overflow_add-old
-overflow_add-old c =
-    let k = c.requires.drafted in
-    omega (arith, accepted_few _ _ k.accepted, k.growth_few)
 
 pub returns-then-old-p-gt-MOST_INDEX_BLOCKS : goal.returns-then-old-p-gt-MOST_INDEX_BLOCKS
 returns-then-old-p-gt-MOST_INDEX_BLOCKS c =
@@ -61,6 +55,6 @@ keep-requires c =
     true (marks a.free.now) (omega (arith, m, p.drafted.inside, accepted_blocks _ _ p.drafted.accepted)) ∙ m in
     let p = c.requires in
     record {
-      ready = still_ready _ c.args.p _ _ _ _ begun long [] (omega (arith, c.if-p-gt0.false));
-      g_value = (refl, p.p_in_bounds.0, p.p_in_bounds.1, search rules);
+      ready = still_ready _ c.args.p _ _ _ _ begun long (omega (arith, c.if-p-gt0.false));
+      g_value = (omega (arith, c.if-p-gt0.false), p.p_in_bounds.0, p.p_in_bounds.1, search rules);
     }

@@ -1,12 +1,9 @@
 -- `growth` meets its contract.
-use Rattle.change.proofs.CodeLaws.{growth_none, growth_still, growth_more}
+use Rattle.change.proofs.CodeLaws.{growth_none, growth_some}
 use Rattle.change.proofs.growth.Goals as goal
 
 pub returns-then-elements-eq0 : goal.returns-then-elements-eq0
 returns-then-elements-eq0 c = search growth_none
 
-pub returns-then-need-n : goal.returns-then-need-n
-returns-then-need-n c = search growth_still
-
 pub returns : goal.returns
-returns c = search growth_more
+returns c = search growth_some

@@ -6,14 +6,11 @@ use Rattle.change.proofs.Laws.{run_short}
 use Rattle.change.proofs.FinishLaws.{index_short, element_short, blocks_short, drafted}
 use Rattle.change.proofs.measure_change.Goals as goal
 
-pub overflow_add-front : goal.overflow_add-front
-overflow_add-front c = omega (arith, accepted_index _ _ c.requires.accepted_image)
-
 pub position-start-requires : goal.position-start-requires
 position-start-requires c = omega (arith, accepted_index _ _ c.requires.accepted_image)
 
-pub slice_bounds-index-end : goal.slice_bounds-index-end
-slice_bounds-index-end c = omega (arith, accepted_index _ _ c.requires.accepted_image, c.position-start.ensures)
+pub slice_bounds-elements-end : goal.slice_bounds-elements-end
+slice_bounds-elements-end c = omega (arith, accepted_index _ _ c.requires.accepted_image, c.position-start.ensures)
 
 pub slice_bounds-area-count : goal.slice_bounds-area-count
 slice_bounds-area-count c = omega (arith, accepted_index _ _ c.requires.accepted_image, c.position-start.ensures)
@@ -21,22 +18,21 @@ slice_bounds-area-count c = omega (arith, accepted_index _ _ c.requires.accepted
 pub slice_bounds-area-start : goal.slice_bounds-area-start
 slice_bounds-area-start c = omega (arith, accepted_index _ _ c.requires.accepted_image, c.position-start.ensures)
 
-pub nindex2-elements-requires : goal.nindex2-elements-requires
-nindex2-elements-requires c = omega (arith, accepted_index _ _ c.requires.accepted_image)
+pub nindex2-requires : goal.nindex2-requires
+nindex2-requires c = omega (arith, accepted_index _ _ c.requires.accepted_image)
 
-pub find_run-t-requires : goal.find_run-t-requires
-find_run-t-requires c =
+pub invariant_of-elements : goal.invariant_of-elements
+invariant_of-elements c =
     let a = c.requires.accepted_image in
-    record {
-      width = (a.good.0, accepted_inside _ _ a _ c.position-start.ensures _ c.nindex2-elements.ensures.value);
-      d_in_bounds = (omega (arith, accepted_area _ _ a _ c.position-start.ensures c.requires.image_len.0), omega (arith, accepted_blocks _ _ a));
-    }
+    record { width_taken = a.good.0; inside = accepted_inside _ _ a _ c.position-start.ensures _ c.nindex2.ensures.value }
+
+pub invariant_of-area : goal.invariant_of-area
+invariant_of-area c =
+    let a = c.requires.accepted_image in
+    record { whole = omega (arith, accepted_area _ _ a _ c.position-start.ensures c.requires.image_len.0); few = omega (arith, accepted_blocks _ _ a) }
 
 pub entries_start-from-requires : goal.entries_start-from-requires
 entries_start-from-requires c = omega (arith, c.find_run-t.ensures.size_bound.0, accepted_blocks _ _ c.requires.accepted_image)
-
-pub overflow_add-t : goal.overflow_add-t
-overflow_add-t c = omega (arith, c.find_run-t.ensures.size_bound.0, accepted_blocks _ _ c.requires.accepted_image)
 
 pub overflow_mul-t : goal.overflow_mul-t
 overflow_mul-t c = omega (arith, c.find_run-t.ensures.size_bound.0, accepted_blocks _ _ c.requires.accepted_image)
@@ -58,14 +54,9 @@ measure-m-requires c =
       width = (good.0, omega (arith, good.1));
     }
 
-pub overflow_add-count-2 : goal.overflow_add-count-2
-overflow_add-count-2 c =
-    let m = c.measure-m.ensures.parts_bound in
-    omega (arith, m.0, c.find_run-t.ensures.size_bound.4, c.nindex2-elements.ensures.upper_bound)
-
 pub overflow_sub-bytes-2 : goal.overflow_sub-bytes-2
 overflow_sub-bytes-2 c =
-    element_short _ _ c.requires.accepted_image _ c.position-start.ensures _ c.nindex2-elements.ensures.value _ _ c.find_run-t.ensures.target_told
+    element_short _ _ c.requires.accepted_image _ c.position-start.ensures _ c.nindex2.ensures.value _ _ c.find_run-t.ensures.target_told
 
 pub overflow_add-bytes : goal.overflow_add-bytes
 overflow_add-bytes c =
@@ -84,11 +75,8 @@ nblock2-requires c = omega (arith, accepted_index _ _ c.requires.accepted_image)
 
 pub overflow_sub-blocks : goal.overflow_sub-blocks
 overflow_sub-blocks c =
-    blocks_short _ _ c.requires.accepted_image _ c.position-start.ensures _ c.nindex2-elements.ensures.value _ _ c.find_run-t.ensures.target_told _
+    blocks_short _ _ c.requires.accepted_image _ c.position-start.ensures _ c.nindex2.ensures.value _ _ c.find_run-t.ensures.target_told _
     c.nblock2.ensures.value
-
-pub overflow_add-blocks : goal.overflow_add-blocks
-overflow_add-blocks c = omega (arith, c.nblock2.ensures.upper_bound, c.measure-m.ensures.parts_bound.2)
 
 pub returns : goal.returns
 returns c =
@@ -96,7 +84,7 @@ returns c =
     let m = c.measure-m.ensures in (
       refl,
       refl,
-      drafted a.image.now a.old c.requires.accepted_image _ c.position-start.ensures _ c.nindex2-elements.ensures.value a.h.now c.find_run-t.result
+      drafted a.image.now a.old c.requires.accepted_image _ c.position-start.ensures _ c.nindex2.ensures.value a.h.now c.find_run-t.result
           c.find_run-t.ensures.target_told a.body.now a.fresh _ _ _ _ _ _ _ c.find_run-t.ensures.size_bound.0 c.entries_start-from.ensures.value
           m.measured c.nblock2.ensures.value c.growth-g.ensures m.parts_bound.1 m.found_value,
     )

@@ -4,9 +4,6 @@ use Rattle.change.proofs.Laws.{run_short}
 use Rattle.change.proofs.FinishLaws.{end_planned}
 use Rattle.change.proofs.plan_end.Goals as goal
 
-pub overflow_add-v : goal.overflow_add-v
-overflow_add-v c = omega (arith, c.requires.g_le_end.2)
-
 pub plan_parts-requires : goal.plan_parts-requires
 plan_parts-requires c =
     let p = c.requires in
@@ -18,7 +15,4 @@ plan_parts-requires c =
 pub returns-clause-planned_end : goal.returns-clause-planned_end
 returns-clause-planned_end c = end_planned c.args.old.now c.args.v c.args.free.now _ c.args.h.now c.args.body.now
     _ c.entries_start-from.result c.plan_parts.result _ c.position-start.ensures
-    c.copy_marks.ensures c.entries_start-from.ensures.value c.plan_parts.ensures.within
-
-pub returns-clause-upper_bound : goal.returns-clause-upper_bound
-returns-clause-upper_bound c = omega (arith, c.plan_parts.ensures.lower_bound.1, c.requires.g_le_end.2)
+    c.copy_from_slice.ensures.after c.entries_start-from.ensures.value c.plan_parts.ensures.within

@@ -6,6 +6,9 @@ use borrow.Author.Rules.{rules}
 use Rattle.change.proofs.AreasLaws.{
   starts_inside,
   area_long,
+  area_asks,
+  before_stands,
+  after_stands,
   moved_asks,
   before_asks,
   run_asks,
@@ -56,10 +59,14 @@ pub slice_bounds-area-end : goal.slice_bounds-area-end
 slice_bounds-area-end c =
     omega (arith, starts_inside _ _ _ _ _ _ c.requires.ready _ c.requires.roomy _ c.position-start.ensures, c.position-start.ensures)
 
+pub invariant_of-area : goal.invariant_of-area
+invariant_of-area c =
+    let a = area_asks _ _ _ _ _ _ c.requires.ready _ c.requires.roomy _ c.position-start.ensures in
+    record { whole = a.0; few = a.1 }
+
 pub copy_moved-requires : goal.copy_moved-requires
 copy_moved-requires c =
-    let whole = moved_asks _ _ _ _ _ _ c.requires.ready _ c.requires.roomy _ c.position-start.ensures in
-    record { d_in_bounds = whole.0; all = whole.1 }
+    record { all = moved_asks _ _ _ _ _ _ c.requires.ready _ c.requires.roomy _ c.position-start.ensures }
 
 pub entries_start-from-requires : goal.entries_start-from-requires
 entries_start-from-requires c = run_asks _ _ _ _ _ _ c.requires.ready _ c.requires.roomy
@@ -114,11 +121,15 @@ slice_bounds-run-end c =
       area_long _ _ _ _ _ _ c.requires.ready _ c.requires.roomy _ c.position-start.ensures,
     )
 
+pub invariant_of-before : goal.invariant_of-before
+invariant_of-before c =
+    let stands = before_stands _ _ _ _ _ _ c.requires.ready _ c.requires.roomy _ c.position-start.ensures in
+    record { width_taken = stands.0; inside = stands.1 }
+
 pub copy_elements-a-requires : goal.copy_elements-a-requires
 copy_elements-a-requires c =
     let moved-kept : length c.copy_moved.new.image ≡ length c.args.image.now = c.copy_moved.ensures.image_len_unchanged in
-    let whole = before_asks _ _ _ _ _ _ c.requires.ready _ c.requires.roomy _ c.position-start.ensures _ moved-kept in
-    record { width = whole.0; g_in_bounds = whole.1.0; left_in_bounds = whole.1.1 }
+    record { left_in_bounds = before_asks _ _ _ _ _ _ c.requires.ready _ c.requires.roomy _ c.position-start.ensures _ moved-kept }
 
 pub write_parts-b-requires : goal.write_parts-b-requires
 write_parts-b-requires c =
@@ -129,6 +140,11 @@ write_parts-b-requires c =
     c.copy_elements-a.ensures.value in
     record { h_value = whole.0; width = whole.1.0; parts_fit = whole.1.1 }
 
+pub invariant_of-after : goal.invariant_of-after
+invariant_of-after c =
+    let stands = after_stands _ _ _ _ _ _ c.requires.ready _ c.requires.roomy _ c.position-start.ensures in
+    record { width_taken = stands.0; inside = stands.1 }
+
 pub copy_elements-c-requires : goal.copy_elements-c-requires
 copy_elements-c-requires c =
     let moved-kept : length c.copy_moved.new.image ≡ length c.args.image.now =
@@ -137,9 +153,9 @@ copy_elements-c-requires c =
     c.copy_elements-a.ensures.dst_len_unchanged ∙ moved-kept in
     let parts-kept : length c.write_parts-b.new.image ≡ length c.args.image.now =
     c.write_parts-b.ensures.image_len_unchanged.0 ∙ before-kept in
-    let whole = after_asks _ _ _ _ _ _ c.requires.ready _ c.requires.roomy _ c.position-start.ensures _ _ _ parts-kept c.copy_elements-a.ensures.value
+    let asks = after_asks _ _ _ _ _ _ c.requires.ready _ c.requires.roomy _ c.position-start.ensures _ _ _ parts-kept c.copy_elements-a.ensures.value
     (parts_bytes _ _ _ _ _ _ c.requires.ready _ c.requires.roomy _ c.position-start.ensures _ c.entries_start-from.ensures.value _ _
-    c.write_parts-b.ensures.parts_put.1) in record { width = whole.0; g_in_bounds = whole.1.0; left_in_bounds = whole.1.1 }
+    c.write_parts-b.ensures.parts_put.1) in record { left_in_bounds = asks }
 
 pub overflow_sub-end : goal.overflow_sub-end
 overflow_sub-end c =

@@ -1,46 +1,31 @@
 -- `delete_tested` meets its contract.
 use mathlib.Core.Path.{◌≡◌, refl}
-use lib.ListN.{take}
+use Rattle.std.proofs.lemmas.Result.{err_from_is_err_and}
 use Rattle.marks.proofs.Laws.{marks_zero}
-use Rattle.inspect.specs.Overview.{AcceptedImage}
 use Rattle.change.specs.Ready.{old_length}
-use Rattle.parts.proofs.Laws.{first_bytes}
-use Rattle.inspect.proofs.Laws.{is_refused, is_accepted, is_marked}
-use Rattle.inspect.proofs.Accepted.{front_header}
-use Rattle.editor.proofs.Rows.{front_blocks, front_whole, delete_refused}
+use Rattle.editor.proofs.Rows.{front_whole, delete_refused}
 use borrow.Author.Rules.{rules}
 use Rattle.editor.proofs.delete_tested.Goals as goal
 
-pub slice_bounds-inspect-end-2 : goal.slice_bounds-inspect-end-2
-slice_bounds-inspect-end-2 c = search first_bytes
+pub changeable-requires-clause-free_value : goal.changeable-requires-clause-free_value
+changeable-requires-clause-free_value c = marks_zero 2560
 
-pub inspect-r-requires-clause-in_bounds : goal.inspect-r-requires-clause-in_bounds
-inspect-r-requires-clause-in_bounds c = (search front_header, search front_blocks, search rules)
-
-pub inspect-r-requires-clause-free_value : goal.inspect-r-requires-clause-free_value
-inspect-r-requires-clause-free_value c = marks_zero 2560
+pub returns-in_err-v : goal.returns-in_err-v
+returns-in_err-v c =
+    let p = c.requires in
+    let e = err_from_is_err_and c.from_residual.result c.from_residual.ensures.1 in
+    let r = delete_refused c.args.image.now c.args.len c.args.work.now p.0 p.1 p.2 p.3 _ (c.in_err-v.ensures.changeable _ p.3) c.args.headword.now in
+    record { result_value = rw (e.1, e.2) r.0; image_after = r.1; work_len_unchanged = refl }
 
 pub delete_in-requires : goal.delete_in-requires
 delete_in-requires c =
-    let accepted : AcceptedImage (take c.args.len c.args.image.now) c.in-Sound.v =
-    search is_accepted in
-    let whole : old_length c.in-Sound.v ≡ c.args.len =
-    let p = c.requires in front_whole _ _ p.2 p.1 _ accepted in
-    let e = whole in record {
-      accepted_image = (rw e accepted, rw e (search is_marked));
-      v_in_bounds = (rw e c.requires.2, c.requires.3, search rules);
-    }
-
-pub returns-in-Refused : goal.returns-in-Refused
-returns-in-Refused c =
     let p = c.requires in
-    let r = delete_refused c.args.image.now c.args.len c.args.work.now p.0 p.1 p.2 p.3 c.in-Refused.k (search is_refused) c.args.headword.now in
-    record { result_value = r.0; image_after = r.1; work_len_unchanged = refl }
+    let v = c.in_ok-v.ensures.changeable in
+    let whole : old_length c.in_ok-v.v ≡ c.args.len = front_whole _ _ p.2 p.1 _ v.0 in
+    record { accepted_image = (rw whole v.0, rw whole v.1); v_in_bounds = (rw whole p.2, p.3, search rules); may = v.2 }
 
-pub returns-in-Sound : goal.returns-in-Sound
-returns-in-Sound c =
-    let accepted : AcceptedImage (take c.args.len c.args.image.now) c.in-Sound.v =
-    search is_accepted in
-    let whole : old_length c.in-Sound.v ≡ c.args.len =
-    let p = c.requires in front_whole _ _ p.2 p.1 _ accepted in
+pub returns : goal.returns
+returns c =
+    let p = c.requires in
+    let whole : old_length c.in_ok-v.v ≡ c.args.len = front_whole _ _ p.2 p.1 _ c.in_ok-v.ensures.changeable.0 in
     rw (← whole) (search rules)

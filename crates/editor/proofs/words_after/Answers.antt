@@ -1,12 +1,18 @@
 -- `words_after` meets its contract.
+use Prim.Native.Nat.{ℕ, ◌+◌}
+use mathlib.Core.Path.{◌≡◌}
+use mathlib.Core.Bool.{Bool, true, false, not}
 use native.Mathlib.Omega.{arith}
+use mir.Val.{bool_byte}
 use Rattle.editor.specs.Entered as Entered
+use Rattle.editor.specs.Entered.{words_after}
 use Rattle.editor.proofs.words_after.Goals as goal
 
-pub returns-then-replaced : goal.returns-then-replaced
+-- one more, unless one is replaced
+counted : (words r : ℕ) (b : Bool) → r ≡ bool_byte (not b) → words + r ≡ words_after words b
 unfolding Entered.words_after
-returns-then-replaced c = rw c.if-replaced.true
+counted words r true e = omega arith
+counted words r false e = omega arith
 
 pub returns : goal.returns
-unfolding Entered.words_after
-returns c = rw c.if-replaced.false (omega arith)
+returns c = counted _ _ _ c.from.ensures

@@ -1,49 +1,20 @@
 -- What is left, written where the code stands, is the whole written.
-use Rattle.elements.proofs.Laws.{copy_laws}
-use borrow.Author.Rules.{rules}
+use Rattle.std.proofs.Common.{rules, arith}
+use Rattle.elements.proofs.Laws.{here_fits, room_turn, room_end, copy_turn, copy_end}
 use Rattle.elements.proofs.copy_elements.Goals as goal
 
-pub loop-left-init : goal.loop-left-init
-loop-left-init c = search copy_laws
-
-pub element_end-end-requires : goal.element_end-end-requires
-element_end-end-requires c = search copy_laws
-
-pub read_number-requires : goal.read_number-requires
-read_number-requires c = search copy_laws
-
-pub number_after-b-requires : goal.number_after-b-requires
-number_after-b-requires c = search copy_laws
-
-pub overflow_add-pos : goal.overflow_add-pos
-overflow_add-pos c = search copy_laws
-
-pub slice_bounds-put_element-count : goal.slice_bounds-put_element-count
-slice_bounds-put_element-count c = search copy_laws
-
-pub slice_bounds-put_element-start : goal.slice_bounds-put_element-start
-slice_bounds-put_element-start c = search copy_laws
-
-pub slice_bounds-put_element-end : goal.slice_bounds-put_element-end
-slice_bounds-put_element-end c = search copy_laws
-
 pub put_element-out-requires : goal.put_element-out-requires
-put_element-out-requires c = (search rules, search copy_laws)
+put_element-out-requires c = (search rules, here_fits _ _ _ _ c.in-Some.ensures.steps _ _ c.loop-element.invariant.0 _ (omega arith))
 
-pub overflow_add-pos-in-loop-left : goal.overflow_add-pos-in-loop-left
-overflow_add-pos-in-loop-left c = search copy_laws
+pub loop-element-preserved : goal.loop-element-preserved
+loop-element-preserved c =
+    let v = c.loop-element.invariant in
+    let next = c.in-Some.ensures.steps in
+    let p = c.put_element-out.ensures in
+    (room_turn _ _ _ _ next _ _ v.0 _ p.value, copy_turn _ _ _ _ next _ _ v.0 _ _ _ _ _ _ _ v.1 c.number_after-b.ensures p.dst_after p.value (omega arith))
 
-pub overflow_sub-left : goal.overflow_sub-left
-overflow_sub-left c = search copy_laws
+pub returns-clause-dst_after : goal.returns-clause-dst_after
+returns-clause-dst_after c = copy_end _ _ c.in-None.ensures.steps.0 _ _ _ _ _ c.loop-element.invariant.1
 
-pub loop-left-smaller : goal.loop-left-smaller
-loop-left-smaller c = search copy_laws
-
-pub loop-left-preserved : goal.loop-left-preserved
-loop-left-preserved c = (search copy_laws, search copy_laws, search copy_laws, search copy_laws, search copy_laws)
-
-pub shape_of-dst : goal.shape_of-dst
-shape_of-dst c = search copy_laws
-
-pub returns : goal.returns
-returns c = search copy_laws
+pub returns-clause-value : goal.returns-clause-value
+returns-clause-value c = room_end _ _ c.in-None.ensures.steps.0 _ _ c.loop-element.invariant.0

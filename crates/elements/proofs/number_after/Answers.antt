@@ -1,12 +1,10 @@
 -- `number_after` meets its contract.
-use Rattle.elements.proofs.Laws.{number_laws}
+use Rattle.std.proofs.Common.{sym, ◌∙◌}
+use Rattle.elements.proofs.Laws.{number_moved, number_kept}
 use Rattle.elements.proofs.number_after.Goals as goal
 
-pub returns-then-p-g : goal.returns-then-p-g
-returns-then-p-g c = search number_laws
-
 pub returns-then-b-g : goal.returns-then-b-g
-returns-then-b-g c = search number_laws
+returns-then-b-g c = c.saturating_sub.ensures ∙ sym (number_moved _ _ _ c.if-b-g.true)
 
-pub returns : goal.returns
-returns c = search number_laws
+pub returns-else-b-g : goal.returns-else-b-g
+returns-else-b-g c = sym (number_kept _ _ _ c.if-b-g.false)

@@ -1,9 +1,13 @@
 -- `known_version` meets its contract.
-use Rattle.spec.proofs.HeaderLaws.{known_five, known_four}
+use Rattle.std.proofs.Common.{arith}
+use Rattle.std.proofs.lemmas.Bool.Decides.{nat_tests}
+use Rattle.spec.specs.Header.{known_version}
 use Rattle.header.proofs.known_version.Goals as goal
 
-pub returns-then-version-eq-VERSION_5 : goal.returns-then-version-eq-VERSION_5
-returns-then-version-eq-VERSION_5 c = search known_five
+pub returns-then-version-eq-VERSION_4 : goal.returns-then-version-eq-VERSION_4
+unfolding known_version
+returns-then-version-eq-VERSION_4 c = grind (arith, nat_tests)
 
-pub returns : goal.returns
-returns c = search known_four
+pub returns-else-version-eq-VERSION_4 : goal.returns-else-version-eq-VERSION_4
+unfolding known_version
+returns-else-version-eq-VERSION_4 c = grind (arith, nat_tests)

@@ -1,12 +1,14 @@
 -- `slice_ok` meets its contract.
-use Rattle.header.proofs.Laws.{slice_short, slice_broken, slice_last}
+use Rattle.std.proofs.Common.{arith}
+use Rattle.std.proofs.lemmas.Bool.Decides.{nat_tests}
+use Rattle.spec.specs.Outcome.{accepted}
+use Rattle.spec.specs.Check.{slice_ok}
 use Rattle.header.proofs.slice_ok.Goals as goal
 
-pub returns-then-len-lt-HEADER : goal.returns-then-len-lt-HEADER
-returns-then-len-lt-HEADER c = search slice_short
+pub returns-then-len-eq0 : goal.returns-then-len-eq0
+unfolding slice_ok accepted
+returns-then-len-eq0 c = grind (arith, nat_tests)
 
-pub returns-then-len-ne0 : goal.returns-then-len-ne0
-returns-then-len-ne0 c = search slice_broken
-
-pub returns : goal.returns
-returns c = search slice_last
+pub returns-else-len-eq0 : goal.returns-else-len-eq0
+unfolding slice_ok accepted
+returns-else-len-eq0 c = grind (arith, nat_tests)

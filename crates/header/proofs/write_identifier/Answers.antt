@@ -2,8 +2,8 @@
 use Rattle.header.proofs.Laws.{identifier_stored, identifier_none}
 use Rattle.header.proofs.write_identifier.Goals as goal
 
-pub returns-then-version-ne-VERSION_5-clause-s_after : goal.returns-then-version-ne-VERSION_5-clause-s_after
-returns-then-version-ne-VERSION_5-clause-s_after c = search identifier_none
+pub returns-then-version-eq-VERSION_5-clause-s_after : goal.returns-then-version-eq-VERSION_5-clause-s_after
+returns-then-version-eq-VERSION_5-clause-s_after c = search identifier_stored
 
-pub returns-clause-s_after : goal.returns-clause-s_after
-returns-clause-s_after c = search identifier_stored
+pub returns-else-version-eq-VERSION_5-clause-s_after : goal.returns-else-version-eq-VERSION_5-clause-s_after
+returns-else-version-eq-VERSION_5-clause-s_after c = search identifier_none

@@ -10,12 +10,9 @@ use Rattle.spec.specs.Index.{elements_from}
 use Rattle.index.specs.Elements.{elements_end}
 use Rattle.index.proofs.read_elements.Given as goal
 
-abbrev pub invariant-loop-left : goal.invariant-loop-left
-invariant-loop-left l =
+abbrev pub invariant-loop : goal.invariant-loop
+invariant-loop l =
     (l.at ≤ length l.index) × (l.start ≤ l.end) × (l.end ≤ length l.index)
     × (accepted (elements_from l.width (below_of l.order) l.elements [] l.index)
-    ≡ accepted (elements_from l.width (below_of l.order) l.left (bytes_at l.start (l.end - l.start) l.index) (drop l.at l.index)))
-    × (elements_end l.width l.index l.at l.left ≡ elements_end l.width l.index 0 l.elements)
-
-abbrev pub decreases-loop-left : goal.decreases-loop-left
-decreases-loop-left l = l.left
+    ≡ accepted (elements_from l.width (below_of l.order) (l.elements - l.counter) (bytes_at l.start (l.end - l.start) l.index) (drop l.at l.index)))
+    × (elements_end l.width l.index l.at (l.elements - l.counter) ≡ elements_end l.width l.index 0 l.elements)

@@ -1,36 +1,34 @@
 -- The lines of the runs still to come, stored in what stands there now, are the lines of all runs.
 use native.Mathlib.Omega.{arith}
-use borrow.Author.Rules.{rules}
-use Rattle.index.proofs.Laws.{inside_start}
-use Rattle.listing.proofs.Runs.{walking_start, walking_end, walking_broken, walking_inside, walking_some, walking_room, walking_next}
+use Rattle.listing.proofs.Runs.{walking_start, walking_end, walking_broken, walking_some, walking_room, walking_next}
 use Rattle.listing.proofs.all_lines.Goals as goal
 
-pub loop-left-init : goal.loop-left-init
-loop-left-init c = search walking_start
-
-pub read_number-b-requires : goal.read_number-b-requires
-read_number-b-requires c = (search rules, search inside_start)
+pub loop-element-init : goal.loop-element-init
+loop-element-init c =
+    let (first, blocks, room) = c.requires.in_bounds in
+    rw c.into_iter-element-iterator.ensures.into_iter_gives (walking_start _ _ c.requires.accepted _ _ _ c.areas.ensures.runs_told _ _ first blocks room)
 
 pub returns-in_default-clause-all_printed : goal.returns-in_default-clause-all_printed
-returns-in_default-clause-all_printed c = search walking_broken
-
-pub overflow_mul-run-in-loop-left-2 : goal.overflow_mul-run-in-loop-left-2
-overflow_mul-run-in-loop-left-2 c = omega (arith, c.run_size-told.ensures.size_inside c.in-Blocks.size (search))
-
-pub overflow_add-run : goal.overflow_add-run
-overflow_add-run c = omega (arith, c.run_size-told.ensures.size_inside c.in-Blocks.size (search))
+returns-in_default-clause-all_printed c =
+    walking_broken c.loop-element.invariant _ _ c.in-Some.ensures.steps _ c.run_size.ensures.value _ c.in_default.is
 
 pub slice_bounds-run-end : goal.slice_bounds-run-end
-slice_bounds-run-end c = search walking_inside
+slice_bounds-run-end c = omega (arith, c.in-Ok.ensures.size_inside)
 
 pub run_lines-printed-requires : goal.run_lines-printed-requires
-run_lines-printed-requires c = (search walking_some, search rules, search walking_room)
+run_lines-printed-requires c =
+    let v = c.loop-element.invariant in
+    let next = c.in-Some.ensures.steps in
+    let told = c.run_size.ensures.value in (
+      walking_some v _ _ next _ told c.areas.result.1.whole _ c.in-Ok.is,
+      v.few,
+      walking_room v _ _ next _ told c.areas.result.1.whole _ c.in-Ok.is,
+    )
 
-pub element_end-place-requires : goal.element_end-place-requires
-element_end-place-requires c = search inside_start
-
-pub loop-left-preserved : goal.loop-left-preserved
-loop-left-preserved c = search walking_next
+pub loop-element-preserved : goal.loop-element-preserved
+loop-element-preserved c =
+    walking_next c.loop-element.invariant _ _ c.in-Some.ensures.steps _ c.run_size.ensures.value c.areas.result.1.whole _ c.in-Ok.is
+    _ _ c.run_lines-printed.ensures.run_printed (omega arith) c.run_lines-printed.ensures.out_len_unchanged (omega arith)
 
 pub returns-clause-all_printed : goal.returns-clause-all_printed
-returns-clause-all_printed c = search walking_end
+returns-clause-all_printed c = walking_end c.loop-element.invariant c.in-None.ensures.steps.0

@@ -3,9 +3,9 @@ use native.Mathlib.Omega.{arith}
 use Rattle.listing.proofs.Images.{listed_short, listed_whole, list_end, list_stored}
 use Rattle.listing.proofs.listing.Goals as goal
 
-pub returns-then-out-lt4000000 : goal.returns-then-out-lt4000000
-returns-then-out-lt4000000 c =
-    let k = listed_short _ c.args.out.now c.if-out-lt4000000.true in
+pub returns-then-out-lt-LONGEST_LIST : goal.returns-then-out-lt-LONGEST_LIST
+returns-then-out-lt-LONGEST_LIST c =
+    let k = listed_short _ c.args.out.now c.if-out-lt-LONGEST_LIST.true in
     record { value = (k.0, omega arith); out_after = k.1 }
 
 pub returns-clause-value : goal.returns-clause-value

@@ -5,8 +5,8 @@ use Rattle.spec.specs.Order.{below_of}
 use Rattle.listing.proofs.Entries.{Printing}
 use Rattle.listing.proofs.run_lines.Given as goal
 
-abbrev pub invariant-loop-length : goal.invariant-loop-length
-invariant-loop-length l = Printing (below_of l.order) l.run l.word l.len l.pos l.block l.blocks l.initial.out l.out l.initial.at l.at l.initial.ordinal l.ordinal
+abbrev pub invariant-loop-entry : goal.invariant-loop-entry
+invariant-loop-entry l = Printing (below_of l.order) l.run l.word l.held l.pos l.block l.blocks l.initial.out l.out l.initial.at l.at l.initial.ordinal l.ordinal
 
-abbrev pub decreases-loop-length : goal.decreases-loop-length
-decreases-loop-length l = length l.run - l.pos
+abbrev pub decreases-loop-entry : goal.decreases-loop-entry
+decreases-loop-entry l = length l.run - l.pos

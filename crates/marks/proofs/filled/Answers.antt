@@ -6,5 +6,5 @@ use Rattle.marks.proofs.filled.Goals as goal
 pub returns-then-v : goal.returns-then-v
 returns-then-v c = search (filled_true, rules)
 
-pub returns : goal.returns
-returns c = search (filled_false, rules)
+pub returns-else-v : goal.returns-else-v
+returns-else-v c = search (filled_false, rules)

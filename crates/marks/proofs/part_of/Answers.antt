@@ -6,5 +6,5 @@ use Rattle.marks.proofs.part_of.Goals as goal
 pub returns-then-v : goal.returns-then-v
 returns-then-v c = (search (part_lt, rules), search (part_true, rules))
 
-pub returns : goal.returns
-returns c = (search (part_not_lt, rules), search (part_false, rules))
+pub returns-else-v : goal.returns-else-v
+returns-else-v c = (search (part_not_lt, rules), search (part_false, rules))

@@ -1,16 +1,14 @@
 -- `set_range` meets its contract.
-use mathlib.Core.Path.{refl}
-use native.Mathlib.Omega.{arith}
-use borrow.Author.Rules.{rules}
-use lib.ListN.{length-set}
-use Rattle.marks.proofs.Laws.{range_start, range_turn, range_end}
+use Rattle.std.proofs.Common.{rules, arith}
+use Rattle.std.proofs.lemmas.List.{length-set, set-get_or}
+use Rattle.marks.proofs.Laws.{range_turn, range_end}
 use Rattle.marks.proofs.set_range.Goals as goal
 
-pub loop-left-init : goal.loop-left-init
-loop-left-init c = (omega arith, refl, omega arith, search (range_start, rules))
+pub loop-w-preserved : goal.loop-w-preserved
+loop-w-preserved c = (omega arith, simp length-set (omega arith), search (range_turn, rules))
 
-pub loop-left-preserved : goal.loop-left-preserved
-loop-left-preserved c = (omega arith, simp length-set (omega arith), simp length-set (omega arith), search (range_turn, rules))
+pub returns-then-left-eq0 : goal.returns-then-left-eq0
+returns-then-left-eq0 c = rw set-get_or (search (range_end, rules))
 
 pub returns : goal.returns
 returns c = search (range_end, rules)

@@ -1,16 +1,12 @@
--- `note_starts` meets its contract.
+-- `note_starts` meets its contract: the elements still to come, noted in what stands there now, are all of them.
 use mathlib.Core.Path.{◌≡◌}
 use lib.ListN.{length}
-use Rattle.index.specs.Elements.{elements_at, Inside}
+use Rattle.index.specs.Walk as walk
 use Rattle.moves.specs.Moved.{noted}
 use Rattle.moves.proofs.Laws.{blocks}
 use Rattle.moves.proofs.note_starts.Given as goal
 
-abbrev pub invariant-loop-left : goal.invariant-loop-left
-invariant-loop-left l =
-    (length l.numbers ≡ length l.initial.numbers) × (noted l.g (blocks (elements_at l.width l.index l.at l.left)) l.numbers
-    ≡ noted l.g (blocks (elements_at l.width l.index l.initial.at l.initial.left)) l.initial.numbers)
-    × Inside l.width l.index l.at l.left
-
-abbrev pub decreases-loop-left : goal.decreases-loop-left
-decreases-loop-left l = l.left
+abbrev pub invariant-loop-element : goal.invariant-loop-element
+invariant-loop-element l =
+    noted (length l.initial.numbers) (blocks (walk.elements l.element-iterator)) l.numbers
+    ≡ noted (length l.initial.numbers) (blocks (walk.elements l.elements)) l.initial.numbers

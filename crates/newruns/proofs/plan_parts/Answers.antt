@@ -23,32 +23,14 @@ loop-form-init c = (
   planning_start _ _ _ _ _ _ (begun_todo _ _ _ _ _ _ _ c.advance-cur.ensures.result_after c.advance-cur.ensures.fresh_value),
 )
 
-pub encode_part-p-requires-clause-cursor_ok : goal.encode_part-p-requires-clause-cursor_ok
-encode_part-p-requires-clause-cursor_ok c = c.loop-form.invariant.2
-
-pub encode_part-p-requires-clause-h_value : goal.encode_part-p-requires-clause-h_value
-encode_part-p-requires-clause-h_value c = (c.requires.h_value.0, c.requires.h_value.1, omega arith, c.requires.h_value.3)
-
 pub returns-then-p-eq0-clause-within : goal.returns-then-p-eq0-clause-within
 returns-then-p-eq0-clause-within c =
     planned _ _ _ _ _ _ _ _ c.loop-form.invariant.9 _ (none_left _ _ _ c.encode_part-p.ensures.used_value c.if-p-eq0.true)
 
-pub returns-then-p-eq0-clause-lower_bound : goal.returns-then-p-eq0-clause-lower_bound
-returns-then-p-eq0-clause-lower_bound c = (omega arith, omega arith, omega arith)
-
-pub run_blocks-size-requires : goal.run_blocks-size-requires
-run_blocks-size-requires c = c.encode_part-p.ensures.used_le_longest_entry.0
-
-pub place-requires : goal.place-requires
-place-requires c = (omega arith, omega arith, omega arith)
-
 pub returns-then-most-last-clause-within : goal.returns-then-most-last-clause-within
 returns-then-most-last-clause-within c = planned_over _ _ _ _ _ _ _ _ (planning_more _ _ _ c.encode_part-p.ensures.used_value c.if-p-eq0.false _
     c.encode_part-p.ensures.cursor_after _ _ _ _ _ _ _ c.run_blocks-size.ensures.value c.place.ensures.value
-    c.larger-last.ensures c.place.ensures.free_after _ _ _ c.loop-form.invariant.9) _ c.if-most-last.true
-
-pub returns-then-most-last-clause-lower_bound : goal.returns-then-most-last-clause-lower_bound
-returns-then-most-last-clause-lower_bound c = (omega arith, omega arith, omega arith)
+    c.max-last.ensures c.place.ensures.free_after _ _ _ c.loop-form.invariant.9) _ c.if-most-last.true
 
 pub loop-form-smaller : goal.loop-form-smaller
 loop-form-smaller c = fewer_left _ _ _ c.encode_part-p.ensures.used_value c.if-p-eq0.false _ c.encode_part-p.ensures.cursor_after
@@ -65,6 +47,6 @@ loop-form-preserved c = (
   omega arith,
   omega arith,
   planning_more _ _ _ c.encode_part-p.ensures.used_value c.if-p-eq0.false _ c.encode_part-p.ensures.cursor_after _ _ _ _ _ _ _
-      c.run_blocks-size.ensures.value c.place.ensures.value c.larger-last.ensures c.place.ensures.free_after _ _ _
+      c.run_blocks-size.ensures.value c.place.ensures.value c.max-last.ensures c.place.ensures.free_after _ _ _
       c.loop-form.invariant.9,
 )

@@ -1,5 +1,5 @@
+-- `part_at` meets its contract.
 use Rattle.partlist.proofs.Laws.{step_tells}
-use borrow.Author.Rules.{rules}
 use Rattle.partlist.proofs.part_at.Goals as goal
 
 pub returns : goal.returns

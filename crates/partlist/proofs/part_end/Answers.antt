@@ -1,27 +1,15 @@
-use Rattle.partlist.proofs.Laws.{broken_end, part_past, part_open, part_long, part_whole, whole_end}
-use borrow.Author.Rules.{rules}
+-- `part_end` meets its contract.
+use Rattle.std.proofs.Common.{refl}
+use Rattle.partlist.proofs.Laws.{part_past, part_open, part_told}
 use Rattle.partlist.proofs.part_end.Goals as goal
 
-pub returns-then-end-at-clause-result_value : goal.returns-then-end-at-clause-result_value
-returns-then-end-at-clause-result_value c = search part_past
-
-pub returns-then-end-at-clause-end_inside : goal.returns-then-end-at-clause-end_inside
-returns-then-end-at-clause-end_inside c = search broken_end
+pub returns-in_err-kind-clause-result_value : goal.returns-in_err-kind-clause-result_value
+returns-in_err-kind-clause-result_value c = rw c.from_residual.ensures (part_past _ _ c.in_err-kind.ensures.lookup.3)
 
 pub returns-then-end-zero-clause-result_value : goal.returns-then-end-zero-clause-result_value
-returns-then-end-zero-clause-result_value c = search part_open
-
-pub returns-then-end-zero-clause-end_inside : goal.returns-then-end-zero-clause-end_inside
-returns-then-end-zero-clause-end_inside c = search broken_end
-
-pub returns-then-not-kind_takes-clause-result_value : goal.returns-then-not-kind_takes-clause-result_value
-returns-then-not-kind_takes-clause-result_value c = search part_long
-
-pub returns-then-not-kind_takes-clause-end_inside : goal.returns-then-not-kind_takes-clause-end_inside
-returns-then-not-kind_takes-clause-end_inside c = search broken_end
+returns-then-end-zero-clause-result_value c = part_open _ _ _ _ refl c.in_ok-kind.ensures.lookup.3.0 c.first_zero-zero.ensures.value c.if-end-zero.true
 
 pub returns-clause-result_value : goal.returns-clause-result_value
-returns-clause-result_value c = search part_whole
-
-pub returns-clause-end_inside : goal.returns-clause-end_inside
-returns-clause-end_inside c = search whole_end
+returns-clause-result_value c =
+    let there = c.in_ok-kind.ensures.lookup.3 in
+    rw c.then_some.ensures (part_told _ _ _ _ refl there.0 c.first_zero-zero.ensures.value c.if-end-zero.false _ (there.1 0) _ c.kind_takes.ensures)

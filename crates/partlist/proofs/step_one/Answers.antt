@@ -1,5 +1,5 @@
+-- `step_one` meets its contract.
 use Rattle.partlist.proofs.Laws.{step_first, one_at_end, one_elsewhere}
-use borrow.Author.Rules.{rules}
 use Rattle.partlist.proofs.step_one.Goals as goal
 
 pub returns-then-offset-eq0 : goal.returns-then-offset-eq0

@@ -1,5 +1,5 @@
+-- `step_two` meets its contract.
 use Rattle.partlist.proofs.Laws.{step_first, two_at_second, two_at_end, two_elsewhere}
-use borrow.Author.Rules.{rules}
 use Rattle.partlist.proofs.step_two.Goals as goal
 
 pub returns-then-offset-eq0 : goal.returns-then-offset-eq0

@@ -25,14 +25,6 @@ loop-form-init c =
       met_begun _ _ _ _ _ a.result_after,
     )
 
-pub encode_part-p-requires : goal.encode_part-p-requires
-encode_part-p-requires c =
-    let p = c.requires in
-    record {
-      cursor_ok = c.loop-form.invariant.2;
-      h_value = (p.h_value.0, p.h_value.1, omega arith, p.width.1);
-    }
-
 pub returns-then-p-eq0 : goal.returns-then-p-eq0
 returns-then-p-eq0 c =
     let k = c.loop-form.invariant in
@@ -43,50 +35,11 @@ returns-then-p-eq0 c =
       found_value = met_all _ _ _ _ (met_part _ _ _ _ _ _ k.7 p.met) (p.none_ahead c.if-p-eq0.true);
     }
 
-pub overflow_add-long : goal.overflow_add-long
-overflow_add-long c = omega (arith, c.requires.width.0.1)
-
 pub head_length-requires : goal.head_length-requires
 head_length-requires c = (
   omega (arith, used_some _ _ _ c.encode_part-p.ensures.used_value c.if-p-eq0.false),
   omega (arith, c.encode_part-p.ensures.used_le_longest_entry.0, c.encode_part-p.ensures.used_le_longest_entry.1, c.loop-form.invariant.1),
 )
-
-pub overflow_add-long-in-loop-form : goal.overflow_add-long-in-loop-form
-overflow_add-long-in-loop-form c =
-    omega (arith, c.head_length.ensures.result_bound, c.encode_part-p.ensures.used_le_longest_entry.0, c.requires.width.0.1)
-
-pub overflow_add-parts : goal.overflow_add-parts
-overflow_add-parts c =
-    omega (
-      arith,
-      parts_more _ _ _ _ _ _ _ _ c.loop-form.invariant.3 c.encode_part-p.ensures.used_value c.if-p-eq0.false _
-          c.encode_part-p.ensures.cursor_after,
-      c.loop-form.invariant.4,
-    )
-
-pub overflow_add-bytes : goal.overflow_add-bytes
-overflow_add-bytes c =
-    omega (
-      arith,
-      bytes_more _ _ _ _ _ _ _ _ c.loop-form.invariant.3 c.encode_part-p.ensures.used_value
-          c.if-p-eq0.false _ c.encode_part-p.ensures.cursor_after _ _ _
-          (todo_short _ _ _ _ _ _ c.loop-form.invariant.2 c.requires.h_value.0
-          c.requires.h_value.1) c.encode_part-p.ensures.part_after c.head_length.ensures.value,
-      c.loop-form.invariant.5,
-    )
-
-pub run_blocks-blocks-requires : goal.run_blocks-blocks-requires
-run_blocks-blocks-requires c = c.encode_part-p.ensures.used_le_longest_entry.0
-
-pub overflow_add-blocks : goal.overflow_add-blocks
-overflow_add-blocks c =
-    omega (
-      arith,
-      blocks_more _ _ _ _ _ _ _ _ c.loop-form.invariant.3 c.encode_part-p.ensures.used_value
-          c.if-p-eq0.false _ c.encode_part-p.ensures.cursor_after _ c.run_blocks-blocks.ensures.value,
-      c.loop-form.invariant.6,
-    )
 
 pub loop-form-smaller : goal.loop-form-smaller
 loop-form-smaller c =

@@ -1,7 +1,9 @@
+-- `look_up` meets its contract.
+use Rattle.std.proofs.Common.{rules}
+use Rattle.std.proofs.lemmas.Result.{err_from_is_err_and}
 use Rattle.marks.proofs.Laws.{marks_zero}
 use Rattle.inspect.proofs.Laws.{is_accepted}
-use Rattle.reader.proofs.Laws.{slice_front, slice_header, slice_blocks, look_up_slice, look_up_refused, accepted_start, look_up_answered}
-use borrow.Author.Rules.{rules}
+use Rattle.reader.proofs.Laws.{slice_front, slice_header, slice_blocks, look_up_slice, look_up_refused, look_up_answered}
 use Rattle.reader.proofs.look_up.Goals as goal
 
 pub returns-then-not-slice_ok : goal.returns-then-not-slice_ok
@@ -10,20 +12,23 @@ returns-then-not-slice_ok c = search look_up_slice
 pub slice_bounds-image-end : goal.slice_bounds-image-end
 slice_bounds-image-end c = search slice_front
 
-pub inspect-r-requires-clause-in_bounds : goal.inspect-r-requires-clause-in_bounds
-inspect-r-requires-clause-in_bounds c = (search slice_header, search slice_blocks, search rules)
+pub inspect-requires-clause-in_bounds : goal.inspect-requires-clause-in_bounds
+inspect-requires-clause-in_bounds c = (search slice_header, search slice_blocks, search rules)
 
-pub inspect-r-requires-clause-free_value : goal.inspect-r-requires-clause-free_value
-inspect-r-requires-clause-free_value c = marks_zero 1024
+pub inspect-requires-clause-free_value : goal.inspect-requires-clause-free_value
+inspect-requires-clause-free_value c = marks_zero 1024
 
 pub look_up_in-requires-clause-accepted_image : goal.look_up_in-requires-clause-accepted_image
-look_up_in-requires-clause-accepted_image c = search is_accepted
+look_up_in-requires-clause-accepted_image c = let is = c.in_ok-v.was in search is_accepted
 
-pub look_up_in-requires-clause-in_bounds : goal.look_up_in-requires-clause-in_bounds
-look_up_in-requires-clause-in_bounds c = (search slice_header, search slice_blocks, search accepted_start)
+pub look_up_in-requires-clause-in_blocks : goal.look_up_in-requires-clause-in_blocks
+look_up_in-requires-clause-in_blocks c = search slice_blocks
 
-pub returns-in-Refused : goal.returns-in-Refused
-returns-in-Refused c = search look_up_refused
+pub returns-in_err-v : goal.returns-in_err-v
+returns-in_err-v c =
+    let p = err_from_is_err_and c.from_residual.result c.from_residual.ensures.1 in
+    let was = c.in_err-v.was in
+    rw (p.1, p.2) (search look_up_refused)
 
-pub returns-in-Sound : goal.returns-in-Sound
-returns-in-Sound c = search look_up_answered
+pub returns : goal.returns
+returns c = let is = c.in_ok-v.was in search look_up_answered

@@ -1,8 +1,16 @@
-use Rattle.runs.proofs.Returns.{text_long, text_clear}
+use Rattle.std.proofs.Common.{arith, refl}
+use Rattle.std.proofs.lemmas.Grind.{common_steps}
+use Rattle.spec.specs.Entry.{text_ok}
+use Rattle.spec.proofs.PartLaws.{rest_at}
 use Rattle.runs.proofs.text_ok.Goals as goal
 
-pub returns-then-t-gt-LONGEST_TEXT : goal.returns-then-t-gt-LONGEST_TEXT
-returns-then-t-gt-LONGEST_TEXT c = search (text_long, text_clear)
+pub returns-then-t-le-LONGEST_TEXT : goal.returns-then-t-le-LONGEST_TEXT
+unfolding text_ok
+returns-then-t-le-LONGEST_TEXT c =
+    let t = c.args.t.now in
+    let whole = rest_at t 0 _ refl in
+    grind (arith, common_steps)
 
-pub returns : goal.returns
-returns c = search (text_long, text_clear)
+pub returns-else-t-le-LONGEST_TEXT : goal.returns-else-t-le-LONGEST_TEXT
+unfolding text_ok
+returns-else-t-le-LONGEST_TEXT c = grind (arith, common_steps)

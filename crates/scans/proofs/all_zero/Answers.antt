@@ -1,27 +1,20 @@
--- The bytes passed are zero.
-use native.Mathlib.Omega.{arith}
-use Rattle.scans.proofs.Scans.{zero_none, zero_more, zero_not, zero_last}
+use mathlib.Core.Path.{◌∙◌}
+use Prim.Native.Nat.{ℕ, ◌-◌}
+use lib.Dec.{eqb}
+use Rattle.std.proofs.Common.{rules, tests}
+use Rattle.std.proofs.lemmas.Iterator.{YieldsList-from_slice}
+use Rattle.std.proofs.lemmas.Iterator.Search.{all_from_yields_List}
+use Rattle.spec.specs.Bytes.{bytes_at}
+use Rattle.scans.proofs.Scans.{zero_all}
 use Rattle.scans.proofs.all_zero.Goals as goal
 
-pub returns-then-end-from-lt16 : goal.returns-then-end-from-lt16
-returns-then-end-from-lt16 c = c.all_zero_bytes.ensures
-
-pub loop-i-init : goal.loop-i-init
-loop-i-init c = (omega arith, omega arith, zero_none _ _)
-
-pub returns-then-not-zero_16 : goal.returns-then-not-zero_16
-returns-then-not-zero_16 c =
-    zero_not _ _ _ _ c.loop-i.invariant.2 c.loop-i.invariant.0 _ _ c.zero_16.ensures c.if-not-zero_16.true-raw c.loop-i-test.true
-    c.loop-i.invariant.1
-
-pub loop-i-preserved : goal.loop-i-preserved
-loop-i-preserved c = (
-  omega arith,
-  omega arith,
-  zero_more _ _ _ c.args.end c.loop-i.invariant.2 c.loop-i.invariant.0 _ _ c.zero_16.ensures c.if-not-zero_16.false-raw,
-)
+pub returns-then-part-lt16 : goal.returns-then-part-lt16
+unfolding bytes_at
+returns-then-part-lt16 c =
+    all_from_yields_List (λ (b : ℕ). eqb b 0) _ _ c.all.result c.all.ensures.ran (YieldsList-from_slice (bytes_at c.args.from (c.args.end - c.args.from) c.args.s.now) (cc))
+    (λ x b q k. search (rules, tests))
+    ∙ zero_all _
 
 pub returns : goal.returns
-returns c =
-    zero_last _ _ _ _ c.loop-i.invariant.2 c.loop-i.invariant.0 _ _ c.if-end-from-lt16.false c.loop-i-test.false c.loop-i.invariant.1
-    c.zero_16-2.ensures
+unfolding bytes_at
+returns c = c.all_zero_by.ensures

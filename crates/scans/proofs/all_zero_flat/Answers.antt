@@ -1,14 +1,15 @@
--- The bits so far and the bytes left decide.
-use mathlib.Core.Path.{refl}
-use native.Mathlib.Omega.{arith}
-use Rattle.scans.proofs.Scans.{bits_next, bits_end}
+use mathlib.Core.Path.{ap, ◌∙◌}
+use Prim.Native.Nat.{ℕ}
+use lib.Bits.{bit_or}
+use lib.Dec.{eqb}
+use Rattle.std.proofs.Common.{rules, tests}
+use Rattle.std.proofs.lemmas.Iterator.{YieldsList-from_slice}
+use Rattle.std.proofs.lemmas.Iterator.Consumers.{fold_from_yields_List}
+use Rattle.scans.proofs.Scans.{zero_flat}
 use Rattle.scans.proofs.all_zero_flat.Goals as goal
 
-pub loop-i-init : goal.loop-i-init
-loop-i-init c = (omega arith, omega arith, refl)
-
-pub loop-i-preserved : goal.loop-i-preserved
-loop-i-preserved c = (omega arith, omega arith, search bits_next)
-
 pub returns : goal.returns
-returns c = search bits_end
+returns c =
+    ap (λ (n : ℕ). eqb n 0)
+    (fold_from_yields_List _ bit_or 0 c.fold.result c.fold.ensures.ran (YieldsList-from_slice c.args.s.now (cc)) (λ t x u q k. search (rules, tests)))
+    ∙ zero_flat c.args.s.now

@@ -1,9 +1,6 @@
-use Rattle.scans.proofs.Fronts.{equal_by, equal_not}
-use borrow.Author.Rules.{rules}
+use mathlib.Core.Path.{◌∙◌}
+use Rattle.scans.proofs.Fronts.{equal_is}
 use Rattle.scans.proofs.is_equal.Goals as goal
 
-pub returns-then-a-b : goal.returns-then-a-b
-returns-then-a-b c = search (equal_by, equal_not, rules)
-
 pub returns : goal.returns
-returns c = search (equal_by, equal_not, rules)
+returns c = c.eq.ensures ∙ equal_is _ _

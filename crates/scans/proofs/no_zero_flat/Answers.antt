@@ -1,15 +1,14 @@
--- `clear` says whether the bytes passed hold no zero byte.
-use mathlib.Core.Path.{refl}
-use native.Mathlib.Omega.{arith}
-use Rattle.scans.proofs.Scans.{clear_next, clear_here, clear_end}
+use mathlib.Core.Path.{◌∙◌}
+use mathlib.Core.Bool.{Bool, true, not, ◌&&◌}
+use Prim.Native.Nat.{ℕ}
+use lib.Dec.{eqb}
+use Rattle.std.proofs.Common.{rules, tests}
+use Rattle.std.proofs.lemmas.Iterator.{YieldsList-from_slice}
+use Rattle.std.proofs.lemmas.Iterator.Consumers.{fold_from_yields_List}
+use Rattle.scans.proofs.Scans.{clear_flat}
 use Rattle.scans.proofs.no_zero_flat.Goals as goal
-use Rattle.scans.proofs.no_zero_flat.Goals.{then-s-i-eq0, else-s-i-eq0}
-
-pub loop-i-init : goal.loop-i-init
-loop-i-init c = (omega arith, omega arith, refl)
-
-pub loop-i-preserved : goal.loop-i-preserved
-loop-i-preserved c = (omega arith, omega arith, elim c.if-s-i-eq0.branch [ then-s-i-eq0 w ↦ search clear_here | else-s-i-eq0 w ↦ search clear_next ])
 
 pub returns : goal.returns
-returns c = search clear_end
+returns c =
+    fold_from_yields_List _ (λ (t : Bool) (b : ℕ). t && not (eqb b 0)) true c.fold.result c.fold.ensures.ran (YieldsList-from_slice c.args.s.now (cc)) (λ t x u q k. search (rules, tests))
+    ∙ clear_flat c.args.s.now

@@ -1,24 +1,23 @@
--- The bytes passed hold no zero byte.
+-- Each part holds no zero byte, and the last bytes hold none.
 use native.Mathlib.Omega.{arith}
-use Rattle.scans.proofs.Scans.{clear_none, clear_more, clear_not, clear_last}
+use Rattle.std.proofs.Common.{rules, tests}
+use Rattle.std.proofs.lemmas.Iterator.Search.{all_from_yields_List}
+use Rattle.spec.specs.Bytes.{no_zero, not_zero}
+use Rattle.scans.proofs.Parts.{parts_of, parts_pass, parts_fail}
 use Rattle.scans.proofs.no_zero_long.Goals as goal
 
-pub loop-i-init : goal.loop-i-init
-loop-i-init c = (omega arith, omega arith, clear_none _ _)
+pub returns-then-all : goal.returns-then-all
+unfolding no_zero
+returns-then-all c =
+    parts_pass not_zero 64 c.args.s.now c.all.result (omega arith) c.requires
+    (all_from_yields_List no_zero _ _ c.all.result c.all.ensures.ran (parts_of c.chunks_exact.result 64 c.args.s.now (omega arith) c.chunks_exact.ensures.size c.chunks_exact.ensures.rest)
+    (λ x b q k. search (rules, tests)))
+    _ c.if-all.true c.no_zero_flat.ensures
 
-pub returns-then-not-no_zero_flat : goal.returns-then-not-no_zero_flat
-returns-then-not-no_zero_flat c =
-    clear_not _ _ _ _ c.loop-i.invariant.2 c.loop-i.invariant.0 _ _ c.no_zero_flat.ensures c.if-not-no_zero_flat.true-raw
-    c.loop-i-test.true c.loop-i.invariant.1
-
-pub loop-i-preserved : goal.loop-i-preserved
-loop-i-preserved c = (
-  omega arith,
-  omega arith,
-  clear_more _ _ _ c.args.end c.loop-i.invariant.2 c.loop-i.invariant.0 _ _ c.no_zero_flat.ensures c.if-not-no_zero_flat.false-raw,
-)
-
-pub returns : goal.returns
-returns c =
-    clear_last _ _ _ _ c.loop-i.invariant.2 c.loop-i.invariant.0 _ _ (omega arith) c.loop-i-test.false c.loop-i.invariant.1
-    c.no_zero_flat-2.ensures
+pub returns-else-all : goal.returns-else-all
+unfolding no_zero
+returns-else-all c =
+    parts_fail not_zero 64 c.args.s.now c.all.result (omega arith) c.requires
+    (all_from_yields_List no_zero _ _ c.all.result c.all.ensures.ran (parts_of c.chunks_exact.result 64 c.args.s.now (omega arith) c.chunks_exact.ensures.size c.chunks_exact.ensures.rest)
+    (λ x b q k. search (rules, tests)))
+    c.if-all.false

@@ -2,11 +2,11 @@
 use Rattle.script.proofs.Laws.{delete_refused, delete_absent, delete_done}
 use Rattle.script.proofs.delete.Goals as goal
 
-pub returns-in-Refused : goal.returns-in-Refused
-returns-in-Refused c = search delete_refused
+pub returns-in-Err : goal.returns-in-Err
+returns-in-Err c = search delete_refused
 
-pub returns-in-Absent : goal.returns-in-Absent
-returns-in-Absent c = search delete_absent
+pub returns-in-Ok-None : goal.returns-in-Ok-None
+returns-in-Ok-None c = search delete_absent
 
-pub returns-in-Removed : goal.returns-in-Removed
-returns-in-Removed c = search delete_done
+pub returns-in-Ok-Some : goal.returns-in-Ok-Some
+returns-in-Ok-Some c = search delete_done

@@ -1,58 +1,29 @@
-use Rattle.seek.proofs.Laws.{absent_inside}
-use Rattle.seek.proofs.Returns.{
-  at_unplaced,
-  at_size_fits,
-  at_stop_fits,
-  at_area,
-  at_count,
-  at_broken,
-  at_end,
-  at_entry,
-  at_inside,
-  at_zero_fits,
-  at_next_fits,
-}
-use borrow.Author.Rules.{rules}
+use Rattle.std.proofs.Common.{arith}
+use Rattle.index.specs.Walk.{stored}
+use Rattle.seek.proofs.Returns.{at_unplaced, at_end, at_entry, at_inside}
 use Rattle.seek.proofs.find_at.Goals as goal
 
 pub returns-in_default-clause-as_read : goal.returns-in_default-clause-as_read
-returns-in_default-clause-as_read c = search at_unplaced
+returns-in_default-clause-as_read c = at_unplaced _ _ _ _ _ _ _ _ _ c.in_default.ensures.value
 
-pub returns-in_default-clause-spot_inside : goal.returns-in_default-clause-spot_inside
-returns-in_default-clause-spot_inside c = search absent_inside
+pub returns-in_err-entry-clause-as_read : goal.returns-in_err-entry-clause-as_read
+returns-in_err-entry-clause-as_read c =
+    rw c.from_residual.ensures (at_end _ _ _ _ _ _ _ c.args.area.whole _ c.in-Ok.ensures.value _ _ c.find_in_run.ensures.as_read c.in_err-entry.was)
 
-pub overflow_mul-end : goal.overflow_mul-end
-overflow_mul-end c = search at_size_fits
+pub overflow_add-zero : goal.overflow_add-zero
+overflow_add-zero c =
+    let inside = at_inside _ _ _ _ _ _ (stored c.args.element) c.args.area.whole _ c.in-Ok.ensures.value _ _ c.find_in_run.ensures.as_read c.find_in_run.ensures.inside _ c.in_ok-entry.was in
+    omega (arith, inside)
 
-pub overflow_add-end : goal.overflow_add-end
-overflow_add-end c = search at_stop_fits
+pub overflow_add-next : goal.overflow_add-next
+overflow_add-next c =
+    let inside = at_inside _ _ _ _ _ _ (stored c.args.element) c.args.area.whole _ c.in-Ok.ensures.value _ _ c.find_in_run.ensures.as_read c.find_in_run.ensures.inside _ c.in_ok-entry.was in
+    omega (arith, inside)
 
-pub slice_bounds-find_in_run-end : goal.slice_bounds-find_in_run-end
-slice_bounds-find_in_run-end c = search at_area
+pub returns-clause-as_read : goal.returns-clause-as_read
+returns-clause-as_read c =
+    at_entry _ _ _ _ _ _ _ c.args.area.whole _ c.in-Ok.ensures.value _ _ c.find_in_run.ensures.as_read c.find_in_run.ensures.inside _ c.in_ok-entry.was
 
-pub find_in_run-st-requires : goal.find_in_run-st-requires
-find_in_run-st-requires c = (search at_count, search rules)
-
-pub overflow_add-body : goal.overflow_add-body
-overflow_add-body c = search at_zero_fits
-
-pub overflow_add-behind : goal.overflow_add-behind
-overflow_add-behind c = search at_next_fits
-
-pub returns-in-Broken-clause-as_read : goal.returns-in-Broken-clause-as_read
-returns-in-Broken-clause-as_read c = search at_broken
-
-pub returns-in-Broken-clause-spot_inside : goal.returns-in-Broken-clause-spot_inside
-returns-in-Broken-clause-spot_inside c = search absent_inside
-
-pub returns-in-End-clause-as_read : goal.returns-in-End-clause-as_read
-returns-in-End-clause-as_read c = search at_end
-
-pub returns-in-End-clause-spot_inside : goal.returns-in-End-clause-spot_inside
-returns-in-End-clause-spot_inside c = search absent_inside
-
-pub returns-in-Entry-clause-as_read : goal.returns-in-Entry-clause-as_read
-returns-in-Entry-clause-as_read c = search at_entry
-
-pub returns-in-Entry-clause-spot_inside : goal.returns-in-Entry-clause-spot_inside
-returns-in-Entry-clause-spot_inside c = search at_inside
+pub returns-clause-spot_inside : goal.returns-clause-spot_inside
+returns-clause-spot_inside c =
+    at_inside _ _ _ _ _ _ (stored c.args.element) c.args.area.whole _ c.in-Ok.ensures.value _ _ c.find_in_run.ensures.as_read c.find_in_run.ensures.inside _ c.in_ok-entry.was
