@@ -321,6 +321,13 @@ module _ (order D : ℕ) (area : List ℕ) (all : List Element) (ms₀ : List Bo
           → runs_answer (Err r) ms' ≡ tally 0 0 ms₀ (runs_from (below_of order) D area all)
       walk_eight r q ms' = walk_refused r ms' (opened ∙ rw q)
 
+      -- row 8: an entry behind the first
+      pub walk_broken : (word : List ℕ) (held pos count : ℕ) → Reading (below_of order) el.headword.now (run_slice area el.number n) word held pos count → (st : Step)
+          (word' : List ℕ) → step_entry (run_slice area el.number n) word' st ≡ read_entry (below_of order) (take held word) (drop pos (run_slice area el.number n))
+          → (r : Refusal) → st ≡ Err r → (ms' : List Bool) → runs_answer (Err r) ms' ≡ tally 0 0 ms₀ (runs_from (below_of order) D area all)
+      walk_broken word held pos count u st word' step r q ms' =
+          walk_eight r (reading_broken (below_of order) el.headword.now (run_slice area el.number n) word held pos count u st word' step r q) ms'
+
       module _ (word : List ℕ) (count held : ℕ) (es : Entries (below_of order) el.headword.now (run_slice area el.number n) word count held)
           (next' : std.Option given.Element) (left' : List Element) (steps : MatchOption next' ((left ≡ []) × (left' ≡ [])) (λ e. left ≡ stored e ∷ left')) (t : Bool)
           (ends : t ≡ last_below (below_of order) (take held word) (next_headword (waiting next' [])))

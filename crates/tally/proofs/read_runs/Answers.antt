@@ -1,8 +1,8 @@
 use Rattle.std.proofs.Common.{arith, rules, ap, sym, ◌∙◌, Ok, length-take-le}
 use Rattle.std.proofs.lemmas.Result.{err_from_is_err_and}
 use Rattle.runs.proofs.SizeLaws.{slice_long}
-use Rattle.tally.proofs.RunsLaws.{first_refused, reading_start, reading_broken, reading_turn, reading_end}
-use Rattle.tally.proofs.RunsLaws.{given_wait, walk_start, walk_seven, walk_eight, walk_high, walk_on, walk_less, walk_done}
+use Rattle.tally.proofs.RunsLaws.{first_refused, reading_start, reading_turn, reading_end}
+use Rattle.tally.proofs.RunsLaws.{given_wait, walk_start, walk_seven, walk_eight, walk_broken, walk_high, walk_on, walk_less, walk_done}
 use Rattle.tally.proofs.read_runs.Goals as goal
 
 pub loop-next-init : goal.loop-next-init
@@ -62,8 +62,8 @@ overflow_add-words c =
 
 pub returns-in-Err : goal.returns-in-Err
 returns-in-Err c =
-    walk_eight _ _ _ _ _ _ _ _ _ _ c.loop-next.invariant.2 _ c.in-Some.is _ c.in_ok-size.ensures.value
-    _ (reading_broken _ _ _ _ _ _ _ c.loop-row.invariant _ _ c.read_entry.ensures.result_after _ c.in-Err.is) _
+    walk_broken _ _ _ _ _ _ _ _ _ _ c.loop-next.invariant.2 _ c.in-Some.is _ c.in_ok-size.ensures.value _ _ _ _ c.loop-row.invariant _ _
+    c.read_entry.ensures.result_after _ c.in-Err.is _
 
 pub returns-then-not-ends_below : goal.returns-then-not-ends_below
 returns-then-not-ends_below c =
