@@ -52,6 +52,10 @@ readelf -d "$lib/libpdic.so" >"$work/dynamic"
 grep -q "SONAME.*\[$shared\]" "$work/dynamic" || wrong 'name of the shared library'
 ! grep -q TEXTREL "$work/dynamic" || wrong 'code that is not position independent'
 
+# what README says that the archive needs from outside
+nm -u "$lib/libpdic.a" | sed -n 's/^ *U //p' | sort -u >"$work/needed"
+printf 'memcpy\nmemset\n' | diff - "$work/needed" || wrong 'names that the archive needs from outside'
+
 # programs built by pkg-config: for another root, where it knows no blank in a name, and from where the files are
 ln -s "$installed" "$work/root"
 rooted() { PKG_CONFIG_LIBDIR=$work/root/usr/lib/pkgconfig PKG_CONFIG_SYSROOT_DIR=$work/root pkg-config "$@" pdic; }

@@ -32,6 +32,12 @@ more_symbols() {
     echo 'int pdic_more(void); int pdic_more(void) { return 0; }' >../../more.c
     linked -fPIC ../../more.c -Wl,-soname,"$(readlink lib/libpdic.so)"
 }
+# more_needed: the archive with an object that calls memmove
+more_needed() {
+    echo 'void *memmove(void *, const void *, unsigned long); void pdic_more(char *p); void pdic_more(char *p) { memmove(p, p + 1, 9); }' >../../more.c
+    gcc -O0 -fPIC -c -o ../../more.o ../../more.c
+    ar r lib/libpdic.a ../../more.o
+}
 
 noticed '^wrong: files' rm share/man/man3/pdic.3
 noticed '^wrong: files' touch lib/libpdic.la
@@ -39,6 +45,7 @@ noticed '^wrong: rights' chmod 700 bin/fill
 noticed '^wrong: header' sed -i 's/PDIC_ABSENT = 100/PDIC_ABSENT = 99/' include/pdic.h
 noticed '^wrong: exported symbols' more_symbols
 noticed '^wrong: name of the shared library' linked
+noticed '^wrong: names that the archive needs' more_needed
 noticed '^wrong: version in pdic.pc' sed -i 's/^Version:.*/Version: 9.9/' lib/pkgconfig/pdic.pc
 noticed '^wrong: lookup is not built' sed -i 's|^libdir=.*|libdir=${prefix}/lib64|' lib/pkgconfig/pdic.pc
 noticed '^wrong: lookup is not built' sed -i 's|^includedir=.*|includedir=/usr/include|; s|^prefix=.*|prefix=/opt|' lib/pkgconfig/pdic.pc
